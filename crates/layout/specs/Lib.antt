@@ -1,0 +1,4 @@
+pub mod Places
+pub mod LabelPage
+pub mod MetaPage
+pub mod PageRule

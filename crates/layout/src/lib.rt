@@ -1,0 +1,27 @@
+// What is stored: slot and block numbers, the label, and where each page of the two images lies; the label page; the
+// metadata page, written, read and judged.
+pub mod places;
+
+// The number of a slot: a place in the SSD, counted from 0.
+pub struct Slot(pub u32);
+
+// The number of a block: a page of the HDD, counted from 0.
+pub struct Block(pub u32);
+
+// What the label page says of a box. It is built by `places::label` alone.
+pub struct Label {
+    pub slots: u32,
+    pub blocks: u32,
+}
+
+// An entry of a metadata page: a block, and the stored flags 1 valid, 2 dirty, 4 writing.
+pub struct Entry {
+    pub block: Block,
+    pub flags: u32,
+}
+
+// What the first page of an SSD image is read as.
+pub enum LabelRead {
+    Legal(Label),
+    Illegal,
+}
