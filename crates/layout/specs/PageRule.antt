@@ -78,14 +78,14 @@ pub record EntryRule (l : Label) (s : Slot) (part : List ℕ) : Type 0 where
   pub zero-after : (k : ℕ) → 5 ≤ k → getD part k 0 ≡ 0
   pub beyond : l .slots ≤ s .0 → decodeEntry part .flags ≡ 0
 
--- a test at each of the n numbers from k
-unfoldable pub allFrom : ℕ → ℕ → (ℕ → Bool) → Bool
-allFrom k zero f = true
-allFrom k (suc n) f = f k && allFrom (suc k) n f
+-- the entries of n slots from s on, each in its own 8 of the bytes
+unfoldable pub entriesFrom : Label → Slot → ℕ → List ℕ → Bool
+entriesFrom l s zero bytes = true
+entriesFrom l s (suc n) bytes = entryTest l s (take 8 bytes) && entriesFrom l (record { 0 = suc (s .0) }) n (drop 8 bytes)
 
 -- "page p holding slots 240p to 240p+239"
 unfoldable pub entriesTest : Label → ℕ → List ℕ → Bool
-entriesTest l p page = allFrom 0 240 (λ i. entryTest l (slotOn p i) (entryPart page i))
+entriesTest l p page = entriesFrom l (slotOn p 0) 240 (drop 512 page)
 
 abbrev pub EntriesRule : Label → ℕ → List ℕ → Type 0
 EntriesRule l p page = (i : ℕ) → i < 240 → EntryRule l (slotOn p i) (entryPart page i)

@@ -1,5 +1,8 @@
 // What is stored: slot and block numbers, the label, and where each page of the two images lies; the label page; the
 // metadata page, written, read and judged.
+pub mod judge;
+pub mod label_page;
+pub mod meta;
 pub mod places;
 
 // The number of a slot: a place in the SSD, counted from 0.

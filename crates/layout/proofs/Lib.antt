@@ -1,0 +1,13 @@
+pub mod Booleans
+pub mod PlaceLaws
+pub mod Decimal
+pub mod LabelSteps
+pub mod LabelReads
+pub mod LabelLaws
+pub mod LabelBuilt
+pub mod LabelExamples
+pub mod MetaLaws
+pub mod WriteLaws
+pub mod RuleLaws
+pub mod JudgeLaws
+pub mod RoundTrip

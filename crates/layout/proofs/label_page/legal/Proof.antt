@@ -1,0 +1,43 @@
+use mathlib.Core.Path.{_≡_, sym, ap, _∙_}
+use borrow.Author.Tests.{not-true, not-false}
+use Rattle.layout.specs.declared.Label.{Label}
+use Rattle.layout.specs.declared.LabelRead.the-variants.{Legal}
+use Rattle.layout.specs.Places.{labelOf, withinLimits}
+use borrow.Author.Needs.{needs}
+use Rattle.layout.proofs.label_page.legal.Statement.{statement}
+use Rattle.layout.proofs.label_page.legal.Tie as tie
+
+-- the label of the arguments
+abbrev labelAt : tie.After-within-limits → Label
+labelAt c = let a = c .before .before .before .args in labelOf (a .slots) (a .blocks)
+
+limits : (c : tie.After-within-limits) → withinLimits (labelAt c) ≡ c .within-limits .result
+limits c = ap withinLimits (sym (c .before .label .ensures)) ∙ sym (c .within-limits .ensures)
+
+label-requires : tie.Need-label-requires
+label-requires c κs = search needs
+
+within-limits-requires : tie.Need-within-limits-requires
+within-limits-requires c κs = search needs
+
+returns : tie.Need-returns
+returns c = rw (limits (c .before) ∙ not-true _ (c .if1 .taken))
+
+all-zero-requires : tie.Need-all-zero-requires
+all-zero-requires c κs = search needs
+
+returns-2 : tie.Need-returns-2
+returns-2 c =
+    let w = c .before .before .before in
+    rw (limits w ∙ not-false _ (c .before .before .if1 .left), sym (c .before .all-zero .ensures) ∙ not-true _ (c .if2 .taken))
+
+returns-3 : tie.Need-returns-3
+returns-3 c =
+    let w = c .before .before .before in
+    rw (limits w ∙ not-false _ (c .before .before .if1 .left), sym (c .before .all-zero .ensures) ∙ not-false _ (c .if2 .left))
+    (ap Legal (w .before .label .ensures))
+
+pub legal-spec : {M : Type 1} → statement M
+legal-spec =
+    tie.close
+    (tie.spec label-requires within-limits-requires returns all-zero-requires returns-2 returns-3)

@@ -1,0 +1,10 @@
+// Links target/staticlib/libbench_ffi.a, which `rt staticlib bench_ffi` writes.
+use std::path::Path;
+
+fn main() {
+    let root = Path::new(env!("CARGO_MANIFEST_DIR")).join("../..");
+    let archive = root.join("target/staticlib");
+    println!("cargo:rerun-if-changed={}", archive.join("libbench_ffi.a").display());
+    println!("cargo:rustc-link-search=native={}", archive.display());
+    println!("cargo:rustc-link-lib=static=bench_ffi");
+}
