@@ -46,8 +46,8 @@ fn written() {
     print(b"written", label_page::decode_label(&page));
 }
 
-// The numbers, at and past their limits.
-fn numbers() {
+// The fixed line, and the least number of slots.
+fn fixed_cases() {
     case(
         b"slots=4 blocks=8",
         b"cache=lufuw\nlayout=1\nslots=4\nblocks=8\n",
@@ -55,6 +55,10 @@ fn numbers() {
     case(b"layout=01", b"cache=lufuw\nlayout=01\nslots=4\nblocks=8\n");
     case(b"layout=2", b"cache=lufuw\nlayout=2\nslots=4\nblocks=8\n");
     case(b"slots=0", b"cache=lufuw\nlayout=1\nslots=0\nblocks=8\n");
+}
+
+// The numbers, at and past their limits.
+fn slots_cases() {
     case(b"slots=04", b"cache=lufuw\nlayout=1\nslots=04\nblocks=8\n");
     case(
         b"slots=57600",
@@ -64,6 +68,9 @@ fn numbers() {
         b"slots=57601",
         b"cache=lufuw\nlayout=1\nslots=57601\nblocks=8\n",
     );
+}
+
+fn blocks_cases() {
     case(b"blocks=0", b"cache=lufuw\nlayout=1\nslots=4\nblocks=0\n");
     case(
         b"blocks=16777216",
@@ -73,6 +80,10 @@ fn numbers() {
         b"blocks=16777217",
         b"cache=lufuw\nlayout=1\nslots=4\nblocks=16777217\n",
     );
+}
+
+// No number of a label.
+fn number_cases() {
     case(
         b"30 digits",
         b"cache=lufuw\nlayout=1\nslots=100000000000000000000000000004\nblocks=8\n",
@@ -80,8 +91,8 @@ fn numbers() {
     case(b"slots=+4", b"cache=lufuw\nlayout=1\nslots=+4\nblocks=8\n");
 }
 
-// The lines and what stands after them.
-fn lines() {
+// The lines' ends.
+fn line_cases() {
     case(
         b"no byte 10 after slots",
         b"cache=lufuw\nlayout=1\nslots=4blocks=8\n",
@@ -98,6 +109,10 @@ fn lines() {
         b"byte 10 twice at the end",
         b"cache=lufuw\nlayout=1\nslots=4\nblocks=8\n\n",
     );
+}
+
+// Other bytes, and what stands after the lines.
+fn page_cases() {
     case(
         b"byte 13 before byte 10",
         b"cache=lufuw\nlayout=1\nslots=4\r\nblocks=8\n",
@@ -115,7 +130,11 @@ fn lines() {
 }
 
 fn main() {
-    numbers();
-    lines();
+    fixed_cases();
+    slots_cases();
+    blocks_cases();
+    number_cases();
+    line_cases();
+    page_cases();
     written();
 }

@@ -48,6 +48,23 @@ if-use false b e p = clash p refl
 pub not-of : (a : Bool) → a ≡ false → not a ≡ true
 not-of a e = rw e
 
+-- one of several tests passed, or failed
+pub skip : {a : Bool} (b : Bool) → a ≡ true → (a && b) ≡ b
+skip b e = rw e
+
+pub halt : {a : Bool} (b : Bool) → a ≡ false → (a && b) ≡ false
+halt b e = rw e
+
 pub and-last : (b : Bool) → b ≡ (b && true)
 and-last true = refl
 and-last false = refl
+
+pub and-swap : (a b x y : Bool) → ((a && x) && (b && y)) ≡ ((a && b) && (x && y))
+and-swap true true x y = refl
+and-swap true false true y = refl
+and-swap true false false y = refl
+and-swap false b x y = refl
+
+pub and-assoc : (a b x : Bool) → ((a && b) && x) ≡ (a && (b && x))
+and-assoc true b x = refl
+and-assoc false b x = refl

@@ -1,12 +1,11 @@
--- What is left to judge, as the loops of src/judge.rt go on.
-use Prim.Native.Nat.{ℕ, zero, suc, _+_, _-_, _≤_, _<_}
+-- What is left to judge of a page, place by place.
+use Prim.Native.Nat.{ℕ, zero, suc, _+_, _-_, _*_, _≤_, _<_}
 use mathlib.Core.Path.{_≡_, refl, sym, ap, _∙_}
 use mathlib.Core.Bool.{Bool, true, false, not, _&&_, _||_}
 use mathlib.Core.List.{List, _∷_, []}
 use native.Mathlib.Omega.{arith}
-use native.Mathlib.Numerals.{add-one}
-use lib.ListN.{length, getD, take, drop, drop-of-length-le}
-use lib.Seq.{drop-cons}
+use lib.ListN.{length, getD, take, drop, drop-of-length-le, length-drop}
+use lib.Seq.{length-take-le, take-add, drop-at, drop-drop}
 use lib.Dec.{eqb, ltb}
 use Rattle.layout.specs.declared.Slot.{Slot}
 use Rattle.layout.specs.declared.Label.{Label}
@@ -14,29 +13,9 @@ use Rattle.layout.specs.LabelPage.{allZero}
 use Rattle.layout.specs.MetaPage.{countOf, slotAt, firsts, windowOf, entryPart}
 use Rattle.layout.specs.Places.{slotOn}
 use Rattle.layout.specs.PageRule.{listed, distinct, inRange, zeroTest, entryTest, entriesTest}
-use Rattle.layout.proofs.Booleans.{Told, told, told-true, told-false, clash}
+use Rattle.layout.proofs.Booleans.{Told, told, told-true, told-false, clash, and-swap}
+use Rattle.layout.proofs.Loops.{left}
 use Rattle.layout.proofs.RuleLaws.{entry-rule, entries-rule}
-
--- A test of all that is left is the test at hand and a test of the rest: the loop goes on where it passes, and stops where not.
-pub go-on : {whole now : Bool} (t rest : Bool) → now ≡ whole → now ≡ (t && rest) → t ≡ true → rest ≡ whole
-go-on t rest inv e h = sym (rw h at e) ∙ inv
-
-pub stop : {whole now : Bool} (t rest : Bool) → now ≡ whole → now ≡ (t && rest) → t ≡ false → false ≡ whole
-stop t rest inv e h = sym (rw h at e) ∙ inv
-
--- a list, element by element
-pub left : {A : Type 0} (l : List A) (i : ℕ) (d : A) → i < length l → drop i l ≡ getD l i d ∷ drop (i + 1) l
-left l i d h = drop-cons l i d h ∙ rw add-one
-
--- zeros, byte by byte
-pub zero-left : (l : List ℕ) (i : ℕ) → i < length l → allZero (drop i l) ≡ (eqb (getD l i 0) 0 && allZero (drop (i + 1) l))
-unfolding allZero
-zero-left l i h = rw (left l i 0 h)
-
--- a part that was judged is one of the page's zero ranges
-pub zeros-told : {r : Bool} (from to : ℕ) (page : List ℕ) → r ≡ allZero (take (to - from) (drop from page)) → r ≡ zeroTest from to page
-unfolding zeroTest
-zeros-told from to page e = e
 
 -- the window, place by place
 length-firsts : {A : Type 0} (n : ℕ) (f : ℕ → A) → length (firsts n f) ≡ n
@@ -76,6 +55,29 @@ pub distinct-left : (page : List ℕ) (k : ℕ) → k < countOf page
     → distinct (drop k (windowOf page)) ≡ (not (listed (slotAt page k) (drop (k + 1) (windowOf page))) && distinct (drop (k + 1) (windowOf page)))
 unfolding distinct
 distinct-left page k h = rw (window-left page k h)
+
+-- both at once
+pub slots-left : (l : Label) (page : List ℕ) (k : ℕ) → k < countOf page
+    → (inRange l (drop k (windowOf page)) && distinct (drop k (windowOf page)))
+    ≡ ((ltb (slotAt page k .0) (l .slots) && not (listed (slotAt page k) (drop (k + 1) (windowOf page)))) && (inRange l (drop (k + 1) (windowOf page)) && distinct (drop (k + 1) (windowOf page))))
+slots-left l page k h =
+    rw (range-left l page k h, distinct-left page k h)
+    (and-swap (ltb (slotAt page k .0) (l .slots)) (not (listed (slotAt page k) (drop (k + 1) (windowOf page)))) _ _)
+
+pub slots-end : (l : Label) (page : List ℕ) (k : ℕ) → countOf page ≤ k → (inRange l (drop k (windowOf page)) && distinct (drop k (windowOf page))) ≡ true
+unfolding inRange distinct
+slots-end l page k h = rw (window-end page k h)
+
+-- an entry's last three bytes, seen in the page
+pub entry-tail : (page : List ℕ) (i : ℕ) → length page ≡ 4096 → i < 240 → zeroTest (512 + 8 * i + 5) (512 + 8 * i + 8) page ≡ allZero (drop 5 (entryPart page i))
+unfolding zeroTest entryPart
+entry-tail page i e h =
+    let x : List ℕ = drop (512 + 8 * i) page in
+    let n : 512 + 8 * i + 8 - (512 + 8 * i + 5) ≡ 3 = omega arith in
+    let l : length (take 5 x) ≡ 5 = length-take-le 5 x (simp length-drop (omega arith)) in
+    ap (λ (k : ℕ). allZero (take k (drop (512 + 8 * i + 5) page))) n
+    ∙ ap (λ (t : List ℕ). allZero (take 3 t)) (sym (drop-drop 5 (512 + 8 * i) page))
+    ∙ ap allZero (sym (ap (drop 5) (take-add 5 3 x) ∙ drop-at (take 5 x) (take 3 (drop 5 x)) 5 l))
 
 -- the entries: all pass, or one of them fails
 pub entries-pass : (l : Label) (p : ℕ) (page : List ℕ) → ((i : ℕ) → i < 240 → entryTest l (slotOn p i) (entryPart page i) ≡ true) → true ≡ entriesTest l p page

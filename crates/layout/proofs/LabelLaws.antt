@@ -13,8 +13,10 @@ use Rattle.layout.specs.declared.LabelRead.{LabelRead}
 use Rattle.layout.specs.declared.LabelRead.the-variants.{Legal}
 use Rattle.layout.specs.Places.{labelOf, withinLimits}
 use Rattle.layout.specs.LabelPage.{cacheLine, layoutLine, slotsKey, blocksKey, decimal, labelText, encodeLabel, after, Number, number, allZero, thenBytes, thenNumber, legalIf, decodeLabel}
-use Rattle.layout.proofs.PlaceLaws.{both, within}
-use Rattle.layout.proofs.LabelReads.{after-back, after-only, zeros-zero, zero-only}
+use Rattle.layout.proofs.PlaceLaws.{within}
+use Rattle.layout.proofs.Booleans.{and-parts}
+use Rattle.layout.proofs.ZeroLaws.{zeros-zero, zero-only}
+use Rattle.layout.proofs.LabelReads.{after-back, after-only}
 use Rattle.layout.proofs.Decimal.{ReadOf, decimal-size, number-back, number-only}
 
 -- The text of a label, and whatever stands after it.
@@ -81,7 +83,7 @@ as-page : (page rest : List ℕ) (k l : Label) → page ≡ textThen k rest → 
     → (page ≡ encodeLabel l) × (withinLimits l ≡ true)
 unfolding encodeLabel padded
 as-page page rest k l w h t len =
-    let r = both (withinLimits k) (allZero rest) t in
+    let r = and-parts (withinLimits k) (allZero rest) t in
     let text : List ℕ = labelText l in
     let e : page ≡ text ++ rest = w ∙ ap (λ (x : Label). textThen x rest) h ∙ sym (text-then l rest) in
     let m : length rest ≡ 4096 - length text = omega (arith, ap length e ∙ length-append text rest) in

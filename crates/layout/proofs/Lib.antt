@@ -1,4 +1,6 @@
 pub mod Booleans
+pub mod Loops
+pub mod ZeroLaws
 pub mod PlaceLaws
 pub mod Decimal
 pub mod LabelSteps
@@ -7,7 +9,6 @@ pub mod LabelLaws
 pub mod LabelBuilt
 pub mod LabelExamples
 pub mod MetaLaws
-pub mod WriteLaws
 pub mod RuleLaws
 pub mod JudgeLaws
 pub mod RoundTrip

@@ -12,6 +12,7 @@ use Rattle.pages.proofs.WordLaws.{length-leBytes, number-bytes}
 use Rattle.pages.proofs.PadLaws.{length-padded}
 use Rattle.layout.specs.declared.Slot.{Slot}
 use Rattle.layout.specs.MetaPage.{slotsBytes, entryBytes, rowsBytes, encodeMeta, stampOf, countOf, slotAt, firsts, windowOf, entryPart, decodeEntry, entryAt}
+use Rattle.layout.proofs.Loops.{left}
 
 -- lengths
 pub length-slotsBytes : (w : List Slot) → length (slotsBytes w) ≡ 4 * length w
@@ -38,6 +39,11 @@ rowsBytes-most (b ∷ []) = omega arith
 rowsBytes-most (b ∷ f ∷ rows) =
     let e : length (entryBytes b f ++ rowsBytes rows) ≡ length (entryBytes b f) + length (rowsBytes rows) = length-append (entryBytes b f) (rowsBytes rows) in
     omega (arith, length-entryBytes b f, rowsBytes-most rows)
+
+-- the window's length, byte by byte
+pub count-bytes : (page : List ℕ) → length page ≡ 4096 → countOf page ≡ getD page 4 0 + 256 * getD page 5 0
+unfolding countOf leNumber
+count-bytes page h = rw (left page 4 0 (omega arith), left page 5 0 (omega arith)) (omega arith)
 
 -- a front of a padded list stands unpadded before the rest
 padded-append : (n : ℕ) (p r : List ℕ) → padded n (p ++ r) ≡ p ++ padded (n - length p) r

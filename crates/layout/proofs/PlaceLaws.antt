@@ -1,29 +1,24 @@
 -- The limits as a test and as propositions.
-use mathlib.Core.Path.{_≡_, refl}
+use mathlib.Core.Path.{_≡_}
 use mathlib.Core.Logic.{_↔_}
-use mathlib.Core.Bool.{Bool, true, false, _&&_}
+use mathlib.Core.Bool.{true}
 use lib.Dec.{leb}
 use borrow.Author.Tests.{eq-eqb, ne-eqb, le-leb, lt-leb, le-ltb, lt-ltb, leb-true}
 use Rattle.layout.specs.declared.Label.{Label}
 use Rattle.layout.specs.Places.{Limits, withinLimits}
+use Rattle.layout.proofs.Booleans.{and-parts}
 
 -- a test from its fact
 pub ruleset tests = (eq-eqb, ne-eqb, le-leb, lt-leb, le-ltb, lt-ltb)
-
--- both of two tests
-pub both : (x y : Bool) → (x && y) ≡ true → (x ≡ true) × (y ≡ true)
-both true y h = (refl, h)
-both false true h = (h, refl)
-both false false h = (h, h)
 
 -- a label is within the limits exactly if each of its numbers is
 pub within : (l : Label) → (withinLimits l ≡ true) ↔ Limits l
 unfolding withinLimits
 within l = (
   λ h.
-      let a = both (leb 1 (l .slots)) _ h in
-      let b = both (leb (l .slots) 57600) _ (a .1) in
-      let d = both (leb 1 (l .blocks)) _ (b .1) in
+      let a = and-parts (leb 1 (l .slots)) _ h in
+      let b = and-parts (leb (l .slots) 57600) _ (a .1) in
+      let d = and-parts (leb 1 (l .blocks)) _ (b .1) in
       record {
         some-slot = leb-true 1 (l .slots) (a .0);
         slots-most = leb-true (l .slots) 57600 (b .0);

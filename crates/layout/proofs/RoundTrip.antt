@@ -24,6 +24,7 @@ use Rattle.layout.specs.MetaPage.{entryPart, decodeEntry, entryAt, rowsF
 use Rattle.layout.specs.PageRule.{countTest, zeroTest, ZeroRule, distinct, inRange, windowTest, LegalFlags, pairTest, PairRule, entryTest, EntryRule, entriesTest, pageTest, PageRule}
 use Rattle.layout.proofs.MetaLaws.{length-slotsBytes, rowsBytes-most, Fit, encode-fields, encode-stamp, encode-count, encode-window, encode-part, window-part, entries-part, decode-bytes, zeros-part}
 use Rattle.layout.proofs.Booleans.{and-of, and-parts, if-of, or-of}
+use Rattle.layout.proofs.ZeroLaws.{zeros-zero}
 use Rattle.layout.proofs.RuleLaws.{pair-rule, page-rows, page-rule}
 use Rattle.layout.proofs.JudgeLaws.{length-window, entries-pass}
 
@@ -212,12 +213,7 @@ pub legal-back-slots : (l : Label) (p : ℕ) (page : List ℕ) → IsPage page �
 legal-back-slots l p page ok e =
     page-back l p page ok (page-rule l p page .0 e) (min 240 (l .slots - 240 * p)) (omega arith) (λ i h q. omega arith)
 
--- zeros are all zero; what stands past a list that is padded is
-zeros-pass : (n : ℕ) → allZero (replicate n 0) ≡ true
-unfolding allZero
-zeros-pass zero = refl
-zeros-pass (suc n) = zeros-pass n
-
+-- what stands past a list that is padded is zero
 past-zeros : (n at k : ℕ) (front : List ℕ) → length front ≤ at → at + k ≤ n → take k (drop at (padded n front)) ≡ replicate k 0
 unfolding padded
 past-zeros n at k front h q =
@@ -290,7 +286,7 @@ module _ (l : Label) (p t : ℕ) (w : List Slot) (rows : List ℕ) (h : Storable
   window-zero at k q m =
       rw
       (add-sub-cancel-left (16 + at) k, window-part t w rows lw lr at k m, past-zeros 496 at k (slotsBytes w) (omega (arith, length-slotsBytes w)) m)
-      (zeros-pass k)
+      (zeros-zero k)
 
   head-zero : zeroTest 6 16 page ≡ true
   unfolding zeroTest page
@@ -303,14 +299,14 @@ module _ (l : Label) (p t : ℕ) (w : List Slot) (rows : List ℕ) (h : Storable
       ap (λ (x : List ℕ). take 10 (drop 6 x)) (encode-fields t w rows lw ∙ sym (append-assoc a b (replicate 10 0 ++ r)))
       ∙ ap (take 10) (drop-at (a ++ b) (replicate 10 0 ++ r) 6 f)
       in
-      ap allZero e ∙ zeros-pass 10
+      ap allZero e ∙ zeros-zero 10
 
   end-zero : zeroTest 2432 4096 page ≡ true
   unfolding zeroTest page
   end-zero =
       rw
       (entries-part t w rows lw lr 1920 1664, past-zeros 3584 1920 1664 (rowsBytes rows) (omega (arith, rowsBytes-most rows)) (omega arith))
-      (zeros-pass 1664)
+      (zeros-zero 1664)
 
   window-legal : windowTest l page ≡ true
   unfolding windowTest page

@@ -1,5 +1,5 @@
 -- Each test of specs/PageRule.antt says what the proposition beside it says.
-use Prim.Native.Nat.{ℕ, zero, suc, _+_, _-_, _*_, _<_}
+use Prim.Native.Nat.{ℕ, zero, suc, _+_, _-_, _*_, _%_, _≤_, _<_}
 use mathlib.Core.Path.{_≡_, refl, sym, ap, _∙_}
 use mathlib.Core.Logic.{_≢_, _⊎_, inl, inr}
 use mathlib.Core.Bool.{Bool, true, false, not, _&&_, _||_}
@@ -12,12 +12,12 @@ use lib.Dec.{eqb, ltb}
 use borrow.Author.Tests.{ltb-true, ltb-false, leb-true, eqb-true, eqb-false, not-true, lt-ltb, le-ltb, le-leb, eq-eqb, ne-eqb}
 use Rattle.layout.specs.declared.Slot.{Slot}
 use Rattle.layout.specs.declared.Label.{Label}
-use Rattle.layout.specs.LabelPage.{allZero}
 use Rattle.layout.specs.MetaPage.{countOf, slotAt, firsts, windowOf, entryPart, decodeEntry}
 use Rattle.layout.specs.Places.{slotOn}
 use Rattle.layout.specs.PageRule.{countTest, CountRule, zeroTest, ZeroRule, listed, distinct, inRange, windowTest, WindowRule}
 use Rattle.layout.specs.PageRule.{legalFlags, LegalFlags, pairTest, PairRule, entryTest, EntryRule, entriesFrom, entriesTest, EntriesRule}
 use Rattle.layout.specs.PageRule.{RowTest, passes, pageTest, PageRule}
+use Rattle.layout.proofs.ZeroLaws.{zeros-get, zeros-of}
 use Rattle.layout.proofs.Booleans.{clash, and-of, and-parts, or-cases, or-of, or-use, if-of, if-use, not-of}
 
 -- a test and a proposition say the same
@@ -33,18 +33,6 @@ count-rule page = (
       record { most = leb-true _ _ (p .0); stamp-zero = λ z. eqb-true _ _ (if-use _ _ (p .1) (eq-eqb _ _ z)) },
   λ r. and-of (le-leb _ _ (r .most)) (if-of _ _ λ z. eq-eqb _ _ (r .stamp-zero (eqb-true _ _ z))),
 )
-
--- all zero: each of them is
-pub zeros-get : (l : List ℕ) → allZero l ≡ true → (k : ℕ) → getD l k 0 ≡ 0
-unfolding allZero
-zeros-get [] e k = refl
-zeros-get (b ∷ l) e zero = eqb-true b 0 (and-parts (eqb b 0) (allZero l) e .0)
-zeros-get (b ∷ l) e (suc k) = zeros-get l (and-parts (eqb b 0) (allZero l) e .1) k
-
-pub zeros-of : (l : List ℕ) → ((k : ℕ) → k < length l → getD l k 0 ≡ 0) → allZero l ≡ true
-unfolding allZero
-zeros-of [] h = refl
-zeros-of (b ∷ l) h = and-of (eq-eqb _ _ (h 0 (omega arith))) (zeros-of l (λ k q. h (suc k) (omega arith)))
 
 pub zero-rule : (from to : ℕ) (page : List ℕ) → zeroTest from to page ⇔ ZeroRule from to page
 unfolding zeroTest
@@ -139,6 +127,17 @@ flags-rule f = (to, from)
     from (inr (inr (inl e))) = rw e
     from (inr (inr (inr (inl e)))) = rw e
     from (inr (inr (inr (inr e)))) = rw e
+
+-- the legal sums: 0, and the odd ones below 8
+pub flags-odd : (f : ℕ) → f ≤ 7 → f % 2 ≢ 0 → legalFlags f ≡ true
+unfolding legalFlags
+flags-odd f h o =
+    or-of (eqb f 0) _ λ a. or-of (eqb f 1) _ λ b. or-of (eqb f 3) _ λ c. or-of (eqb f 5) _ λ d.
+    eq-eqb f 7 (omega (arith, eqb-false f 1 b, eqb-false f 3 c, eqb-false f 5 d))
+
+pub flags-none : (f : ℕ) → f ≢ 0 → f ≢ 1 → f ≢ 3 → f ≢ 5 → f ≢ 7 → legalFlags f ≡ false
+unfolding legalFlags
+flags-none f a b c d e = rw (ne-eqb f 0 a, ne-eqb f 1 b, ne-eqb f 3 c, ne-eqb f 5 d, ne-eqb f 7 e)
 
 pub pair-rule : (l : Label) (block flags : ℕ) → pairTest l block flags ⇔ PairRule l block flags
 unfolding pairTest

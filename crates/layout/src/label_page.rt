@@ -2,11 +2,13 @@
 use crate::Label;
 use crate::LabelRead;
 use crate::places;
+use crate::zeros;
 ghost use mathlib.Core.Path.{_≡_};
 ghost use mathlib.Core.Bool.{true, _&&_};
 ghost use mathlib.Core.List.{[], _∷_, _++_};
-ghost use Prim.Native.Nat.{_+_, _<_};
-ghost use lib.ListN.{length};
+ghost use Prim.Native.Nat.{_+_, _≤_, _<_};
+ghost use lib.ListN.{length, drop};
+ghost use borrow.Rule.Slice.PartMut.{putMid};
 ghost use Rattle.pages.specs.Pages.{padded};
 ghost use Rattle.layout.specs.Places.{labelOf, withinLimits};
 ghost use Rattle.layout.specs.LabelPage.{decimal, encodeLabel, decodeLabel, after, number, allZero, legalIf};
@@ -16,12 +18,6 @@ ghost use Rattle.layout.specs.LabelScan.{found, scanOf, blocksRead};
 pub enum Scan {
     Number(u32, usize),
     Nothing,
-}
-
-fn wide(x: u8) -> u32
-    ensures { λ r. ⌜ (r ≡ x) × (r < 256) ⌝ }
-{
-    x as u32
 }
 
 // How many digits a number has.
@@ -53,16 +49,24 @@ fn put_decimal(part: &mut [u8], n: u32)
     part[i] = (48 + rest) as u8;
 }
 
-// Writes a line of a key and a number over a part that is as long.
-fn put_line(part: &mut [u8], key: &[u8], n: u32)
-    requires { ⌜ (n < 100000000) × (length (now part) ≡ length (now key) + length (decimal n) + 1) ⌝ }
-    ensures { λ _. ⌜ now (part .exit) ≡ now (key .entry) ++ (decimal n ++ (10 ∷ [])) ⌝ }
+// Writes a text over the bytes from `at` on.
+fn put_text(page: &mut [u8], at: usize, text: &[u8])
+    requires { ⌜ at + length (now text) ≤ length (now page) ⌝ }
+    ensures { λ _. ⌜ now (page .exit) ≡ putMid at (length (now (text .entry))) (now (page .entry)) (now (text .entry)) ⌝ }
 {
-    let at = key.len();
-    let end = part.len() - 1;
-    pages::copy(&mut part[0..at], key);
-    put_decimal(&mut part[at..end], n);
-    part[end] = 10;
+    let end = at + text.len();
+    pages::copy(&mut page[at..end], text);
+}
+
+// Writes a number and byte 10 over the bytes from `at` on, and gives the offset after them.
+fn put_number(page: &mut [u8], at: usize, n: u32) -> usize
+    requires { ⌜ (n < 100000000) × (at + length (decimal n) < length (now page)) ⌝ }
+    ensures { λ r. ⌜ (r ≡ at + (length (decimal n) + 1)) × (now (page .exit) ≡ putMid at (length (decimal n) + 1) (now (page .entry)) (decimal n ++ (10 ∷ []))) ⌝ }
+{
+    let end = at + decimal_len(n);
+    put_decimal(&mut page[at..end], n);
+    page[end] = 10;
+    end + 1
 }
 
 // Writes a label over a zero page.
@@ -71,12 +75,10 @@ fn fill_label(page: &mut [u8], l: Label)
     requires { ⌜ withinLimits l ≡ true ⌝ }
     ensures { λ _. ⌜ now (page .exit) ≡ encodeLabel l ⌝ }
 {
-    let slots_end = 28 + decimal_len(l.slots);
-    let blocks_end = slots_end + 8 + decimal_len(l.blocks);
-    pages::copy(&mut page[0..12], b"cache=lufuw\n");
-    pages::copy(&mut page[12..21], b"layout=1\n");
-    put_line(&mut page[21..slots_end], b"slots=", l.slots);
-    put_line(&mut page[slots_end..blocks_end], b"blocks=", l.blocks);
+    put_text(page, 0, b"cache=lufuw\nlayout=1\nslots=");
+    let end = put_number(page, 27, l.slots);
+    put_text(page, end, b"blocks=");
+    put_number(page, end + 7, l.blocks);
 }
 
 // The page of a label.
@@ -89,30 +91,18 @@ pub fn encode_label(l: Label) -> [u8; 4096]
     page
 }
 
-// Whether bytes begin with a text.
-fn begins(bytes: &[u8], text: &[u8]) -> bool
-    ensures { λ r. ⌜ r ≡ found (after (now (text .entry)) (now (bytes .entry))) ⌝ }
+// Whether a text stands at an offset.
+fn begins(bytes: &[u8], at: usize, text: &[u8]) -> bool
+    requires { ⌜ at ≤ length (now bytes) ⌝ }
+    ensures { λ r. ⌜ r ≡ found (after (now (text .entry)) (drop at (now (bytes .entry)))) ⌝ }
 {
     let mut i = 0;
     while i < text.len() {
-        if bytes.len() <= i {
+        let j = at + i;
+        if bytes.len() <= j {
             return false;
         }
-        if bytes[i] != text[i] {
-            return false;
-        }
-        i += 1;
-    }
-    true
-}
-
-// Whether all bytes are zero.
-pub fn all_zero(bytes: &[u8]) -> bool
-    ensures { λ r. ⌜ r ≡ allZero (now (bytes .entry)) ⌝ }
-{
-    let mut i = 0;
-    while i < bytes.len() {
-        if bytes[i] != 0 {
+        if bytes[j] != text[i] {
             return false;
         }
         i += 1;
@@ -121,13 +111,14 @@ pub fn all_zero(bytes: &[u8]) -> bool
 }
 
 // Reads a number of up to 8 digits, without leading zeros, and byte 10.
-fn scan_number(bytes: &[u8]) -> Scan
-    ensures { λ r. ⌜ r ≡ scanOf (now (bytes .entry)) (number (now (bytes .entry))) ⌝ }
+fn scan_number(bytes: &[u8], at: usize) -> Scan
+    requires { ⌜ at ≤ length (now bytes) ⌝ }
+    ensures { λ r. ⌜ r ≡ scanOf (now (bytes .entry)) (number (drop at (now (bytes .entry)))) ⌝ }
 {
-    if bytes.len() == 0 {
+    if bytes.len() <= at {
         return Scan::Nothing;
     }
-    let first = wide(bytes[0]);
+    let first = pages::wide(bytes[at]);
     if first <= 48 {
         return Scan::Nothing;
     }
@@ -135,13 +126,13 @@ fn scan_number(bytes: &[u8]) -> Scan
         return Scan::Nothing;
     }
     let mut n = first - 48;
-    let mut i: usize = 1;
+    let mut i = at + 1;
     while i < bytes.len() {
-        let b = wide(bytes[i]);
+        let b = pages::wide(bytes[i]);
         if b == 10 {
             return Scan::Number(n, i + 1);
         }
-        if 8 <= i {
+        if at + 8 <= i {
             return Scan::Nothing;
         }
         if b < 48 {
@@ -156,50 +147,43 @@ fn scan_number(bytes: &[u8]) -> Scan
     Scan::Nothing
 }
 
-// The label of two numbers and the bytes after their lines.
-fn legal(bytes: &[u8], slots: u32, blocks: u32) -> LabelRead
-    ensures { λ r. ⌜ r ≡ legalIf (withinLimits (labelOf slots blocks) && allZero (now (bytes .entry))) (labelOf slots blocks) ⌝ }
+// The label of two numbers and the bytes from `at` on, after their lines.
+fn legal(bytes: &[u8], at: usize, slots: u32, blocks: u32) -> LabelRead
+    ensures { λ r. ⌜ r ≡ legalIf (withinLimits (labelOf slots blocks) && allZero (drop at (now (bytes .entry)))) (labelOf slots blocks) ⌝ }
 {
     let l = places::label(slots, blocks);
     if !places::within_limits(l) {
         return LabelRead::Illegal;
     }
-    if !all_zero(bytes) {
+    if !zeros::all_zero(bytes, at, bytes.len()) {
         return LabelRead::Illegal;
     }
     LabelRead::Legal(l)
 }
 
-// The label of the number of slots and the bytes after its line.
-fn decode_blocks(bytes: &[u8], slots: u32) -> LabelRead
-    ensures { λ r. ⌜ r ≡ blocksRead slots (now (bytes .entry)) ⌝ }
+// The label of the number of slots and the bytes from `at` on, after its line.
+fn decode_blocks(bytes: &[u8], at: usize, slots: u32) -> LabelRead
+    requires { ⌜ at ≤ length (now bytes) ⌝ }
+    ensures { λ r. ⌜ r ≡ blocksRead slots (drop at (now (bytes .entry))) ⌝ }
 {
-    if !begins(bytes, b"blocks=") {
+    if !begins(bytes, at, b"blocks=") {
         return LabelRead::Illegal;
     }
-    let Scan::Number(blocks, end) = scan_number(&bytes[7..]) else {
+    let Scan::Number(blocks, end) = scan_number(bytes, at + 7) else {
         return LabelRead::Illegal;
     };
-    let at = 7 + end;
-    legal(&bytes[at..], slots, blocks)
+    legal(bytes, end, slots, blocks)
 }
 
 // The label that a page is, if it is one.
 pub fn decode_label(page: &[u8]) -> LabelRead
     ensures { λ r. ⌜ r ≡ decodeLabel (now (page .entry)) ⌝ }
 {
-    if !begins(page, b"cache=lufuw\n") {
+    if !begins(page, 0, b"cache=lufuw\nlayout=1\nslots=") {
         return LabelRead::Illegal;
     }
-    if !begins(&page[12..], b"layout=1\n") {
-        return LabelRead::Illegal;
-    }
-    if !begins(&page[21..], b"slots=") {
-        return LabelRead::Illegal;
-    }
-    let Scan::Number(slots, end) = scan_number(&page[27..]) else {
+    let Scan::Number(slots, end) = scan_number(page, 27) else {
         return LabelRead::Illegal;
     };
-    let at = 27 + end;
-    decode_blocks(&page[at..], slots)
+    decode_blocks(page, end, slots)
 }

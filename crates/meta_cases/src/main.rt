@@ -1,9 +1,9 @@
 // Metadata pages that are legal, and pages with one thing wrong, each judged on a line of its own. Slots 4 and blocks 8
 // unless a line says otherwise.
 use layout::Slot;
-use layout::judge;
-use layout::meta;
 use layout::places;
+use metadata::judge;
+use metadata::page;
 ghost use Prim.Native.Nat.{_≤_, _<_, _^_};
 
 // Judges page p of a box of so many slots.
@@ -35,7 +35,7 @@ fn page_of(stamp: u32, first: u32, second: u32, count: u32, block: u32, flags: u
     window[0] = Slot(first);
     window[1] = Slot(second);
     let rows = [block, flags, 0, 0, 0, 0, 0, 0];
-    meta::encode_meta(stamp, window, count, &rows)
+    page::encode_meta(stamp, window, count, &rows)
 }
 
 // A page whose window lists slots 0 to 62.
@@ -47,7 +47,7 @@ fn wide_page() -> [u8; 4096] {
         i += 1;
     }
     let rows = [5, 7, 0, 0];
-    meta::encode_meta(7, window, 63, &rows)
+    page::encode_meta(7, window, 63, &rows)
 }
 
 // The fields in the page table's order, each zero range at both ends.
@@ -57,11 +57,19 @@ fn zero_cases() {
     changed(b"byte 15 not zero", good, 15, 128);
     changed(b"byte 20, past the window, not zero", good, 20, 1);
     changed(b"byte 267, past the window, not zero", good, 267, 64);
+}
+
+fn zero_cases_after() {
+    let good = page_of(7, 0, 0, 1, 5, 7);
     changed(b"byte 268 not zero", good, 268, 1);
     changed(b"byte 511 not zero", good, 511, 2);
     changed(b"entry byte 5 not zero", good, 517, 1);
     changed(b"entry byte 6 not zero", good, 518, 4);
     changed(b"entry byte 7 not zero", good, 519, 128);
+}
+
+fn zero_cases_last() {
+    let good = page_of(7, 0, 0, 1, 5, 7);
     changed(b"last entry's flags not zero", good, 2428, 1);
     changed(b"last entry's last byte not zero", good, 2431, 1);
     changed(b"byte 2432 not zero", good, 2432, 1);
@@ -79,9 +87,15 @@ fn window_cases() {
     );
     judged(b"two slots", 4, 0, page_of(7, 3, 0, 2, 5, 7));
     judged(b"a slot twice", 4, 0, page_of(7, 3, 3, 2, 5, 7));
+}
+
+fn window_slot_cases() {
     judged(b"slot 3 of 4", 4, 0, page_of(7, 3, 0, 1, 5, 7));
     judged(b"slot 4 of 4", 4, 0, page_of(7, 4, 0, 1, 5, 7));
     changed(b"window length 257", page_of(7, 0, 0, 1, 5, 7), 5, 1);
+}
+
+fn window_length_cases() {
     let mut wide = wide_page();
     judged(b"slots 64, window of 63", 64, 0, wide);
     judged(b"slots 62, window of 63", 62, 0, wide);
@@ -90,21 +104,33 @@ fn window_cases() {
     judged(b"slots 64, window of 64", 64, 0, wide);
 }
 
-fn entry_cases() {
+fn flags_cases() {
     let good = page_of(7, 0, 0, 1, 5, 7);
     changed(b"flags 1", good, 516, 1);
     changed(b"flags 2", good, 516, 2);
     changed(b"flags 3", good, 516, 3);
     changed(b"flags 4", good, 516, 4);
     changed(b"flags 5", good, 516, 5);
+}
+
+fn flags_cases_beyond() {
+    let good = page_of(7, 0, 0, 1, 5, 7);
     changed(b"flags 6", good, 516, 6);
     changed(b"flags 7", good, 516, 7);
     changed(b"flags 8", good, 516, 8);
     changed(b"flags 9", good, 516, 9);
     changed(b"flags 255", good, 516, 255);
+}
+
+fn entry_cases() {
+    let good = page_of(7, 0, 0, 1, 5, 7);
     changed(b"flags 0 with a block", good, 516, 0);
     judged(b"flags 0 without", 4, 0, page_of(7, 0, 0, 1, 0, 0));
     judged(b"a row's used flag", 4, 0, page_of(7, 0, 0, 1, 5, 15));
+}
+
+fn block_cases() {
+    let good = page_of(7, 0, 0, 1, 5, 7);
     judged(b"block 7 of 8", 4, 0, page_of(7, 0, 0, 1, 7, 7));
     judged(b"block 8 of 8", 4, 0, page_of(7, 0, 0, 1, 8, 7));
     changed(b"block 16777221", good, 515, 1);
@@ -125,7 +151,14 @@ fn second_page_cases() {
 fn main() {
     judged(b"good page", 4, 0, page_of(7, 0, 0, 1, 5, 7));
     zero_cases();
+    zero_cases_after();
+    zero_cases_last();
     window_cases();
+    window_slot_cases();
+    window_length_cases();
+    flags_cases();
+    flags_cases_beyond();
     entry_cases();
+    block_cases();
     second_page_cases();
 }

@@ -3,7 +3,7 @@ use Prim.Native.Nat.{ℕ, suc, _+_, _-_, _*_, _≤_, _<_}
 use mathlib.Core.Path.{_≡_, refl, sym, ap, _∙_}
 use mathlib.Core.List.{List, [], _∷_, _++_, append-assoc, append-nil}
 use native.Mathlib.Omega.{arith}
-use lib.ListN.{length, take, drop, getD, replicate, length-append, length-take, length-drop, length-replicate, getD-replicate}
+use lib.ListN.{length, take, drop, getD, replicate, length-append, length-take, length-drop, length-replicate, getD-replicate, replicate-append-replicate}
 use lib.Seq.{take-at, drop-at, drop-drop, ext-getD, getD-drop, getD-take, take-append-add, drop-append-add}
 use borrow.Rule.Slice.PartMut.{putMid}
 use Rattle.pages.specs.Pages.{padded}
@@ -21,6 +21,19 @@ module _ (xs ys : List ℕ) (at k : ℕ) (l : length ys ≡ k) (h : at + k ≤ l
 
   pub chunk-length : length (putMid at k xs ys) ≡ length xs
   chunk-length = simp (length-append, length-take, length-drop, l) (omega arith)
+
+-- a chunk stored right after a chunk: both at once
+pub chunk-more : (xs ys zs : List ℕ) (at k m : ℕ) → length ys ≡ k → at + k + m ≤ length xs
+    → putMid (at + k) m (putMid at k xs ys) zs ≡ putMid at (k + m) xs (ys ++ zs)
+chunk-more xs ys zs at k m l h =
+    let n : at + k + m ≡ at + (k + m) = omega arith in
+    let d : drop m (drop (at + k) xs) ≡ drop (k + m) (drop at xs) =
+    drop-drop m (at + k) xs ∙ ap (λ (j : ℕ). drop j xs) n ∙ sym (drop-drop (k + m) at xs)
+    in
+    ap (λ (t : List ℕ). t ++ (zs ++ drop m (drop (at + k) (putMid at k xs ys)))) (chunk-take xs ys at k l (omega arith))
+    ∙ ap (λ (t : List ℕ). (take at xs ++ ys) ++ (zs ++ drop m t)) (chunk-drop xs ys at k l (omega arith))
+    ∙ ap (λ (t : List ℕ). (take at xs ++ ys) ++ (zs ++ t)) d
+    ∙ simp append-assoc
 
 pub length-padded : (n : ℕ) (l : List ℕ) → length l ≤ n → length (padded n l) ≡ n
 unfolding padded
@@ -58,3 +71,13 @@ padded-put n at k xs ys hx hy h =
 pub padded-full : (n : ℕ) (l : List ℕ) → length l ≡ n → padded n l ≡ l
 unfolding padded
 padded-full n l e = let z : n - length l ≡ 0 = omega arith in ap (λ (j : ℕ). l ++ replicate j 0) z ∙ append-nil l
+
+-- zeros at the end that padding would give anyway
+pub padded-zeros : (n k : ℕ) (l : List ℕ) → length l + k ≤ n → padded n (l ++ replicate k 0) ≡ padded n l
+unfolding padded
+padded-zeros n k l h =
+    let e : n - length (l ++ replicate k 0) ≡ n - length l - k = simp (length-append, length-replicate) (omega arith) in
+    let z : k + (n - length l - k) ≡ n - length l = omega arith in
+    ap (λ (j : ℕ). (l ++ replicate k 0) ++ replicate j 0) e
+    ∙ append-assoc l (replicate k 0) (replicate (n - length l - k) 0)
+    ∙ ap (λ (t : List ℕ). l ++ t) (replicate-append-replicate k (n - length l - k) 0 ∙ ap (λ (j : ℕ). replicate j 0) z)

@@ -61,7 +61,8 @@ pub fn clear_page(image: &mut [u8], index: usize)
     store(image, index, &page);
 }
 
-fn wide(x: u8) -> u32
+// A byte as a number of 32 bits.
+pub fn wide(x: u8) -> u32
     ensures { λ r. ⌜ (r ≡ x) × (r < 256) ⌝ }
 {
     x as u32

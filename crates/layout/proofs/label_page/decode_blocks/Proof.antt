@@ -1,38 +1,32 @@
-use Prim.Native.Nat.{ℕ, _+_, _≤_}
+use Prim.Native.Nat.{_+_, _≤_}
 use mathlib.Core.Path.{_≡_, sym, _∙_}
-use mathlib.Core.List.{List}
 use mathlib.Core.Option.{some}
 use lib.ListN.{length, drop}
 use borrow.Author.Tests.{not-true, not-false}
 use Rattle.layout.specs.LabelPage.{blocksKey, after, number}
-use Rattle.layout.proofs.LabelReads.{missed, met, unread-at, read-at, to-end}
+use Rattle.layout.proofs.LabelReads.{missed, met, read, unread}
 use native.Mathlib.Omega.{arith}
 use borrow.Author.Needs.{needs}
 use Rattle.layout.proofs.label_page.decode_blocks.Statement.{statement}
 use Rattle.layout.proofs.label_page.decode_blocks.Tie as tie
 
--- the bytes, seen from each reading
-abbrev bytes1 : tie.After-begins → List ℕ
-bytes1 c = c .before .before .before .args .bytes .now
-
-abbrev one : tie.After-scan-number → tie.Else1
-one c = c .before .before
-
-abbrev bytes2 : tie.After-scan-number → List ℕ
-bytes2 c = bytes1 (one c .before)
-
 -- the key was found
-key : (c : tie.Else1) → let bytes = bytes1 (c .before) in (7 ≤ length bytes) × (after blocksKey bytes ≡ some (drop 7 bytes))
-key c = met blocksKey (bytes1 (c .before)) (sym (c .before .begins .ensures) ∙ not-false _ (c .if1 .left))
+key : (c : tie.Else1)
+    → let a = c .before .before .before .before .args in
+    (a .at + 7 ≤ length (a .bytes .now)) × (after blocksKey (drop (a .at) (a .bytes .now)) ≡ some (drop (a .at + 7) (a .bytes .now)))
+key c =
+    let s = c .before .before .before .before in
+    met (s .args .bytes .now) (s .args .at) (s .pre) blocksKey (sym (c .before .begins .ensures) ∙ not-false _ (c .if1 .left))
 
 -- and a number after it
 line : (c : tie.After-blocks2)
-    → let bytes = bytes2 (c .before .before) in
+    → let a = c .before .before .before .before .before .before .before .args in
     let v = c .blocks2 .given .0 in
-    (7 + v .1 .0 ≤ length bytes) × (number (drop 7 bytes) ≡ some (record { value = v .0; rest = drop (7 + v .1 .0) bytes }))
+    (v .1 .0 ≤ length (a .bytes .now)) × (number (drop (a .at + 7) (a .bytes .now)) ≡ some (record { value = v .0; rest = drop (v .1 .0) (a .bytes .now) }))
 line c =
     let s = c .before .before in
-    read-at (bytes2 s) 7 _ _ _ (key (one s) .0) (s .scan-number .ensures) (c .blocks2 .given .1)
+    let a = s .before .before .before .before .before .args in
+    read (a .bytes .now) (a .at + 7) (key (s .before) .0) _ _ _ (s .scan-number .ensures) (c .blocks2 .given .1)
 
 slice-aggregate-begins : tie.Need-slice-aggregate-begins
 slice-aggregate-begins c = search needs
@@ -43,19 +37,13 @@ begins-requires c κs = search needs
 returns : tie.Need-returns
 returns c =
     let b = c .before in
-    rw (missed (after blocksKey (bytes1 b)) (sym (b .begins .ensures) ∙ not-true _ (c .if1 .taken)))
+    rw (missed (after blocksKey _) (sym (b .begins .ensures) ∙ not-true _ (c .if1 .taken)))
 
-sub-scan-number : tie.Need-sub-scan-number
-sub-scan-number c = omega (arith, key c)
-
-part-scan-number-start : tie.Need-part-scan-number-start
-part-scan-number-start c = omega (arith, key c)
-
-part-scan-number-end : tie.Need-part-scan-number-end
-part-scan-number-end c = search needs
+add-scan-number : tie.Need-add-scan-number
+add-scan-number c = omega (arith, key c)
 
 scan-number-requires : tie.Need-scan-number-requires
-scan-number-requires c κs = search needs
+scan-number-requires c κs = key c .0
 
 enum-known-blocks : tie.Need-enum-known-blocks
 enum-known-blocks c = search needs
@@ -66,28 +54,16 @@ enum-told c = search needs
 returns-2 : tie.Need-returns-2
 returns-2 c =
     let s = c .before .before in
-    rw (key (one s) .1, unread-at (bytes2 s) 7 _ (s .scan-number .ensures) (c .enum-told .given .1))
-
-add-at : tie.Need-add-at
-add-at c = omega (arith, line (c .before))
-
-sub-legal : tie.Need-sub-legal
-sub-legal c = omega (arith, line (c .before))
-
-part-legal-start : tie.Need-part-legal-start
-part-legal-start c = omega (arith, line (c .before))
-
-part-legal-end : tie.Need-part-legal-end
-part-legal-end c = search needs
+    let a = s .before .before .before .before .before .args in
+    rw (key (s .before) .1, unread (a .bytes .now) (number (drop (a .at + 7) (a .bytes .now))) _ (s .scan-number .ensures) (c .enum-told .given .1))
 
 legal-requires : tie.Need-legal-requires
 legal-requires c κs = search needs
 
 returns-3 : tie.Need-returns-3
 returns-3 c =
-    let n = c .before .before .before in
-    let s = n .before .before in
-    rw (key (one s) .1, line n .1) (c .legal .ensures ∙ rw (to-end (bytes2 s) _))
+    let n = c .before .before in
+    rw (key (n .before .before .before) .1, line n .1) (c .legal .ensures)
 
 pub decode-blocks-spec : {M : Type 1} → statement M
 decode-blocks-spec =
@@ -96,16 +72,10 @@ decode-blocks-spec =
     slice-aggregate-begins
     begins-requires
     returns
-    sub-scan-number
-    part-scan-number-start
-    part-scan-number-end
+    add-scan-number
     scan-number-requires
     enum-known-blocks
     enum-told
     returns-2
-    add-at
-    sub-legal
-    part-legal-start
-    part-legal-end
     legal-requires
     returns-3)
