@@ -1,0 +1,113 @@
+-- A box that a list of events can reach, and how the crash argument sees it.
+use Prim.Native.Nat.{ℕ, zero, suc, _+_, _-_, _*_, _/_, _%_, _≤_, _<_}
+use mathlib.Core.Path.{_≡_, refl, sym, ap, subst, _∙_}
+use mathlib.Core.Logic.{_≢_}
+use mathlib.Core.Bool.{Bool, true, false, cond, not, _&&_, _||_}
+use mathlib.Core.List.{List, [], _∷_, _++_}
+use native.Mathlib.Omega.{arith}
+use lib.ListN.{length, getD}
+use lib.Dec.{eqb, ltb}
+use Rattle.pages.specs.Pages.{pageAt}
+use Rattle.layout.specs.declared.Slot.{Slot}
+use Rattle.layout.specs.declared.Block.{Block}
+use Rattle.layout.specs.declared.Label.{Label}
+use Rattle.layout.specs.declared.Entry.{Entry}
+use Rattle.layout.specs.Places.{Limits, withinLimits, metaPages, ssdLength, hddLength, tableLength, labelPlace}
+use Rattle.layout.specs.LabelPage.{encodeLabel}
+use Rattle.layout.specs.MetaPage.{stampOf}
+use Rattle.layout.specs.PageRule.{pageTest}
+use Rattle.protocol.specs.declared.Record.{Record}
+use Rattle.protocol.specs.declared.Phase.{Phase}
+use Rattle.protocol.specs.declared.Phase.the-variants.{Formatting, Recovering, Ready}
+use Rattle.protocol.specs.Rows.{recordOf}
+use Rattle.protocol.specs.Box.{Images, Box}
+use Rattle.protocol.specs.Recovery.{metasOf, entryIn, newestOf}
+use Rattle.protocol.specs.ReferenceDisk.{Disk}
+use Rattle.protocol.specs.Events.{World}
+use Rattle.protocol.proofs.model.Base.{Told, told, told-true, told-false, clash}
+use Rattle.protocol.proofs.model.Model as model
+use Rattle.protocol.proofs.model.Model.{Row, Model, Plain, Stored, Mending}
+use Rattle.protocol.proofs.Windows.{nums}
+use Rattle.protocol.proofs.Flags.{rowOf}
+use Rattle.protocol.proofs.Tables.{rowAt, Rows}
+
+-- everything of a reachable box but its label
+pub record Core : Type 0 where
+  pub ssd : List ℕ
+  pub hdd : List ℕ
+  pub table : List ℕ
+  pub hand : Slot
+  pub newest : ℕ
+  pub recovering : Bool
+  pub unconfirmed : Bool
+  pub window : List Slot
+
+abbrev pub phaseFor : Bool → Phase
+phaseFor true = Recovering
+phaseFor false = Ready
+
+abbrev pub boxOfCore : Label → Core → Box
+boxOfCore l k = record {
+  images = record { ssd = k .ssd; hdd = k .hdd };
+  table = k .table;
+  state = recordOf l (k .hand) (k .newest) (phaseFor (k .recovering)) (k .unconfirmed) (k .window);
+}
+
+-- the stored entry of slot s
+unfoldable pub entAt : Label → List (List ℕ) → ℕ → Row
+entAt l pages s = cond (ltb s (l .slots))
+    (rowOf (entryIn pages (record { 0 = s }) .block .0) (entryIn pages (record { 0 = s }) .flags)) Row.free
+
+unfoldable pub abs : Label → Core → Model
+abs l k = record {
+  slots = l .slots;
+  blocks = l .blocks;
+  row = rowAt (k .table);
+  ent = entAt l (metasOf l (k .ssd));
+  hdd = λ b. pageAt (k .hdd) b;
+  dat = λ s. pageAt (k .ssd) (1 + metaPages l + s);
+  win = nums (k .window);
+  swin = nums (newestOf (metasOf l (k .ssd)) .window);
+  newest = k .newest;
+  stamp = newestOf (metasOf l (k .ssd)) .stamp;
+  unsettled = k .unconfirmed;
+  mending = k .recovering;
+}
+
+-- what the metadata pages keep besides what the model says
+pub record Pages (l : Label) (pages : List (List ℕ)) : Type 0 where
+  pub each : (p : ℕ) → p < metaPages l → pageTest l p (getD pages p []) ≡ true
+  pub apart : (p q : ℕ) → p < metaPages l → q < metaPages l → p ≢ q → stampOf (getD pages p []) ≢ 0
+      → stampOf (getD pages p []) ≢ stampOf (getD pages q [])
+
+-- what the images keep
+pub record ImagesKept (l : Label) (ssd hdd : List ℕ) : Type 0 where
+  pub limits : Limits l
+  pub ssd-size : length ssd ≡ ssdLength l
+  pub hdd-size : length hdd ≡ hddLength l
+  pub label-page : pageAt ssd 0 ≡ encodeLabel l
+  pub pages : Pages l (metasOf l ssd)
+
+pub record Shape (l : Label) (k : Core) : Type 0 where
+  pub images : ImagesKept l (k .ssd) (k .hdd)
+  pub table-size : length (k .table) ≡ tableLength l
+  pub hand-ok : k .hand .0 < l .slots
+  pub rows : Rows l (k .table)
+
+-- the reference disk, as far as the blocks go
+pub record Agrees (l : Label) (d : Disk) (p : Plain) : Type 0 where
+  pub page : (b : ℕ) → b < l .blocks → d .page (record { 0 = b }) ≡ p .page b
+  pub contents : (b : ℕ) → b < l .blocks → d .contents (record { 0 = b }) ≡ p .may b
+
+-- a reachable box is ready or mending
+pub data Phased (x : Model) (p : Plain) : Type 0 where
+  is-ready : model.Ready x p → Phased x p
+  is-mending : x .mending ≡ true → Mending x p → Phased x p
+
+pub record Inv (l : Label) (w : World) : Type 0 where
+  pub core : Core
+  pub is-core : w .box ≡ boxOfCore l core
+  pub shape : Shape l core
+  pub plain : Plain
+  pub agrees : Agrees l (w .disk) plain
+  pub phased : Phased (abs l core) plain

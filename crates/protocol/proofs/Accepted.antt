@@ -1,0 +1,122 @@
+-- A box that passes 3, 4 and 5, whatever it is: what its record and its table are.
+use Prim.Native.Nat.{ℕ, zero, suc, _+_, _-_, _*_, _/_, _%_, _^_, _≤_, _<_}
+use mathlib.Core.Path.{_≡_, refl, sym, ap, subst, _∙_}
+use mathlib.Core.Logic.{_≢_}
+use mathlib.Core.Bool.{Bool, true, false, cond, not, _&&_, _||_}
+use mathlib.Core.List.{List, [], _∷_, _++_}
+use mathlib.Core.Option.{Option, some, none}
+use native.Mathlib.Omega.{arith}
+use native.Mathlib.Nat.{zero-add}
+use lib.ListN.{length, getD, take, drop, replicate, length-take, length-drop, take-append-drop}
+use lib.Dec.{eqb, ltb, leb}
+use borrow.Author.Tests.{leb-true, ltb-true, eqb-true, not-false}
+use Rattle.layout.specs.declared.Slot.{Slot}
+use Rattle.layout.specs.declared.Label.{Label}
+use Rattle.layout.specs.Places.{Limits, withinLimits, ssdLength, hddLength, tableLength}
+use Rattle.layout.specs.PageRule.{listed, distinct, inRange}
+use Rattle.layout.proofs.PlaceLaws.{within}
+use Rattle.protocol.specs.declared.Record.{Record}
+use Rattle.protocol.specs.declared.Phase.{Phase}
+use Rattle.protocol.specs.Rows.{labelIn, windowIn, arrayOf, recordOf}
+use Rattle.protocol.specs.Box.{Images, Box}
+use Rattle.protocol.specs.Judge.{stepsTest, zeroSlots, recordTest, lengthTest, rowTest, eachRow, agreeTest, rowsTest}
+use Rattle.protocol.proofs.model.Base.{Window, and-left, and-right}
+use Rattle.protocol.proofs.Windows.{nums, window-of}
+use Rattle.protocol.proofs.Flags.{legal-row}
+use Rattle.protocol.proofs.Tables.{Rows, each-get}
+
+-- zero slots are as many zeros
+zero-all : (w : List Slot) → zeroSlots w ≡ true → w ≡ replicate (length w) (record { 0 = 0 })
+unfolding zeroSlots
+zero-all [] h = refl
+zero-all (s ∷ w) h =
+    let e : s .0 ≡ 0 = eqb-true _ _ (and-left (eqb (s .0) 0) (zeroSlots w) h) in
+    let f = zero-all w (and-right (eqb (s .0) 0) (zeroSlots w) h) in
+    (λ i. record { 0 = e i } ∷ f i)
+
+pub record Legal (x : Box) : Type 0 where
+  pub limits : Limits (labelIn (x .state))
+  pub hand-low : x .state .hand .0 < x .state .slots
+  pub steps : stepsTest (labelIn (x .state)) (x .state .phase) ≡ true
+  pub count-is : x .state .count ≡ length (windowIn (x .state))
+  pub array-is : x .state .window ≡ arrayOf (windowIn (x .state))
+  pub window-rule : Window (x .state .slots) (nums (windowIn (x .state)))
+  pub ssd-size : length (x .images .ssd) ≡ ssdLength (labelIn (x .state))
+  pub hdd-size : length (x .images .hdd) ≡ hddLength (labelIn (x .state))
+  pub table-size : length (x .table) ≡ tableLength (labelIn (x .state))
+  pub rows : Rows (labelIn (x .state)) (x .table)
+  pub agree : agreeTest (x .state .phase) (x .table) (windowIn (x .state)) ≡ true
+
+-- the parts of 3
+record Parts (r : Record) : Type 0 where
+  in-limits : withinLimits (labelIn r) ≡ true
+  hand : ltb (r .hand .0) (r .slots) ≡ true
+  steps : stepsTest (labelIn r) (r .phase) ≡ true
+  count : leb (r .count) 63 ≡ true
+  array : eqb (length (r .window)) 63 ≡ true
+  ranged : inRange (labelIn r) (windowIn r) ≡ true
+  apart : distinct (windowIn r) ≡ true
+  past : zeroSlots (drop (r .count) (r .window)) ≡ true
+
+both : (a b : Bool) → (a && b) ≡ true → (a ≡ true) × (b ≡ true)
+both a b e = (and-left a b e, and-right a b e)
+
+parts : (r : Record) → recordTest r ≡ true → Parts r
+unfolding recordTest
+parts r e =
+    let p1 = both _ _ e in
+    let p2 = both _ _ (p1 .1) in
+    let p3 = both _ _ (p2 .1) in
+    let p4 = both _ _ (p3 .1) in
+    let p5 = both _ _ (p4 .1) in
+    let p6 = both _ _ (p5 .1) in
+    let p7 = both _ _ (p6 .1) in
+    record { in-limits = p1 .0; hand = p2 .0; steps = p3 .0; count = p4 .0; array = p5 .0; ranged = p6 .0; apart = p7 .0; past = p7 .1 }
+
+module _ (r : Record) (P : Parts r) where
+  window-length : length (windowIn r) ≡ r .count
+  unfolding windowIn
+  window-length = length-take (r .count) (r .window)
+      ∙ (let a : r .count ≤ 63 = leb-true _ _ (P .count) in let b : length (r .window) ≡ 63 = eqb-true _ _ (P .array) in omega arith)
+
+  window-array : r .window ≡ arrayOf (windowIn r)
+  unfolding arrayOf windowIn
+  window-array =
+      let a : r .count ≤ 63 = leb-true _ _ (P .count) in
+      let b : length (r .window) ≡ 63 = eqb-true _ _ (P .array) in
+      let n : length (drop (r .count) (r .window)) ≡ 63 - length (take (r .count) (r .window)) = length-drop (r .count) (r .window)
+      ∙ (let c = length-take (r .count) (r .window) in omega arith) in
+      sym (take-append-drop (r .count) (r .window))
+      ∙ ap (λ (z : List Slot). take (r .count) (r .window) ++ z) (zero-all (drop (r .count) (r .window)) (P .past))
+      ∙ ap (λ (m : ℕ). take (r .count) (r .window) ++ replicate m (record { 0 = 0 })) n
+
+pub legal : (x : Box) → recordTest (x .state) ≡ true → lengthTest (labelIn (x .state)) (x .images) (x .table) ≡ true
+    → rowsTest (x .state) (x .table) ≡ true → Legal x
+unfolding lengthTest rowsTest
+legal x e f g =
+    let P = parts (x .state) e in
+    let q1 = both _ _ f in
+    let q2 = both _ _ (q1 .1) in
+    let r1 = both (eachRow (λ s block flags. rowTest (labelIn (x .state)) block flags) 0 (x .table)) _ g in
+    let size : length (x .table) ≡ tableLength (labelIn (x .state)) = eqb-true _ _ (q2 .1) in
+    record {
+      limits = within (labelIn (x .state)) .0 (P .in-limits);
+      hand-low = ltb-true _ _ (P .hand);
+      steps = P .steps;
+      count-is = sym (window-length (x .state) P);
+      array-is = window-array (x .state) P;
+      window-rule = window-of (labelIn (x .state)) (windowIn (x .state)) (rw (window-length (x .state) P) (leb-true _ _ (P .count)))
+          (P .apart) (P .ranged);
+      ssd-size = eqb-true _ _ (q1 .0);
+      hdd-size = eqb-true _ _ (q2 .0);
+      table-size = size;
+      rows = λ s h. legal-row (labelIn (x .state)) _ _
+          (each-get (λ s block flags. rowTest (labelIn (x .state)) block flags) 0 (x .table) (r1 .0) s (omega arith));
+      agree = r1 .1;
+    }
+
+-- the same, from the tests of a chain that fail
+pub legal-judged : (x : Box) (t : Bool) → not (recordTest (x .state)) ≡ false
+    → not (lengthTest (labelIn (x .state)) (x .images) (x .table) && t) ≡ false → not (rowsTest (x .state) (x .table)) ≡ false → Legal x
+legal-judged x t e f g = legal x (not-false _ e) (and-left (lengthTest (labelIn (x .state)) (x .images) (x .table)) t (not-false _ f))
+    (not-false _ g)

@@ -1,0 +1,467 @@
+-- Document 01's proved table of cases, P1 to P10: one table, and one statement that all of it holds.
+use Prim.Native.Nat.{ℕ, _+_, _*_}
+use mathlib.Core.Path.{_≡_, refl, ap, _∙_}
+use mathlib.Core.Bool.{Bool, true, false}
+use mathlib.Core.List.{List, [], _∷_, _++_}
+use mathlib.Core.Option.{Option, some}
+use lib.ListN.{length, replicate}
+use Rattle.layout.specs.declared.Slot.{Slot}
+use Rattle.layout.specs.declared.Block.{Block}
+use Rattle.layout.specs.declared.Label.{Label}
+use Rattle.layout.specs.Places.{labelOf, metaPages, ssdLength, tableLength}
+use Rattle.protocol.specs.declared.Record.{Record}
+use Rattle.protocol.specs.declared.Phase.the-variants.{Formatting, Recovering, Ready}
+use Rattle.protocol.specs.Paper.{announced, copiedOut, inSlot, done}
+use Rattle.protocol.specs.Rows.{recordOf}
+use Rattle.protocol.specs.Box.{Images, Box, Effect, boxAfter}
+use Rattle.protocol.specs.Plan.{Call, format, step, flush, offer, land, fetch, landFetch, lookUp, plan}
+use Rattle.protocol.specs.Recovery.{Recovered, recoverFrom}
+use Rattle.protocol.specs.Perform.{perform}
+use Rattle.protocol.specs.Judge.{Reason, test}
+use Rattle.protocol.specs.Calls.{effectOf, resultOf}
+use Rattle.protocol.specs.Events.{World, Event, call, called, run, steps, formatted, startOf}
+use Rattle.protocol.proofs.Report.{nothing, label, meta, slot, block, Line, line, Report, report, diskOf, lost, unformatted, start, filled, metaPage, labelPage, pages}
+use Rattle.protocol.proofs.Known.{Sized, known, known-shows}
+use Rattle.protocol.proofs.QuickRows.{walked, bothWalked, quickTest, quickRecover, quick-recover}
+
+-- A script and what it shows, from where it begins, with the blocks that are read at its end.
+pub record Script : Type 0 where
+  pub sizes : Label
+  pub world : World
+  pub events : List Event
+  pub asked : List Block
+  pub wanted : Report
+
+abbrev pub scripted : Label → World → List Event → List Block → Report → Script
+scripted l w es bs wanted = record { sizes = l; world = w; events = es; asked = bs; wanted = wanted }
+
+-- A case: a script; the bytes of the SSD image after some events; metadata pages, and what a reopening makes of them; a call, and
+-- its effect on a box; its move alone, for which lengths do not matter; whether a refusal's condition holds.
+pub data Case : Type 0 where
+  script : Script → Case
+  bytes : World → List Event → ℕ → Case
+  recovery : Label → List (List ℕ) → Option Recovered → Case
+  effect move : Call → Box → Effect → Case
+  condition : Reason → Call → Box → Bool → Case
+
+abbrev pub Holds : Case → Type 0
+Holds (script p) = report (p .sizes) (p .events) (p .asked) (p .world) ≡ p .wanted
+Holds (bytes w es wanted) = length (run es w .box .images .ssd) ≡ wanted
+Holds (recovery l metas wanted) = recoverFrom l metas ≡ wanted
+Holds (effect c x wanted) = effectOf c x ≡ wanted
+Holds (move c x wanted) = perform (plan c x) x ≡ wanted
+Holds (condition r c x wanted) = test r c x ≡ wanted
+
+abbrev pub AllHold : List Case → Type 0
+AllHold [] = Unit {0}
+AllHold (c ∷ cs) = Holds c × AllHold cs
+
+-- the proof of a case before those of the rest
+infixr 20 _also_
+abbrev pub _also_ : {A B : Type 0} → A → B → A × B
+a also b = (a, b)
+
+-- "Slots 4, blocks 8 unless said"
+abbrev pub usual : Label
+usual = labelOf 4 8
+
+-- "cache=lufuw", "layout=1", "slots=S", "blocks=B", each ended by byte 10, S and B being digits
+unfoldable pub textOf : ℕ → ℕ → List ℕ
+textOf s b =
+    99 ∷ 97 ∷ 99 ∷ 104 ∷ 101 ∷ 61 ∷ 108 ∷ 117 ∷ 102 ∷ 117 ∷ 119 ∷ 10
+    ∷ 108 ∷ 97 ∷ 121 ∷ 111 ∷ 117 ∷ 116 ∷ 61 ∷ 49 ∷ 10
+    ∷ 115 ∷ 108 ∷ 111 ∷ 116 ∷ 115 ∷ 61 ∷ s ∷ 10
+    ∷ 98 ∷ 108 ∷ 111 ∷ 99 ∷ 107 ∷ 115 ∷ 61 ∷ b ∷ 10 ∷ []
+
+-- P1 format stores 3 pages; SSD 24,576 bytes.
+abbrev pub formats : Label → List Event
+formats l = call (format (l .slots) (l .blocks)) ∷ call step ∷ call step ∷ call step ∷ []
+
+abbrev pub p1 : Script
+p1 =
+    scripted usual (startOf usual (unformatted usual)) (formats usual) []
+    (record {
+      lines =
+          line done nothing (Formatting 0)
+          ∷ line done label (Formatting 1)
+          ∷ line done (meta 0) (Formatting 2)
+          ∷ line done label Ready ∷ [];
+      state = recordOf usual (record { 0 = 0 }) 0 Ready false [];
+      table = replicate 8 0;
+      ssd = pages (labelPage (textOf 52 56) ∷ filled 0 ∷ replicate 16384 170 ∷ []);
+      hdd = diskOf usual;
+      reads = [];
+    })
+
+abbrev pub p1-size : Case
+p1-size = bytes (startOf usual (unformatted usual)) (formats usual) 24576
+
+-- what a script shows that stores in no slot but 0 and leaves the HDD alone: its lines, the record and the table after it, the
+-- metadata page, slot 0's page, and what the blocks that are asked for read as
+abbrev pub leaves : List Line → Record → List ℕ → List ℕ → List ℕ → List (List ℕ) → Report
+leaves lines state table metadata slot₀ reads = record {
+  lines = lines;
+  state = state;
+  table = table;
+  ssd = pages (labelPage (textOf 52 56) ∷ metadata ∷ slot₀ ∷ filled 170 ∷ filled 170 ∷ filled 170 ∷ []);
+  hdd = diskOf usual;
+  reads = reads;
+}
+
+-- P2 then offer 5: slot 0, stamp 1, entry bytes 05 00 00 00 07 00 00 00 (hexadecimal), hand 1.
+abbrev pub p2 : Script
+p2 =
+    scripted usual (start usual) (call (offer (record { 0 = 5 })) ∷ [])
+    (record { 0 = 5 } ∷ [])
+    (leaves
+    (line (announced (record { 0 = 0 })) (meta 0) Ready ∷ [])
+    (recordOf usual (record { 0 = 1 }) 1 Ready false (record { 0 = 0 } ∷ []))
+    (5 ∷ 7 ∷ replicate 6 0)
+    (metaPage (1 ∷ 0 ∷ 0 ∷ 0 ∷ 1 ∷ 0 ∷ []) (0 ∷ 0 ∷ 0 ∷ 0 ∷ []) (5 ∷ 0 ∷ 0 ∷ 0 ∷ 7 ∷ 0 ∷ 0 ∷ 0 ∷ []))
+    (filled 170)
+    (filled 69 ∷ []))
+
+-- P3 cut after P2: one mending store, stamp 2; 5 reads from HDD.
+abbrev pub p3 : Script
+p3 =
+    scripted usual (start usual) (call (offer (record { 0 = 5 })) ∷ lost usual ∷ call step ∷ [])
+    (record { 0 = 5 } ∷ [])
+    (leaves
+    (line (announced (record { 0 = 0 })) (meta 0) Ready ∷ line done nothing Recovering ∷ line done (meta 0) Ready ∷ [])
+    (recordOf usual (record { 0 = 0 }) 2 Ready false [])
+    (replicate 8 0)
+    (metaPage (2 ∷ 0 ∷ 0 ∷ 0 ∷ 0 ∷ 0 ∷ []) [] [])
+    (filled 170)
+    (filled 69 ∷ []))
+
+-- P4 P2, land, cut: as P3.
+abbrev pub p4 : Script
+p4 =
+    scripted usual (start usual)
+    (call (offer (record { 0 = 5 })) ∷ call (land (record { 0 = 5 }) (filled 9)) ∷ lost usual ∷ call step ∷ [])
+    (record { 0 = 5 } ∷ [])
+    (leaves
+    (line (announced (record { 0 = 0 })) (meta 0) Ready
+    ∷ line done (slot 0) Ready
+    ∷ line done nothing Recovering
+    ∷ line done (meta 0) Ready ∷ [])
+    (recordOf usual (record { 0 = 0 }) 2 Ready false [])
+    (replicate 8 0)
+    (metaPage (2 ∷ 0 ∷ 0 ∷ 0 ∷ 0 ∷ 0 ∷ []) [] [])
+    (filled 9)
+    (filled 69 ∷ []))
+
+-- P5 P2, land, flush, cut: new bytes, no mending.
+abbrev pub p5 : Script
+p5 =
+    scripted usual (start usual)
+    (call (offer (record { 0 = 5 })) ∷ call (land (record { 0 = 5 }) (filled 9)) ∷ call flush ∷ lost usual ∷ [])
+    (record { 0 = 5 } ∷ [])
+    (leaves
+    (line (announced (record { 0 = 0 })) (meta 0) Ready
+    ∷ line done (slot 0) Ready
+    ∷ line done (meta 0) Ready
+    ∷ line done nothing Ready ∷ [])
+    (recordOf usual (record { 0 = 0 }) 2 Ready false [])
+    (5 ∷ 3 ∷ replicate 6 0)
+    (metaPage (2 ∷ 0 ∷ 0 ∷ 0 ∷ 0 ∷ 0 ∷ []) [] (5 ∷ 0 ∷ 0 ∷ 0 ∷ 3 ∷ 0 ∷ 0 ∷ 0 ∷ []))
+    (filled 9)
+    (filled 9 ∷ []))
+
+-- P6 P2, land, offer 6, cut: 5 kept, 6 dropped.
+abbrev pub p6 : Script
+p6 =
+    scripted usual (start usual)
+    (call (offer (record { 0 = 5 }))
+    ∷ call (land (record { 0 = 5 }) (filled 9))
+    ∷ call (offer (record { 0 = 6 }))
+    ∷ lost usual
+    ∷ call step ∷ [])
+    (record { 0 = 5 } ∷ record { 0 = 6 } ∷ [])
+    (leaves
+    (line (announced (record { 0 = 0 })) (meta 0) Ready
+    ∷ line done (slot 0) Ready
+    ∷ line (announced (record { 0 = 1 })) (meta 0) Ready
+    ∷ line done nothing Recovering
+    ∷ line done (meta 0) Ready ∷ [])
+    (recordOf usual (record { 0 = 0 }) 3 Ready false [])
+    (5 ∷ 3 ∷ replicate 6 0)
+    (metaPage (3 ∷ 0 ∷ 0 ∷ 0 ∷ 0 ∷ 0 ∷ []) [] (5 ∷ 0 ∷ 0 ∷ 0 ∷ 3 ∷ 0 ∷ 0 ∷ 0 ∷ []))
+    (filled 9)
+    (filled 9 ∷ filled 70 ∷ []))
+
+-- P7 P5 then land 5 again, cut: the second bytes, no metadata store made.
+abbrev pub p7 : Script
+p7 =
+    scripted usual (start usual)
+    (call (offer (record { 0 = 5 }))
+    ∷ call (land (record { 0 = 5 }) (filled 9))
+    ∷ call flush
+    ∷ lost usual
+    ∷ call (land (record { 0 = 5 }) (filled 7))
+    ∷ lost usual ∷ [])
+    (record { 0 = 5 } ∷ [])
+    (leaves
+    (line (announced (record { 0 = 0 })) (meta 0) Ready
+    ∷ line done (slot 0) Ready
+    ∷ line done (meta 0) Ready
+    ∷ line done nothing Ready
+    ∷ line done (slot 0) Ready
+    ∷ line done nothing Ready ∷ [])
+    (recordOf usual (record { 0 = 0 }) 2 Ready false [])
+    (5 ∷ 3 ∷ replicate 6 0)
+    (metaPage (2 ∷ 0 ∷ 0 ∷ 0 ∷ 0 ∷ 0 ∷ []) [] (5 ∷ 0 ∷ 0 ∷ 0 ∷ 3 ∷ 0 ∷ 0 ∷ 0 ∷ []))
+    (filled 7)
+    (filled 7 ∷ []))
+
+-- P8 slots 1, blocks 2: offer 0, land, offer 1: copied out; again: slot 0.
+abbrev pub one : Label
+one = labelOf 1 2
+
+abbrev pub p8 : Script
+p8 =
+    scripted one (start one)
+    (call (offer (record { 0 = 0 }))
+    ∷ call (land (record { 0 = 0 }) (filled 9))
+    ∷ call (offer (record { 0 = 1 }))
+    ∷ call (offer (record { 0 = 1 })) ∷ [])
+    (record { 0 = 0 } ∷ record { 0 = 1 } ∷ [])
+    (record {
+      lines =
+          line (announced (record { 0 = 0 })) (meta 0) Ready
+          ∷ line done (slot 0) Ready
+          ∷ line copiedOut (block 0) Ready
+          ∷ line (announced (record { 0 = 0 })) (meta 0) Ready ∷ [];
+      state = recordOf one (record { 0 = 0 }) 2 Ready false (record { 0 = 0 } ∷ []);
+      table = 1 ∷ 7 ∷ [];
+      ssd = pages (
+          labelPage (textOf 49 50)
+          ∷ metaPage (2 ∷ 0 ∷ 0 ∷ 0 ∷ 1 ∷ 0 ∷ []) (0 ∷ 0 ∷ 0 ∷ 0 ∷ []) (1 ∷ 0 ∷ 0 ∷ 0 ∷ 7 ∷ 0 ∷ 0 ∷ 0 ∷ [])
+          ∷ filled 9 ∷ []);
+      hdd = pages (filled 9 ∷ filled 65 ∷ []);
+      reads = filled 9 ∷ filled 65 ∷ [];
+    })
+
+-- P9 slots 2, blocks 3: fetch and land 0 and 1, look up 0, offer 2: slot 1 taken, hand 0.
+abbrev pub two : Label
+two = labelOf 2 3
+
+abbrev pub p9 : Script
+p9 =
+    scripted two (start two)
+    (call (fetch (record { 0 = 0 }))
+    ∷ call (landFetch (record { 0 = 0 }))
+    ∷ call (fetch (record { 0 = 1 }))
+    ∷ call (landFetch (record { 0 = 1 }))
+    ∷ call (lookUp (record { 0 = 0 }))
+    ∷ call (offer (record { 0 = 2 })) ∷ [])
+    (record { 0 = 0 } ∷ record { 0 = 2 } ∷ [])
+    (record {
+      lines =
+          line (announced (record { 0 = 0 })) (meta 0) Ready
+          ∷ line done (slot 0) Ready
+          ∷ line (announced (record { 0 = 1 })) (meta 0) Ready
+          ∷ line done (slot 1) Ready
+          ∷ line (inSlot (record { 0 = 0 })) nothing Ready
+          ∷ line (announced (record { 0 = 1 })) (meta 0) Ready ∷ [];
+      state = recordOf two (record { 0 = 0 }) 3 Ready false (record { 0 = 1 } ∷ []);
+      table = 0 ∷ 1 ∷ 2 ∷ 7 ∷ [];
+      ssd = pages (
+          labelPage (textOf 50 51)
+          ∷ metaPage (3 ∷ 0 ∷ 0 ∷ 0 ∷ 1 ∷ 0 ∷ []) (1 ∷ 0 ∷ 0 ∷ 0 ∷ []) (0 ∷ 0 ∷ 0 ∷ 0 ∷ 1 ∷ 0 ∷ 0 ∷ 0 ∷ 2 ∷ 0 ∷ 0 ∷ 0 ∷ 7 ∷ 0 ∷ 0 ∷ 0 ∷ [])
+          ∷ filled 64 ∷ filled 65 ∷ []);
+      hdd = diskOf two;
+      reads = filled 64 ∷ filled 66 ∷ [];
+    })
+
+-- P10 slots 241, the metadata pages alone: page 0 has stamp 1, slot 0 alone in its window, entry 0 block 5 flags 7; page 1
+-- has stamp 2, slot 240 alone in its window, entry 240 block 6 flags 7; the rest zero. Reopening keeps 5 as dirty and drops 6.
+abbrev pub many : Label
+many = labelOf 241 8
+
+abbrev pub page₀ : List ℕ
+page₀ = metaPage (1 ∷ 0 ∷ 0 ∷ 0 ∷ 1 ∷ 0 ∷ []) (0 ∷ 0 ∷ 0 ∷ 0 ∷ []) (5 ∷ 0 ∷ 0 ∷ 0 ∷ 7 ∷ 0 ∷ 0 ∷ 0 ∷ [])
+
+abbrev pub page₁ : List ℕ
+page₁ = metaPage (2 ∷ 0 ∷ 0 ∷ 0 ∷ 1 ∷ 0 ∷ []) (240 ∷ 0 ∷ 0 ∷ 0 ∷ []) (6 ∷ 0 ∷ 0 ∷ 0 ∷ 7 ∷ 0 ∷ 0 ∷ 0 ∷ [])
+
+abbrev pub p10 : Case
+p10 =
+    recovery many (page₀ ∷ page₁ ∷ [])
+    (some (record {
+      table = 5 ∷ 3 ∷ replicate 480 0;
+      state = recordOf many (record { 0 = 0 }) 2 Recovering false (record { 0 = 240 } ∷ []);
+    }))
+
+-- What a format leaves, written out: the scripts are computed from there.
+abbrev pub fresh : Label → List ℕ → Box
+fresh l text = record {
+  images = record { ssd = pages (labelPage text ∷ filled 0 ∷ replicate (4096 * l .slots) 170 ∷ []); hdd = diskOf l };
+  table = replicate (tableLength l) 0;
+  state = recordOf l (record { 0 = 0 }) 0 Ready false [];
+}
+
+abbrev pub formatted-as : Label → List ℕ → Script
+formatted-as l text =
+    scripted l (startOf l (unformatted l)) (formats l) []
+    (record {
+      lines =
+          line done nothing (Formatting 0)
+          ∷ line done label (Formatting 1)
+          ∷ line done (meta 0) (Formatting 2)
+          ∷ line done label Ready ∷ [];
+      state = fresh l text .state;
+      table = fresh l text .table;
+      ssd = fresh l text .images .ssd;
+      hdd = fresh l text .images .hdd;
+      reads = [];
+    })
+
+-- A script is computed from a written-out box.
+abbrev pub Computed : Script → Box → Type 0
+Computed p x = known (p .sizes) (p .events) (p .asked) x ≡ record { shown = p .wanted; fine = true }
+
+pub shows : (p : Script) (x : Box) → p .world .box ≡ x → Sized (p .sizes) (x .images) → Computed p x → Holds (script p)
+shows p x e z h = known-shows (p .sizes) (p .events) (p .asked) (p .world) x (p .wanted) e z h
+
+unformatted-usual : Sized usual (unformatted usual .images)
+unfolding known
+unformatted-usual = record { ssd-size = refl; hdd-size = refl }
+
+computed-1 : Computed p1 (unformatted usual)
+unfolding known textOf
+computed-1 = refl
+
+P1 : Holds (script p1)
+P1 = shows p1 (unformatted usual) refl unformatted-usual computed-1
+
+-- the box of a report
+abbrev boxOf : Report → Box
+boxOf r = record { images = record { ssd = r .ssd; hdd = r .hdd }; table = r .table; state = r .state }
+
+box-after : (l : Label) (es : List Event) (bs : List Block) (w : World) → run es w .box ≡ boxOf (report l es bs w)
+unfolding report
+box-after l es bs w = refl
+
+pub sized-usual : Sized usual (fresh usual (textOf 52 56) .images)
+unfolding known textOf
+sized-usual = record { ssd-size = refl; hdd-size = refl }
+
+ssd-bytes : ssdLength usual ≡ 24576
+unfolding metaPages
+ssd-bytes = refl
+
+P1-size : Holds p1-size
+P1-size =
+    ap (λ (x : Box). length (x .images .ssd)) (box-after usual (formats usual) [] (startOf usual (unformatted usual)) ∙ ap boxOf P1)
+    ∙ sized-usual .ssd-size
+    ∙ ssd-bytes
+
+format-run : (l : Label) (x : Box) → metaPages l ≡ 1 → formatted (l .slots) (l .blocks) x ≡ run (formats l) (startOf l x) .box
+unfolding formatted steps run called
+format-run l x e = ap (λ (m : ℕ). steps (m + 2) (boxAfter (resultOf (format (l .slots) (l .blocks)) x))) e
+
+start-fresh : (l : Label) (text : List ℕ) → metaPages l ≡ 1 → Holds (script (formatted-as l text)) → start l .box ≡ fresh l text
+unfolding start
+start-fresh l text e h = format-run l (unformatted l) e ∙ box-after l (formats l) [] (startOf l (unformatted l)) ∙ ap boxOf h
+
+pub start-usual : start usual .box ≡ fresh usual (textOf 52 56)
+unfolding metaPages
+start-usual = start-fresh usual (textOf 52 56) refl P1
+
+computed-one : Computed (formatted-as one (textOf 49 50)) (unformatted one)
+unfolding known textOf
+computed-one = refl
+
+unformatted-one : Sized one (unformatted one .images)
+unfolding known
+unformatted-one = record { ssd-size = refl; hdd-size = refl }
+
+pub start-one : start one .box ≡ fresh one (textOf 49 50)
+unfolding metaPages
+start-one =
+    start-fresh one (textOf 49 50) refl
+    (shows (formatted-as one (textOf 49 50)) (unformatted one) refl unformatted-one computed-one)
+
+computed-two : Computed (formatted-as two (textOf 50 51)) (unformatted two)
+unfolding known textOf
+computed-two = refl
+
+unformatted-two : Sized two (unformatted two .images)
+unfolding known
+unformatted-two = record { ssd-size = refl; hdd-size = refl }
+
+pub start-two : start two .box ≡ fresh two (textOf 50 51)
+unfolding metaPages
+start-two =
+    start-fresh two (textOf 50 51) refl
+    (shows (formatted-as two (textOf 50 51)) (unformatted two) refl unformatted-two computed-two)
+
+pub sized-one : Sized one (fresh one (textOf 49 50) .images)
+unfolding known textOf
+sized-one = record { ssd-size = refl; hdd-size = refl }
+
+pub sized-two : Sized two (fresh two (textOf 50 51) .images)
+unfolding known textOf
+sized-two = record { ssd-size = refl; hdd-size = refl }
+
+computed-2 : Computed p2 (fresh usual (textOf 52 56))
+unfolding known textOf
+computed-2 = refl
+
+computed-3 : Computed p3 (fresh usual (textOf 52 56))
+unfolding known textOf
+computed-3 = refl
+
+computed-4 : Computed p4 (fresh usual (textOf 52 56))
+unfolding known textOf
+computed-4 = refl
+
+computed-5 : Computed p5 (fresh usual (textOf 52 56))
+unfolding known textOf
+computed-5 = refl
+
+computed-6 : Computed p6 (fresh usual (textOf 52 56))
+unfolding known textOf
+computed-6 = refl
+
+computed-7 : Computed p7 (fresh usual (textOf 52 56))
+unfolding known textOf
+computed-7 = refl
+
+computed-8 : Computed p8 (fresh one (textOf 49 50))
+unfolding known textOf
+computed-8 = refl
+
+computed-9 : Computed p9 (fresh two (textOf 50 51))
+unfolding known textOf
+computed-9 = refl
+
+computed-10 : Holds p10
+unfolding known walked bothWalked quickTest quickRecover
+computed-10 = quick-recover 8 page₀ page₁ ∙ refl
+
+usually : (p : Script) → p .world .box ≡ fresh usual (textOf 52 56) → Sized (p .sizes) (fresh usual (textOf 52 56) .images)
+    → Computed p (fresh usual (textOf 52 56)) → Holds (script p)
+usually p = shows p (fresh usual (textOf 52 56))
+
+-- The table, and the statement: all of it holds.
+pub cases : List Case
+cases =
+    script p1 ∷ p1-size ∷ script p2 ∷ script p3 ∷ script p4 ∷ script p5 ∷ script p6 ∷ script p7 ∷ script p8 ∷ script p9 ∷ p10 ∷ []
+
+pub all-cases : AllHold cases
+unfolding cases
+all-cases =
+    P1
+    also P1-size
+    also usually p2 start-usual sized-usual computed-2
+    also usually p3 start-usual sized-usual computed-3
+    also usually p4 start-usual sized-usual computed-4
+    also usually p5 start-usual sized-usual computed-5
+    also usually p6 start-usual sized-usual computed-6
+    also usually p7 start-usual sized-usual computed-7
+    also shows p8 (fresh one (textOf 49 50)) start-one sized-one computed-8
+    also shows p9 (fresh two (textOf 50 51)) start-two sized-two computed-9
+    also computed-10
+    also tt

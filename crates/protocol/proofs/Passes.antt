@@ -1,0 +1,240 @@
+-- A reachable box passes 3, 4 and 5; and the calls that are never refused.
+use Prim.Native.Nat.{ℕ, zero, suc, _+_, _-_, _*_, _/_, _%_, _^_, _≤_, _<_}
+use mathlib.Core.Path.{_≡_, refl, sym, ap, subst, _∙_}
+use mathlib.Core.Logic.{_≢_}
+use mathlib.Core.Bool.{Bool, true, false, cond, not, _&&_, _||_}
+use mathlib.Core.List.{List, [], _∷_, _++_}
+use mathlib.Core.Option.{Option, some, none}
+use native.Mathlib.Omega.{arith}
+use lib.ListN.{length, getD}
+use lib.Dec.{eqb, ltb, leb}
+use borrow.Author.Tests.{le-leb, lt-leb, eq-eqb, lt-ltb, le-ltb}
+use Rattle.layout.specs.declared.Slot.{Slot}
+use Rattle.layout.specs.declared.Block.{Block}
+use Rattle.layout.specs.declared.Label.{Label}
+use Rattle.layout.specs.Places.{Limits, withinLimits, metaPages, tableLength}
+use Rattle.layout.specs.PageRule.{listed, distinct, inRange}
+use Rattle.layout.proofs.PlaceLaws.{within}
+use Rattle.protocol.specs.declared.Record.{Record}
+use Rattle.protocol.specs.declared.Phase.{Phase}
+use Rattle.protocol.specs.declared.Phase.the-variants.{Formatting, Recovering, Ready}
+use Rattle.protocol.specs.Rows.{rowBlock, rowFlags, valid, dirty, writing, windowIn, recordOf}
+use Rattle.protocol.specs.Box.{Images, Box}
+use Rattle.protocol.specs.Plan.{Call, format, step, flush, reopen, offer, fetch, landFetch, lookUp, view, writeBack, land, lowestPage, flushing, plan, storesMeta}
+use Rattle.protocol.specs.Judge.{largestStamp, stepsTest, recordTest, lengthTest, rowTest, eachRow, eachSlot, isEmpty, agreeTest, rowsTest, isReady, test, chain, firstOf, judged}
+use Rattle.protocol.proofs.model.Base as base
+use Rattle.protocol.proofs.model.Base.{has, Window, Told, told, told-true, told-false, clash, eqb-same}
+use Rattle.protocol.proofs.model.Model as model
+use Rattle.protocol.proofs.model.Model.{Row, Model, Plain, Stored, Mending, dty, opn, blk, revived, count}
+use Rattle.protocol.proofs.model.Rows.{opn-valid, shut-opn}
+use Rattle.protocol.proofs.Windows.{nums, length-nums, has-nums, distinct-nums, below-nums, length-array, zero-past, empty-nums}
+use Rattle.protocol.proofs.Flags.{rowOf, Flags, f0, f1, f3, f5, f7, f9, f11, f13, f15, LegalRow, row-legal}
+use Rattle.protocol.proofs.Tables.{rowAt, rowAt-out, Rows, each-of, at-open}
+use Rattle.protocol.proofs.Judged.{NoneHold, first-none}
+use Rattle.protocol.proofs.Performed.{window-in}
+use Rattle.protocol.proofs.Abstract.{Core, phaseFor, boxOfCore, abs, ImagesKept, Shape}
+
+-- a test at each slot of a window
+slots-of : (t : Slot → Bool) (w : List Slot) → ((s : Slot) → listed s w ≡ true → t s ≡ true) → eachSlot t w ≡ true
+unfolding eachSlot listed
+slots-of t [] h = refl
+slots-of t (s ∷ w) h = rw (h s (rw (eqb-same (s .0))), slots-of t w (λ u q. h u (rw q (or-true (eqb (u .0) (s .0))))))
+  where
+    or-true : (b : Bool) → (b || true) ≡ true
+    or-true true = refl
+    or-true false = refl
+
+-- a legal row that is free is zero
+free-zero : {l : Label} {b f : ℕ} → LegalRow l b f → rowOf b (f % 8) ≡ Row.free → (b ≡ 0) × (f ≡ 0)
+unfolding rowOf
+free-zero {l} {b} {f} r = by (r .flags) (r .free)
+  where
+    not-free : {q : Row} {A : Type 0} → model.valid q ≡ true → q ≡ Row.free → A
+    not-free v e = clash v (ap model.valid e)
+
+    by : {g : ℕ} → Flags g → (valid g ≡ false → b ≡ 0) → rowOf b (g % 8) ≡ Row.free → (b ≡ 0) × (g ≡ 0)
+    by f0 z e = (z refl, refl)
+    by f1 z e = not-free {q = Row.clean b} refl e
+    by f3 z e = not-free {q = Row.dirty b} refl e
+    by f5 z e = not-free {q = Row.fetching b} refl e
+    by f7 z e = not-free {q = Row.writing b} refl e
+    by f9 z e = not-free {q = Row.clean b} refl e
+    by f11 z e = not-free {q = Row.dirty b} refl e
+    by f13 z e = not-free {q = Row.fetching b} refl e
+    by f15 z e = not-free {q = Row.writing b} refl e
+
+module _ (l : Label) (k : Core) (S : Shape l k) (W : Window (l .slots) (nums (k .window))) where
+  steps-pass : (r : Bool) → stepsTest l (phaseFor r) ≡ true
+  steps-pass true = refl
+  steps-pass false = refl
+
+  record-pass : recordTest (boxOfCore l k .state) ≡ true
+  unfolding recordTest
+  record-pass =
+      let few : length (k .window) ≤ 63 = omega (arith, W .fits, length-nums (k .window)) in
+      rw (
+        within l .1 (S .images .limits),
+        lt-ltb _ _ (S .hand-ok),
+        steps-pass (k .recovering),
+        le-leb _ _ few,
+        length-array (k .window) few,
+        window-in l (k .hand) (k .newest) (phaseFor (k .recovering)) (k .unconfirmed) (k .window),
+        sym (below-nums l (k .window)) ∙ W .in-slots,
+        sym (distinct-nums (k .window)) ∙ W .apart,
+        zero-past (k .window),
+      )
+
+  length-pass : lengthTest l (record { ssd = k .ssd; hdd = k .hdd }) (k .table) ≡ true
+  unfolding lengthTest
+  length-pass = rw (eq-eqb _ _ (S .images .ssd-size), eq-eqb _ _ (S .images .hdd-size), eq-eqb _ _ (S .table-size))
+
+  each-pass : eachRow (λ s block flags. rowTest l block flags) 0 (k .table) ≡ true
+  each-pass = each-of (λ s block flags. rowTest l block flags) 0 (k .table)
+      (λ s h. row-legal l _ _ (S .rows s (omega (arith, S .table-size))))
+
+  rows-pass : agreeTest (phaseFor (k .recovering)) (k .table) (k .window) ≡ true → rowsTest (boxOfCore l k .state) (k .table) ≡ true
+  unfolding rowsTest
+  rows-pass a = rw (each-pass, window-in l (k .hand) (k .newest) (phaseFor (k .recovering)) (k .unconfirmed) (k .window)) a
+
+-- a ready box
+module _ (l : Label) (k : Core) (S : Shape l k) (p : Plain) (R : model.Ready (abs l k) p) where
+  on : k .recovering ≡ false
+  on = unfold abs in R .phase
+
+  W : Window (l .slots) (nums (k .window))
+  W = unfold abs in R .win-rule
+
+  open-is : (s : ℕ) → opn (rowAt (k .table) s) ≡ has (nums (k .window)) s
+  open-is = unfold abs in R .open-row
+
+  listed-low : (s : ℕ) → listed (record { 0 = s }) (k .window) ≡ true → s < l .slots
+  unfolding abs
+  listed-low s h = R .in-range s (opn-valid (rowAt (k .table) s) (open-is s ∙ has-nums (k .window) s ∙ h))
+
+  listed-writing : (s : Slot) → listed s (k .window) ≡ true → writing (rowFlags (k .table) s) ≡ true
+  listed-writing s h = sym (at-open l (k .table) (S .rows) (s .0) (listed-low (s .0) h)) ∙ open-is (s .0) ∙ has-nums (k .window) (s .0) ∙ h
+
+  writing-listed : (s : ℕ) → 2 * s + 1 < length (k .table)
+      → (not (writing (getD (k .table) (2 * s + 1) 0)) || listed (record { 0 = 0 + s }) (k .window)) ≡ true
+  writing-listed s h =
+      let i : s < l .slots = omega (arith, S .table-size) in
+      let z : 0 + s ≡ s = omega arith in
+      rw z (go (writing (getD (k .table) (2 * s + 1) 0)) (sym (at-open l (k .table) (S .rows) s i) ∙ open-is s ∙ has-nums (k .window) s))
+    where
+      go : (o : Bool) → o ≡ listed (record { 0 = s }) (k .window) → (not o || listed (record { 0 = s }) (k .window)) ≡ true
+      go true e = sym e
+      go false e = refl
+
+  agree-ready : agreeTest (phaseFor (k .recovering)) (k .table) (k .window) ≡ true
+  agree-ready =
+      rw (on, slots-of (λ s. writing (rowFlags (k .table) s)) (k .window) listed-writing)
+      (each-of (λ s block flags. not (writing flags) || listed (record { 0 = s }) (k .window)) 0 (k .table) writing-listed)
+
+  -- the tests of 3 to 6 fail
+  ready-record : recordTest (boxOfCore l k .state) ≡ true
+  ready-record = record-pass l k S W
+
+  ready-rows : rowsTest (boxOfCore l k .state) (k .table) ≡ true
+  ready-rows = rows-pass l k S W agree-ready
+
+  ready-phase : isReady (phaseFor (k .recovering)) ≡ true
+  ready-phase = rw on
+
+  pub view-judged : (b : Block) → b .0 < l .blocks → judged (view b) (boxOfCore l k) ≡ none
+  unfolding judged test
+  view-judged b h =
+      first-none (chain (view b)) (λ r. test r (view b) (boxOfCore l k))
+      (rw ready-record, (rw (length-pass l k S W), (rw ready-rows, (rw on, (lt-leb _ _ h, tt)))))
+
+  pub look-judged : (b : Block) → b .0 < l .blocks → judged (lookUp b) (boxOfCore l k) ≡ none
+  unfolding judged test
+  look-judged b h =
+      first-none (chain (lookUp b)) (λ r. test r (lookUp b) (boxOfCore l k))
+      (rw ready-record, (rw (length-pass l k S W), (rw ready-rows, (rw on, (lt-leb _ _ h, tt)))))
+
+  -- a flush has a stamp left
+  flush-left : k .unconfirmed ≡ true → k .newest < largestStamp
+  unfolding abs
+  flush-left u = omega (arith, R .budget, rw u at (R .short))
+
+  pub flush-judged : judged flush (boxOfCore l k) ≡ none
+  unfolding judged test plan
+  flush-judged =
+      first-none (chain flush) (λ r. test r flush (boxOfCore l k))
+      (rw ready-record, (rw (length-pass l k S W), (rw ready-rows, (rw on, (go (told (k .unconfirmed)), tt)))))
+    where
+      go : Told (k .unconfirmed) → (storesMeta (flushing (k .unconfirmed)) && leb largestStamp (k .newest)) ≡ false
+      go (told-true u) = rw (u, lt-leb _ _ (flush-left u))
+      go (told-false u) = rw u
+
+-- a mending box
+module _ (l : Label) (k : Core) (S : Shape l k) (p : Plain) (M : Mending (abs l k) p) (on : k .recovering ≡ true) where
+  pub pending-rule : Window (l .slots) (nums (k .window))
+  unfolding abs
+  pending-rule = rw (M .window) (M .images .swin-rule)
+
+  row-is : (s : ℕ) → rowAt (k .table) s ≡ revived (has (nums (k .window)) s) (abs l k .ent s)
+  unfolding abs
+  row-is s = M .rows s ∙ ap (λ (w : List ℕ). revived (has w s) (abs l k .ent s)) (sym (M .window))
+
+  pub some-pending : isEmpty (k .window) ≡ false
+  unfolding abs
+  some-pending = sym (empty-nums (k .window)) ∙ not-is (model.empty (nums (k .window))) (sym (M .phase) ∙ on)
+    where
+      not-is : (b : Bool) → not b ≡ true → b ≡ false
+      not-is true e = sym e
+      not-is false e = refl
+
+  pending-low : (s : ℕ) → listed (record { 0 = s }) (k .window) ≡ true → s < l .slots
+  unfolding abs
+  pending-low s h = M .images .in-range s (opn-valid (abs l k .ent s)
+      (M .images .stored-open s (ap (λ (w : List ℕ). has w s) (sym (M .window)) ∙ has-nums (k .window) s ∙ h)))
+
+  pending-free : (s : Slot) → listed s (k .window) ≡ true
+      → rowOf (getD (k .table) (2 * s .0) 0) (getD (k .table) (2 * s .0 + 1) 0 % 8) ≡ Row.free
+  unfolding rowAt
+  pending-free s h = row-is (s .0) ∙ ap (λ (b : Bool). revived b (abs l k .ent (s .0))) (has-nums (k .window) (s .0) ∙ h)
+
+  pending-zero : (s : Slot) → listed s (k .window) ≡ true → (eqb (rowBlock (k .table) s .0) 0 && eqb (rowFlags (k .table) s) 0) ≡ true
+  pending-zero s h =
+      let z = free-zero (S .rows (s .0) (pending-low (s .0) h)) (pending-free s h) in
+      rw (z .0, z .1)
+
+  pub shut-row : (s : ℕ) → opn (rowAt (k .table) s) ≡ false
+  shut-row s = ap opn (row-is s) ∙ go (has (nums (k .window)) s)
+    where
+      go : (h : Bool) → opn (revived h (abs l k .ent s)) ≡ false
+      go true = refl
+      go false = shut-opn (abs l k .ent s)
+
+  agree-mending : agreeTest (phaseFor (k .recovering)) (k .table) (k .window) ≡ true
+  agree-mending =
+      rw (on, some-pending, slots-of (λ s. eqb (rowBlock (k .table) s .0) 0 && eqb (rowFlags (k .table) s) 0) (k .window) pending-zero)
+      (each-of (λ s block flags. not (writing flags)) 0 (k .table)
+      (λ s h. rw (sym (at-open l (k .table) (S .rows) s (omega (arith, S .table-size))) ∙ shut-row s)))
+
+  pub mending-left : k .newest < largestStamp
+  unfolding abs
+  mending-left = omega (
+    arith,
+    M .images .budget,
+    M .stamps,
+    ap length (M .window),
+    some-length (k .window) some-pending,
+    length-nums (k .window),
+  )
+    where
+      some-length : (w : List Slot) → isEmpty w ≡ false → 0 < length w
+      some-length [] e = clash {b = true} refl e
+      some-length (s ∷ w) e = omega arith
+
+  pub step-judged : judged step (boxOfCore l k) ≡ none
+  unfolding judged test plan
+  step-judged =
+      first-none (chain step) (λ r. test r step (boxOfCore l k)) (
+        rw (record-pass l k S pending-rule),
+        (
+          rw (length-pass l k S pending-rule),
+          (rw (rows-pass l k S pending-rule agree-mending), (rw on, (rw (on, lt-leb _ _ mending-left), tt))),
+        ),
+      )

@@ -1,0 +1,251 @@
+-- Every event keeps the invariant.
+use Prim.Native.Nat.{ℕ, zero, suc, _+_, _-_, _*_, _≤_, _<_}
+use mathlib.Core.Path.{_≡_, refl, sym, ap, subst, _∙_}
+use mathlib.Core.Bool.{Bool, true, false, not, _&&_}
+use mathlib.Core.List.{List, [], _∷_}
+use mathlib.Core.Option.{Option, some, none}
+use native.Mathlib.Omega.{arith}
+use lib.ListN.{length}
+use lib.Dec.{leb, eqb}
+use borrow.Author.Tests.{leb-false, eqb-true, not-false}
+use Rattle.layout.specs.declared.Slot.{Slot}
+use Rattle.layout.specs.declared.Block.{Block}
+use Rattle.layout.specs.declared.Label.{Label}
+use mathlib.Core.Logic.{_⊎_, inl, inr}
+use Rattle.layout.specs.Places.{ssdLength, hddLength, tableLength}
+use Rattle.protocol.specs.Recovery.{labelAt}
+use Rattle.protocol.specs.Paper.{refused}
+use Rattle.protocol.specs.Box.{Images, Box, Store, Effect, Result, left, boxAfter, refusing, applied}
+use Rattle.protocol.specs.Condition.{conditionOf}
+use Rattle.protocol.specs.Plan.{Call, format, step, flush, reopen, offer, fetch, landFetch, lookUp, view, writeBack, land, plan}
+use Rattle.protocol.specs.Perform.{perform}
+use Rattle.protocol.specs.Judge.{Reason, wrongPhase, test, lengthTest, chain, judged, isReady}
+use Rattle.protocol.specs.Calls.{decided, effectOf, resultOf}
+use Rattle.protocol.specs.ReferenceDisk.{Disk}
+use Rattle.protocol.specs.Events.{World, Junk, Arrival, old, new, Event, call, reopens, cut, called, handed, takenIf, reopened, survived, made, struck, apply, run, CallFits, Fits, AllFit}
+use Rattle.protocol.proofs.model.Base.{Told, told, told-true, told-false, clash, and-left, and-right}
+use Rattle.protocol.proofs.model.Model as model
+use Rattle.protocol.proofs.model.Model.{Model, Plain, Stored, Mending}
+use Rattle.protocol.proofs.Judged.{NoneHold, none-hold}
+use Rattle.protocol.proofs.Conditions.{stands}
+use Rattle.protocol.proofs.ReadyCalls.{calledAs, called-as, refused-same, worldOf, stay-next, offer-next, fetch-next, land-next, landFetch-next, lookUp-next, writeBack-next, flush-next}
+use Rattle.protocol.proofs.Reopens.{label-is, reopen-judged}
+use Rattle.protocol.proofs.MendingCalls.{phased-stored, step-inv, reopen-inv}
+use Rattle.protocol.proofs.Abstract.{Core, phaseFor, boxOfCore, abs, ImagesKept, Shape, Agrees, Phased, is-ready, is-mending, Inv}
+
+-- a call that no reason refuses: none of its chain holds, and it answers what its plan says
+pub facts : (c : Call) (x : Box) → judged c x ≡ none → NoneHold (chain c) (λ r. test r c x)
+unfolding judged
+facts c x e = none-hold (chain c) (λ r. test r c x) e
+
+pub said-of : (c : Call) (x : Box) → judged c x ≡ none → refused (resultOf c x .said) ≡ refused (perform (plan c x) x .said)
+unfolding effectOf
+said-of c x e = ap (λ (o : Option Reason). refused (decided o c x .said)) e
+
+-- a format that is not refused does not fit a list
+no-format : {A : Type 0} (slots blocks : ℕ) (w : World) → CallFits (format slots blocks) w → judged (format slots blocks) (w .box) ≡ none
+    → A
+unfolding plan perform
+no-format slots blocks w f e = clash f (said-of (format slots blocks) (w .box) e)
+
+-- a mending box makes steps and reopenings alone
+pub data Mendable : Call → Type 0 where
+  steps : Mendable step
+  reopens-it : Mendable reopen
+
+pub mendable : (l : Label) (k : Core) (d : Disk) → k .recovering ≡ true → (c : Call) → CallFits c (worldOf l k d)
+    → judged c (boxOfCore l k) ≡ none → Mendable c
+unfolding test
+mendable l k d on (format slots blocks) f e = no-format slots blocks (worldOf l k d) f e
+mendable l k d on step f e = steps
+mendable l k d on reopen f e = reopens-it
+mendable l k d on flush f e = clash {b = true} refl (rw on at (facts flush (boxOfCore l k) e .1 .1 .1 .0))
+mendable l k d on (offer b) f e = clash {b = true} refl (rw on at (facts (offer b) (boxOfCore l k) e .1 .1 .1 .0))
+mendable l k d on (fetch b) f e = clash {b = true} refl (rw on at (facts (fetch b) (boxOfCore l k) e .1 .1 .1 .0))
+mendable l k d on (landFetch b) f e = clash {b = true} refl (rw on at (facts (landFetch b) (boxOfCore l k) e .1 .1 .1 .0))
+mendable l k d on (lookUp b) f e = clash {b = true} refl (rw on at (facts (lookUp b) (boxOfCore l k) e .1 .1 .1 .0))
+mendable l k d on (view b) f e = clash {b = true} refl (rw on at (facts (view b) (boxOfCore l k) e .1 .1 .1 .0))
+mendable l k d on (writeBack b) f e = clash {b = true} refl (rw on at (facts (writeBack b) (boxOfCore l k) e .1 .1 .1 .0))
+mendable l k d on (land b page) f e = clash {b = true} refl (rw on at (facts (land b page) (boxOfCore l k) e .1 .1 .1 .0))
+
+-- a call that is not refused
+module _ (l : Label) (k : Core) (S : Shape l k) (d : Disk) (p : Plain) (A : Agrees l d p) where
+  made-as : (c : Call) → judged c (boxOfCore l k) ≡ none
+      → called c (worldOf l k d) ≡ calledAs c (perform (plan c (boxOfCore l k)) (boxOfCore l k)) (worldOf l k d)
+  made-as c e = called-as c (worldOf l k d) ∙ ap (λ (o : Option Reason). calledAs c (decided o c (boxOfCore l k)) (worldOf l k d)) e
+
+  reopen-call : Stored (abs l k) p → Inv l (called reopen (worldOf l k d))
+  reopen-call St = reopen-inv l k p (S .images) St (boxOfCore l k) refl (S .table-size) d A
+
+  -- a ready box
+  module _ (R : model.Ready (abs l k) p) where
+    on : k .recovering ≡ false
+    on = unfold abs in R .phase
+
+    ready-call : (c : Call) → CallFits c (worldOf l k d) → judged c (boxOfCore l k) ≡ none → Inv l (called c (worldOf l k d))
+    unfolding test plan
+    ready-call (format slots blocks) f e = no-format slots blocks (worldOf l k d) f e
+    ready-call step f e = clash {b = true} refl (rw on at (facts step (boxOfCore l k) e .1 .1 .1 .0))
+    ready-call flush f e = rw (made-as flush e)
+        (flush-next l k S d p A R (k .unconfirmed) refl (facts flush (boxOfCore l k) e .1 .1 .1 .1 .0))
+    ready-call reopen f e = reopen-call (phased-stored (abs l k) p (is-ready R))
+    ready-call (offer b) f e =
+        let q = facts (offer b) (boxOfCore l k) e in
+        let t = q .1 .1 .1 .1 in
+        rw (made-as (offer b) e) (offer-next l k S d p A R b (leb-false _ _ (t .0)) (stands l (k .table) (S .table-size) b) (t .1 .0)
+        (t .1 .1 .0) (t .1 .1 .1 .1 .0))
+    ready-call (fetch b) f e =
+        let q = facts (fetch b) (boxOfCore l k) e in
+        let t = q .1 .1 .1 .1 in
+        rw (made-as (fetch b) e) (fetch-next l k S d p A R b (leb-false _ _ (t .0)) (stands l (k .table) (S .table-size) b)
+        (t .1 .1 .1 .0) (t .1 .1 .1 .1 .1 .0))
+    ready-call (landFetch b) f e =
+        let q = facts (landFetch b) (boxOfCore l k) e in
+        let t = q .1 .1 .1 .1 in
+        rw (made-as (landFetch b) e) (landFetch-next l k S d p A R b (leb-false _ _ (t .0)) (stands l (k .table) (S .table-size) b)
+        (not-false _ (t .1 .0)))
+    ready-call (lookUp b) f e = rw (made-as (lookUp b) e) (lookUp-next l k S d p A R b (stands l (k .table) (S .table-size) b))
+    ready-call (view b) f e = rw (made-as (view b) e) (stay-next l k S d p A R (view b) _ p refl refl A R)
+    ready-call (writeBack b) f e = rw (made-as (writeBack b) e) (writeBack-next l k S d p A R b (stands l (k .table) (S .table-size) b))
+    ready-call (land b page) f e =
+        let q = facts (land b page) (boxOfCore l k) e in
+        let t = q .1 .1 .1 .1 in
+        let size : length page ≡ 4096 = eqb-true _ _
+        (and-right (lengthTest l (record { ssd = k .ssd; hdd = k .hdd }) (k .table)) (eqb (length page) 4096) (not-false _ (q .1 .0)))
+        in
+        rw (made-as (land b page) e) (land-next l k S d p A R b page (leb-false _ _ (t .0)) size (stands l (k .table) (S .table-size) b)
+        (not-false _ (t .1 .0)))
+
+  -- a mending box
+  module _ (M : Mending (abs l k) p) (on : k .recovering ≡ true) where
+    mending-call : (c : Call) → CallFits c (worldOf l k d) → judged c (boxOfCore l k) ≡ none → Inv l (called c (worldOf l k d))
+    mending-call c f e = go (mendable l k d on c f e)
+      where
+        go : {c : Call} → Mendable c → Inv l (called c (worldOf l k d))
+        go steps = step-inv l k S p M on d A
+        go reopens-it = reopen-call (M .images)
+
+-- what holds of a reachable world is shown of its core
+pub at-core {ℓ} : {l : Label} {w : World} (Q : World → Type ℓ) (I : Inv l w) → Q (worldOf l (I .core) (w .disk)) → Q w
+at-core {w = w} Q I h = subst (λ (x : Box). Q (record { box = x; disk = w .disk })) (sym (I .is-core)) h
+
+pub to-core {ℓ} : {l : Label} {w : World} (Q : World → Type ℓ) (I : Inv l w) → Q w → Q (worldOf l (I .core) (w .disk))
+to-core {w = w} Q I h = subst (λ (x : Box). Q (record { box = x; disk = w .disk })) (I .is-core) h
+
+-- the invariant of the core's own world
+pub core-inv : {l : Label} {w : World} (I : Inv l w) → Inv l (worldOf l (I .core) (w .disk))
+core-inv I = record { core = I .core; is-core = refl; shape = I .shape; plain = I .plain; agrees = I .agrees; phased = I .phased }
+
+pub call-inv : (l : Label) (c : Call) (w : World) → CallFits c w → Inv l w → Inv l (called c w)
+call-inv l c w f I = at-core (λ v. CallFits c v → Inv l (called c v)) I go f
+  where
+    by : (o : Option Reason) → judged c (boxOfCore l (I .core)) ≡ o → CallFits c (worldOf l (I .core) (w .disk))
+        → Inv l (called c (worldOf l (I .core) (w .disk)))
+    by (some r) e g = rw (refused-same c (worldOf l (I .core) (w .disk)) r e) (core-inv I)
+    by none e g = phase (I .phased)
+      where
+        phase : Phased (abs l (I .core)) (I .plain) → Inv l (called c (worldOf l (I .core) (w .disk)))
+        phase (is-ready R) = ready-call l (I .core) (I .shape) (w .disk) (I .plain) (I .agrees) R c g e
+        phase (is-mending on M) = mending-call l (I .core) (I .shape) (w .disk) (I .plain) (I .agrees) M (unfold abs in on) c g e
+
+    go : CallFits c (worldOf l (I .core) (w .disk)) → Inv l (called c (worldOf l (I .core) (w .disk)))
+    go g = by (judged c (boxOfCore l (I .core))) refl g
+
+-- a reopening that is not refused was handed a table of the right length
+module _ (l : Label) (k : Core) (p : Plain) (K : ImagesKept l (k .ssd) (k .hdd)) (St : Stored (abs l k) p) (x : Box)
+    (im : x .images ≡ record { ssd = k .ssd; hdd = k .hdd }) where
+  label-there : labelAt (x .images .ssd) ≡ l
+  label-there = ap (λ (i : Images). labelAt (i .ssd)) im ∙ label-is l k p K St
+
+  table-judged : judged reopen x ≡ none → length (x .table) ≡ tableLength l
+  unfolding judged test lengthTest
+  table-judged e =
+      let q = none-hold (chain reopen) (λ r. test r reopen x) e .1 .0 in
+      let a = labelAt (x .images .ssd) in
+      let i = eqb (length (x .images .ssd)) (ssdLength a) in
+      let j = eqb (length (x .images .hdd)) (hddLength a) in
+      let t = eqb (length (x .table)) (tableLength a) in
+      let r : t ≡ true = and-right j t (and-right i (j && t) (and-left (i && (j && t)) true (not-false _ q))) in
+      eqb-true _ _ r ∙ ap tableLength label-there
+
+  pub table-right : refused (resultOf reopen x .said) ≡ false → length (x .table) ≡ tableLength l
+  unfolding effectOf
+  table-right f = go (judged reopen x) refl
+    where
+      go : (o : Option Reason) → judged reopen x ≡ o → length (x .table) ≡ tableLength l
+      go (some r) e = clash {b = refused (decided (judged reopen x) reopen x .said)} (rw e) f
+      go none e = table-judged e
+
+  pub reopen-taken : length (x .table) ≡ tableLength l → refused (resultOf reopen x .said) ≡ false
+  unfolding effectOf plan
+  reopen-taken h = ap (λ (o : Option Reason). refused (decided o reopen x .said)) (reopen-judged l k p K St x im h)
+      ∙ (unfold perform in refl)
+
+-- the box of a reachable world with another table and record
+pub handed-images : {l : Label} {w : World} (I : Inv l w) (j : Junk)
+    → handed j (w .box) .images ≡ record { ssd = I .core .ssd; hdd = I .core .hdd }
+handed-images I j = ap (λ (x : Box). x .images) (I .is-core)
+
+pub inv-stored : {l : Label} {w : World} (I : Inv l w) → Stored (abs l (I .core)) (I .plain)
+inv-stored {l} I = phased-stored (abs l (I .core)) (I .plain) (I .phased)
+
+-- a reopening with any table and record
+pub taken-inv : (l : Label) (j : Junk) (w : World) (I : Inv l w) → length (j .table) ≡ tableLength l
+    → Inv l (called reopen (record { box = handed j (w .box); disk = w .disk }))
+taken-inv l j w I h = reopen-inv l (I .core) (I .plain) (I .shape .images) (inv-stored I) (handed j (w .box)) (handed-images I j) h
+    (w .disk) (I .agrees)
+
+pub reopened-inv : (l : Label) (j : Junk) (w : World) → Inv l w → Inv l (reopened j w)
+unfolding reopened
+reopened-inv l j w I = go (refused (resultOf reopen (handed j (w .box)) .said)) refl
+  where
+    go : (r : Bool) → refused (resultOf reopen (handed j (w .box)) .said) ≡ r
+        → Inv l (takenIf r w (called reopen (record { box = handed j (w .box); disk = w .disk })))
+    go true e = I
+    go false e = taken-inv l j w I (table-right l (I .core) (I .plain) (I .shape .images) (inv-stored I) (handed j (w .box))
+        (handed-images I j) e)
+
+-- what a cut leaves is the world before the call, or after it
+pub struck-or : (c : Call) (a : Arrival) (w : World) → (struck c a w ≡ called c w) ⊎ (struck c a w ≡ w)
+unfolding struck
+struck-or c old w = inr refl
+struck-or c new w = go (effectOf c (w .box) .store) refl
+  where
+    at-store : Option Store → World
+    at-store o = let v = takenIf (made new o) (called c w) w in
+        record { box = record { images = survived new o (w .box .images); table = v .box .table; state = v .box .state }; disk = v .disk }
+
+    images-are : called c w .box .images ≡ applied (effectOf c (w .box) .store) (w .box .images)
+    images-are = unfold called in refl
+
+    go : (o : Option Store) → effectOf c (w .box) .store ≡ o
+        → (at-store (effectOf c (w .box) .store) ≡ called c w) ⊎ (at-store (effectOf c (w .box) .store) ≡ w)
+    go none e = inr (ap at-store e)
+    go (some s) e =
+        inl
+        (ap at-store e
+        ∙ (λ i. record {
+          box = record {
+            images = (ap (λ (o : Option Store). applied o (w .box .images)) (sym e) ∙ sym images-are) i;
+            table = called c w .box .table;
+            state = called c w .box .state;
+          };
+          disk = called c w .disk;
+        }))
+
+pub struck-inv : (l : Label) (c : Call) (a : Arrival) (w : World) → CallFits c w → Inv l w → Inv l (struck c a w)
+struck-inv l c a w f I = go (struck-or c a w)
+  where
+    go : (struck c a w ≡ called c w) ⊎ (struck c a w ≡ w) → Inv l (struck c a w)
+    go (inl e) = rw e (call-inv l c w f I)
+    go (inr e) = rw e I
+
+pub apply-inv : (l : Label) (e : Event) (w : World) → Fits l e w → Inv l w → Inv l (apply e w)
+apply-inv l (call c) w f I = call-inv l c w f I
+apply-inv l (reopens j) w f I = reopened-inv l j w I
+apply-inv l (cut c a j) w f I = reopened-inv l j (struck c a w) (struck-inv l c a w (f .0) I)
+
+pub run-inv : (l : Label) (es : List Event) (w : World) → AllFit l es w → Inv l w → Inv l (run es w)
+unfolding run
+run-inv l [] w f I = I
+run-inv l (e ∷ es) w f I = run-inv l es (apply e w) (f .1) (apply-inv l e w (f .0) I)

@@ -1,0 +1,141 @@
+-- A mending step: the images keep what they promised, and the table stays what the reopening made.
+use Prim.Native.Nat.{ℕ, zero, suc, _+_, _≤_, _<_}
+use mathlib.Core.Path.{_≡_, refl, sym, ap, subst, _∙_}
+use mathlib.Core.Logic.{_≢_}
+use mathlib.Core.Bool.{Bool, true, false, cond, not, _&&_, _||_}
+use mathlib.Core.List.{List, [], _∷_, _++_, List·Memᴰ, List·Memᴰ·head, Memᴰ·cast}
+use mathlib.Core.Option.{Option, some, none}
+use native.Mathlib.Omega.{arith}
+use native.Mathlib.Decide.{ℕ-discrete}
+use lib.ListN.{length, length-append}
+use lib.Dec.{eqb}
+use Rattle.protocol.proofs.model.Base.{keep-window, has, metaNo, off, keep, has-keep-in, has-keep-out, length-keep, length-keep-lt, Told, told, told-true, told-false, clash, eqb-same, eqb-is}
+use Rattle.protocol.proofs.model.Model.{Row, valid, dty, opn, blk, shut, revived, Model, Plain, Page, Ready, Stored, Mending, reopened, mended}
+use Rattle.protocol.proofs.model.Rows.{dty-valid, shut-valid, shut-blk, shut-dty, shut-opn, shut-shut}
+
+-- a reopening leaves a mending box (or, with nothing pending, what Reopened calls finished)
+pub reopened-mending : (x : Model) (p : Plain) → Stored x p → Mending (reopened x) p
+unfolding reopened
+reopened-mending x p S =
+    record {
+      images = record {
+        in-range = S .in-range;
+        in-blocks = S .in-blocks;
+        swin-rule = S .swin-rule;
+        once = S .once;
+        stored-open = S .stored-open;
+        kept = S .kept;
+        kept-clean = S .kept-clean;
+        loose = S .loose;
+        may-page = S .may-page;
+        budget = S .budget;
+      };
+      rows = λ s. refl;
+      window = refl;
+      stamps = refl;
+      settled = refl;
+      phase = refl;
+    }
+
+module _ (x : Model) (p : Plain) (M : Mending x p) (q s₀ : ℕ) (pending : has (x .win) s₀ ≡ true) (on-page : metaNo s₀ ≡ q) where
+  S : Stored x p
+  S = M .images
+
+  here : (t : ℕ) → eqb (metaNo t) q ≡ true → has (off q (x .win)) t ≡ false
+  here t e = has-keep-out _ (x .win) t (rw e)
+
+  away : (t : ℕ) → eqb (metaNo t) q ≡ false → has (off q (x .win)) t ≡ has (x .swin) t
+  away t e = has-keep-in _ (x .win) t (rw e) ∙ ap (λ w. has w t) (M .window)
+
+  ent′ : ℕ → Row
+  ent′ t = cond (eqb (metaNo t) q) (x .row t) (x .ent t)
+
+  ent-here : (t : ℕ) → eqb (metaNo t) q ≡ true → ent′ t ≡ revived (has (x .swin) t) (x .ent t)
+  unfolding ent′
+  ent-here t e = rw e (M .rows t)
+
+  ent-away : (t : ℕ) → eqb (metaNo t) q ≡ false → ent′ t ≡ x .ent t
+  unfolding ent′
+  ent-away t e = rw e
+
+  -- an entry that is still valid
+  record Was (t : ℕ) : Type 0 where
+    held : valid (x .ent t) ≡ true
+    same : blk (ent′ t) ≡ blk (x .ent t)
+    also : dty (ent′ t) ≡ dty (x .ent t)
+    left : has (off q (x .win)) t ≡ false → has (x .swin) t ≡ false
+
+  was : (t : ℕ) → valid (ent′ t) ≡ true → Was t
+  was t v = go (told (eqb (metaNo t) q)) (told (has (x .swin) t))
+    where
+      go : Told (eqb (metaNo t) q) → Told (has (x .swin) t) → Was t
+      go (told-true e) (told-true h) = clash refl (sym (rw (ent-here t e, h) at v))
+      go (told-true e) (told-false h) =
+          let f : ent′ t ≡ shut (x .ent t) = rw (ent-here t e, h) in
+          record {
+            held = sym (shut-valid (x .ent t))
+                ∙ (rw f at v);
+            same = rw f (shut-blk (x .ent t));
+            also = rw f (shut-dty (x .ent t));
+            left = λ _. h;
+          }
+      go (told-false e) h =
+          record { held = rw (ent-away t e) at v; same = rw (ent-away t e); also = rw (ent-away t e); left = λ k. sym (away t e) ∙ k }
+
+  -- a kept entry stays
+  stays : (t : ℕ) → valid (x .ent t) ≡ true → has (x .swin) t ≡ false
+      → (valid (ent′ t) ≡ true) × (has (off q (x .win)) t ≡ false) × (blk (ent′ t) ≡ blk (x .ent t))
+  stays t v h = go (told (eqb (metaNo t) q))
+    where
+      go : Told (eqb (metaNo t) q) → (valid (ent′ t) ≡ true) × (has (off q (x .win)) t ≡ false) × (blk (ent′ t) ≡ blk (x .ent t))
+      go (told-true e) =
+          let f : ent′ t ≡ shut (x .ent t) = rw (ent-here t e, h) in
+          (rw f (shut-valid (x .ent t) ∙ v), here t e, rw f (shut-blk (x .ent t)))
+      go (told-false e) = (rw (ent-away t e) v, away t e ∙ h, rw (ent-away t e))
+
+  mended-open : (t : ℕ) → has (off q (x .win)) t ≡ true → opn (ent′ t) ≡ true
+  mended-open t h = go (told (eqb (metaNo t) q))
+    where
+      go : Told (eqb (metaNo t) q) → opn (ent′ t) ≡ true
+      go (told-true e) = clash h (here t e)
+      go (told-false e) = rw (ent-away t e) (S .stored-open t (sym (away t e) ∙ h))
+
+  mended-rows : (t : ℕ) → x .row t ≡ revived (has (off q (x .win)) t) (ent′ t)
+  mended-rows t = go (told (eqb (metaNo t) q))
+    where
+      go : Told (eqb (metaNo t) q) → x .row t ≡ revived (has (off q (x .win)) t) (ent′ t)
+      go (told-true e) = rw (here t e, ent-here t e, M .rows t) (again (has (x .swin) t))
+        where
+          again : (b : Bool) → revived b (x .ent t) ≡ shut (revived b (x .ent t))
+          again true = refl
+          again false = sym (shut-shut (x .ent t))
+      go (told-false e) = rw (away t e, ent-away t e) (M .rows t)
+
+  pub mended-mending : Mending (mended q x) p
+  unfolding mended ent′
+  mended-mending =
+      record {
+        images = record {
+          in-range = λ t v. S .in-range t (was t v .held);
+          in-blocks = λ t v. rw (was t v .same) (S .in-blocks t (was t v .held));
+          swin-rule = keep-window _ (x .slots) (x .win) (rw (M .window) (S .swin-rule));
+          once = λ t u v w e. S .once t u (was t v .held) (was u w .held) (sym (was t v .same) ∙ e ∙ was u w .same);
+          stored-open = mended-open;
+          kept = λ t v h. rw (was t v .same) (S .kept t (was t v .held) (was t v .left h));
+          kept-clean = λ t v h d. rw (was t v .same) (S .kept-clean t (was t v .held) (was t v .left h) (sym (was t v .also) ∙ d));
+          loose = λ b k. S .loose b λ t v h e. k t (stays t v h .0) (stays t v h .1) (stays t v h .2 ∙ e);
+          may-page = S .may-page;
+          budget = omega (
+            arith,
+            S .budget,
+            M .stamps,
+            ap length (M .window),
+            length-keep-lt (λ t. not (eqb (metaNo t) q)) (x .win) s₀ pending (rw (on-page, eqb-same q)),
+          );
+        };
+        rows = mended-rows;
+        window = refl;
+        stamps = refl;
+        settled = refl;
+        phase = refl;
+      }

@@ -1,0 +1,115 @@
+-- What holds beside demand 3.
+use Prim.Native.Nat.{ℕ, zero, suc, _+_, _*_, _%_, _≤_, _<_}
+use mathlib.Core.Path.{_≡_}
+use mathlib.Core.Logic.{_≢_}
+use mathlib.Core.Bool.{Bool, true, false}
+use mathlib.Core.List.{List}
+use mathlib.Core.Option.{Option, some, none}
+use lib.ListN.{getD}
+use Rattle.layout.specs.declared.Slot.{Slot}
+use Rattle.layout.specs.declared.Block.{Block}
+use Rattle.layout.specs.declared.Label.{Label}
+use Rattle.layout.specs.declared.Entry.{Entry}
+use Rattle.layout.specs.Places.{labelOf, formatSteps, metaPages, metaPlace, slotOn}
+use Rattle.layout.specs.MetaPage.{stampOf, windowOf, entryAt}
+use Rattle.layout.specs.PageRule.{PageRule, listed}
+use Rattle.protocol.specs.declared.Record.{Record}
+use Rattle.protocol.specs.declared.Phase.{Phase}
+use Rattle.protocol.specs.declared.Phase.the-variants.{Formatting, Recovering, Ready}
+use Rattle.protocol.specs.declared.Condition.{Condition}
+use Rattle.protocol.specs.declared.Condition.the-variants.{NotCached, Clean, Dirty, Writing, Fetching}
+use Rattle.protocol.specs.Paper.{refused, copiedOut, done}
+use Rattle.protocol.specs.Rows.{rowBlock, rowFlags, valid, dirty, writing, labelIn, windowIn}
+use Rattle.protocol.specs.Box.{Images, Box, ssdImage, Store, Effect, refusing, boxAfter}
+use Rattle.protocol.specs.Condition.{conditionOf}
+use Rattle.protocol.specs.Plan.{Call, format, step, reopen, offer, land, landFetch}
+use Rattle.protocol.specs.Recovery.{labelAt, metasOf, entryIn, Recovered, recoverFrom}
+use Rattle.protocol.specs.Judge.{Reason, noLabel, wrongLength, test, isReady}
+use Rattle.protocol.specs.Calls.{effectOf, resultOf}
+use Rattle.protocol.specs.Events.{World, Event, run, steps, formatted, startOf, AllFit}
+use Rattle.protocol.specs.Demand3.{storedWindow}
+
+-- On any images, table and record.
+
+-- "Each call stores at most one page" is the type of an effect's store. A whole format stores M + 2: none as it begins, and
+-- one at each step.
+pub record FormatStores (slots blocks : ℕ) (x : Box) : Type 0 where
+  pub none-first : effectOf (format slots blocks) x .store ≡ none
+  pub one-each : (k : ℕ) → k < formatSteps (labelOf slots blocks)
+      → (s : Store) × (effectOf step (steps k (boxAfter (resultOf (format slots blocks) x))) .store ≡ some s)
+
+abbrev pub WholeFormat : Type 0
+WholeFormat = (slots blocks : ℕ) (x : Box) → refused (resultOf (format slots blocks) x .said) ≡ false → FormatStores slots blocks x
+
+-- the stamp that a metadata page is stored with: 0 while formatting, else the newest
+abbrev pub stampStored : Phase → ℕ → ℕ
+stampStored (Formatting d) newest = 0
+stampStored Recovering newest = newest
+stampStored Ready newest = newest
+
+-- a metadata page that an accepted call stores keeps the page's rule, and says the table's rows without used flags, the
+-- window and the stamp, as they are after the call
+pub record MetaStored (l : Label) (p : ℕ) (bytes : List ℕ) (before : Phase) (state : Record) (table : List ℕ) : Type 0 where
+  pub legal : PageRule l p bytes
+  pub stamp : stampOf bytes ≡ stampStored before (state .newest)
+  pub window : windowOf bytes ≡ windowIn state
+  pub entries : (i : ℕ) → i < 240
+      → entryAt bytes i ≡ record { block = rowBlock table (slotOn p i); flags = rowFlags table (slotOn p i) % 8 }
+
+abbrev pub StoresLegally : Call → Box → Type 0
+StoresLegally c x =
+    refused (resultOf c x .said) ≡ false
+    → (s : Store) → effectOf c x .store ≡ some s → s .image ≡ ssdImage
+    → (p : ℕ) → p < metaPages (labelIn (x .state)) → s .place ≡ metaPlace (labelIn (x .state)) p
+    → MetaStored (labelIn (x .state)) p (s .bytes) (x .state .phase) (resultOf c x .state) (resultOf c x .table)
+
+-- "An offer repeated with nothing in between is never "copied out" a second time running"
+abbrev pub CopiesOnce : Block → Box → Type 0
+CopiesOnce b x = resultOf (offer b) x .said ≡ copiedOut → resultOf (offer b) (boxAfter (resultOf (offer b) x)) .said ≢ copiedOut
+
+-- "Mending takes at most 63 steps": a box that is still mending after k steps, none of them refused, has made fewer than 63
+abbrev pub MendsSoon : Box → Type 0
+MendsSoon x =
+    (k : ℕ) → ((j : ℕ) → j ≤ k → refused (resultOf step (steps j x) .said) ≡ false)
+    → ((j : ℕ) → j ≤ k → steps j x .state .phase ≡ Recovering) → k < 63
+
+-- A reopening after 2 and 4 is `recoverFrom` of the label and the metadata pages: nothing is 5.
+abbrev pub recoveredTo : Box → Option Recovered → Effect
+recoveredTo x none = refusing 5 x
+recoveredTo x (some r) = record { said = done; state = r .state; table = r .table; store = none }
+
+abbrev pub ReopensFrom : Box → Type 0
+ReopensFrom x =
+    test noLabel reopen x ≡ false → test wrongLength reopen x ≡ false
+    → effectOf reopen x ≡ recoveredTo x (recoverFrom (labelAt (x .images .ssd)) (metasOf (labelAt (x .images .ssd)) (x .images .ssd)))
+
+-- In a list of demand 3, update before data: what is stored of a slot as bytes land in it.
+
+-- an open slot: its stored entry is valid, writing and for the block, and the newest stored window names it
+pub record Announced (l : Label) (im : Images) (b : Block) (s : Slot) : Type 0 where
+  pub valid-entry : valid (entryIn (metasOf l (im .ssd)) s .flags) ≡ true
+  pub writing-entry : writing (entryIn (metasOf l (im .ssd)) s .flags) ≡ true
+  pub block : entryIn (metasOf l (im .ssd)) s .block .0 ≡ b .0
+  pub in-window : listed s (storedWindow l im) ≡ true
+
+-- a closed dirty slot: its stored entry is valid, dirty and for the block
+pub record StoredDirty (l : Label) (im : Images) (b : Block) (s : Slot) : Type 0 where
+  pub valid-entry : valid (entryIn (metasOf l (im .ssd)) s .flags) ≡ true
+  pub dirty-entry : dirty (entryIn (metasOf l (im .ssd)) s .flags) ≡ true
+  pub block : entryIn (metasOf l (im .ssd)) s .block .0 ≡ b .0
+
+pub record UpdateFirst (l : Label) (w : World) : Type 0 where
+  pub land-open : (b : Block) (page : List ℕ) → refused (resultOf (land b page) (w .box) .said) ≡ false
+      → (s : Slot) → conditionOf (w .box .table) b ≡ Writing s → Announced l (w .box .images) b s
+  pub land-closed : (b : Block) (page : List ℕ) → refused (resultOf (land b page) (w .box) .said) ≡ false
+      → (s : Slot) → conditionOf (w .box .table) b ≡ Dirty s → StoredDirty l (w .box .images) b s
+  pub fetch-open : (b : Block) → refused (resultOf (landFetch b) (w .box) .said) ≡ false
+      → (s : Slot) → conditionOf (w .box .table) b ≡ Fetching s → Announced l (w .box .images) b s
+
+abbrev pub UpdateBeforeData : Type 0
+UpdateBeforeData =
+    (slots blocks : ℕ) (x : Box)
+    → refused (resultOf (format slots blocks) x .said) ≡ false
+    → (es : List Event)
+    → AllFit (labelOf slots blocks) es (startOf (labelOf slots blocks) (formatted slots blocks x))
+    → UpdateFirst (labelOf slots blocks) (run es (startOf (labelOf slots blocks) (formatted slots blocks x)))

@@ -1,0 +1,39 @@
+-- A block's condition, on which every call rests: not cached, clean, dirty, open for writing, open for fetch.
+use Prim.Native.Nat.{ℕ, suc}
+use mathlib.Core.Bool.{Bool, true, false, cond, _&&_}
+use mathlib.Core.List.{List, [], _∷_}
+use mathlib.Core.Option.{Option, some, none}
+use lib.Dec.{eqb}
+use Rattle.layout.specs.declared.Slot.{Slot}
+use Rattle.layout.specs.declared.Block.{Block}
+use Rattle.protocol.specs.declared.Condition.{Condition}
+use Rattle.protocol.specs.declared.Condition.the-variants.{NotCached, Clean, Dirty, Writing, Fetching}
+use Rattle.protocol.specs.Rows.{rowFlags, valid, dirty, writing}
+
+-- the lowest slot from s on whose row is valid and for the block, in the rows from s on ("a block in two rows .. its
+-- lowest slot counts")
+unfoldable pub slotFrom : ℕ → List ℕ → Block → Option Slot
+slotFrom s [] b = none
+slotFrom s (block ∷ []) b = none
+slotFrom s (block ∷ flags ∷ rows) b =
+    elim (valid flags && eqb block (b .0)) [ true ↦ some (record { 0 = s }) | false ↦ slotFrom (suc s) rows b ]
+
+abbrev pub slotOf : List ℕ → Block → Option Slot
+slotOf table b = slotFrom 0 table b
+
+-- what a valid row's flags make of it: 7 and 15 are open for writing, 5 and 13 open for fetch, 3 and 11 dirty, 1 and 9 clean
+abbrev pub openAs : Bool → Slot → Condition
+openAs true s = Writing s
+openAs false s = Fetching s
+
+abbrev pub closedAs : Bool → Slot → Condition
+closedAs true s = Dirty s
+closedAs false s = Clean s
+
+abbrev pub conditionAt : List ℕ → Option Slot → Condition
+conditionAt table none = NotCached
+conditionAt table (some s) =
+    elim (writing (rowFlags table s)) [ true ↦ openAs (dirty (rowFlags table s)) s | false ↦ closedAs (dirty (rowFlags table s)) s ]
+
+unfoldable pub conditionOf : List ℕ → Block → Condition
+conditionOf table b = conditionAt table (slotOf table b)

@@ -1,0 +1,159 @@
+-- Demand 3: the claim about every list of calls, cuts and reopenings.
+use Prim.Native.Nat.{ℕ, zero, suc, _≤_, _<_}
+use mathlib.Core.Path.{_≡_}
+use mathlib.Core.Logic.{_≢_}
+use mathlib.Core.Bool.{Bool, true, false, not, _&&_}
+use mathlib.Core.List.{List, [], _∷_}
+use mathlib.Core.Option.{Option, some, none}
+use lib.ListN.{length}
+use lib.Dec.{eqb}
+use Rattle.pages.specs.Pages.{pageAt}
+use Rattle.layout.specs.declared.Slot.{Slot}
+use Rattle.layout.specs.declared.Block.{Block}
+use Rattle.layout.specs.declared.Label.{Label}
+use Rattle.layout.specs.Places.{withinLimits, labelOf, dataPlace, blockPlace, ssdLength, hddLength, tableLength}
+use Rattle.layout.specs.PageRule.{listed}
+use Rattle.protocol.specs.declared.Record.{Record}
+use Rattle.protocol.specs.declared.Phase.{Phase}
+use Rattle.protocol.specs.declared.Phase.the-variants.{Formatting, Recovering, Ready}
+use Rattle.protocol.specs.Paper.{Paper, refusal, answer, refused, inSlot}
+use Rattle.protocol.specs.Rows.{rowBlock, rowFlags, valid, dirty, writing, labelIn}
+use Rattle.protocol.specs.Box.{Images, Box, Result, boxAfter}
+use Rattle.protocol.specs.Condition.{slotOf}
+use Rattle.protocol.specs.Plan.{Call, format, step, flush, reopen, lookUp}
+use Rattle.protocol.specs.Recovery.{metasOf, entryIn, newestOf, storedRows}
+use Rattle.protocol.specs.Judge.{isReady}
+use Rattle.protocol.specs.Calls.{resultOf, viewOf}
+use Rattle.protocol.specs.ReferenceDisk.{Disk, MayBe}
+use Rattle.protocol.specs.Events.{World, Junk, Arrival, Event, call, reopens, cut, called, handed, reopened, struck, lent, readOf, finished, apply, run, steps, formatted, startOf, AllFit, Fits}
+
+-- the newest stored window: "the largest stamp's"
+abbrev pub storedWindow : Label → Images → List Slot
+storedWindow l im = newestOf (metasOf l (im .ssd)) .window
+
+-- "A block is outside the newest stored window .. if no slot in it has an entry for that block"
+abbrev pub Outside : Label → Images → Block → Type 0
+Outside l im b = (s : Slot) → listed s (storedWindow l im) ≡ true → entryIn (metasOf l (im .ssd)) s .block .0 ≢ b .0
+
+-- the same, as a test
+unfoldable pub inWindow : List (List ℕ) → List Slot → Block → Bool
+inWindow pages [] b = false
+inWindow pages (s ∷ w) b = elim (eqb (entryIn pages s .block .0) (b .0)) [ true ↦ true | false ↦ inWindow pages w b ]
+
+-- a block's slot and page
+pub record Place : Type 0 where
+  pub slot : Option Slot
+  pub page : List ℕ
+
+-- the slot that a look-up names
+abbrev pub slotSaid : Paper → Option Slot
+slotSaid (refusal n) = none
+slotSaid (answer n []) = none
+slotSaid (answer n (s ∷ w)) = some s
+
+-- "those of its valid entry if it is outside and has one, else none and its HDD page"
+abbrev pub entryPlace : Label → Images → Block → Option Slot → Place
+entryPlace l im b none = record { slot = none; page = pageAt (im .hdd) (blockPlace l b) }
+entryPlace l im b (some s) = record { slot = some s; page = pageAt (im .ssd) (dataPlace l s) }
+
+abbrev pub storedSlot : Bool → Label → Images → Block → Option Slot
+storedSlot true l im b = none
+storedSlot false l im b = slotOf (storedRows l (metasOf l (im .ssd))) b
+
+-- where a block is: of a ready box, the look-up's slot and the view's page; from a cut, or the start of a reopening, till
+-- a reopening is finished, as the stored entries say
+abbrev pub placeIf : Bool → Label → Box → Block → Place
+placeIf true l x b = record { slot = slotSaid (resultOf (lookUp b) x .said); page = readOf x b }
+placeIf false l x b = entryPlace l (x .images) b
+    (storedSlot (inWindow (metasOf l (x .images .ssd)) (storedWindow l (x .images)) b) l (x .images) b)
+
+unfoldable pub place : Label → Box → Block → Place
+place l x b = placeIf (isReady (x .state .phase)) l x b
+
+-- the events that reopen, with a table of the right length
+pub data Reopening (l : Label) : Event → Type 0 where
+  own : Reopening l (call reopen)
+  whole : (j : Junk) → length (j .table) ≡ tableLength l → Reopening l (reopens j)
+  broken : (c : Call) (a : Arrival) (j : Junk) → length (j .table) ≡ tableLength l → Reopening l (cut c a j)
+
+-- the world just before: of a cut, after the broken-off call if that counts as made
+abbrev pub before : Event → World → World
+before (call c) w = w
+before (reopens j) w = w
+before (cut c a j) w = struck c a w
+
+-- the box that is reopened then
+abbrev pub reopenedBox : Event → World → Box
+reopenedBox (call c) w = w .box
+reopenedBox (reopens j) w = handed j (w .box)
+reopenedBox (cut c a j) w = handed j (struck c a w .box)
+
+-- the events that finish a reopening
+abbrev pub finishes : Event → World → Bool
+finishes (call c) w = finished c (resultOf c (w .box))
+finishes (reopens j) w = finished reopen (resultOf reopen (reopenedBox (reopens j) w))
+finishes (cut c a j) w = finished reopen (resultOf reopen (reopenedBox (cut c a j) w))
+
+-- no reopening is finished before the last of these events
+abbrev pub NotYet : List Event → World → Type 0
+NotYet [] w = Unit {0}
+NotYet (e ∷ es) w = (isReady (w .box .state .phase) ≡ false) × NotYet es (apply e w)
+
+-- the row of a slot is back: "that reopening puts its row, if any, back at once"
+pub record Back (l : Label) (x : Box) (b : Block) (s : Slot) : Type 0 where
+  pub valid-row : valid (rowFlags (x .table) s) ≡ true
+  pub block : rowBlock (x .table) s .0 ≡ b .0
+  pub stored-dirty : dirty (rowFlags (x .table) s) ≡ dirty (entryIn (metasOf l (x .images .ssd)) s .flags)
+  pub closed : writing (rowFlags (x .table) s) ≡ false
+
+-- so directly after every reopening among these events
+abbrev pub BackAfter : Label → Event → Block → Slot → World → Type 0
+BackAfter l e b s w = Reopening l e → Back l (apply e w .box) b s
+
+abbrev pub AllBack : Label → List Event → Block → Slot → World → Type 0
+AllBack l [] b s w = Unit {0}
+AllBack l (e ∷ es) b s w = BackAfter l e b s w × AllBack l es b s (apply e w)
+
+-- "Mending takes at most 63 steps", none is refused, and they end ready
+pub record Mends (x : Box) : Type 0 where
+  pub number : ℕ
+  pub most : number ≤ 63
+  pub none-refused : (k : ℕ) → k < number → refused (resultOf step (steps k x) .said) ≡ false
+  pub ends : isReady (steps number x .state .phase) ≡ true
+
+-- a block outside the newest stored window just before an event e that reopens, through the events es after it
+pub record Kept (l : Label) (e : Event) (es : List Event) (b : Block) (w : World) : Type 0 where
+  pub place-kept : place l (run es (apply e w) .box) b ≡ place l (before e w .box) b
+  pub row-back : (s : Slot) → place l (before e w .box) b .slot ≡ some s → Back l (apply e w .box) b s × AllBack l es b s (apply e w)
+
+-- what holds after every list
+pub record Safe (l : Label) (w : World) : Type 0 where
+  -- "a ready box reads as the plain disk": no view is refused, and it hands back the reference disk's page
+  pub views : isReady (w .box .state .phase) ≡ true → (b : Block) → b .0 < l .blocks
+      → viewOf (lent (w .box .images .ssd)) (lent (w .box .images .hdd)) (w .box .table) (w .box .state) b .number ≡ 0
+  pub reads : isReady (w .box .state .phase) ≡ true → (b : Block) → b .0 < l .blocks → readOf (w .box) b ≡ w .disk .page b
+  -- "a closed slot named by look-up holds the same"
+  pub looks : isReady (w .box .state .phase) ≡ true → (b : Block) → b .0 < l .blocks
+      → (s : Slot) → resultOf (lookUp b) (w .box) .said ≡ inSlot s → pageAt (w .box .images .ssd) (dataPlace l s) ≡ w .disk .page b
+  -- "after a finished reopening each block reads as nothing but" one of its contents
+  pub allowed : (e : Event) → Fits l e w → finishes e w ≡ true → (b : Block) → b .0 < l .blocks
+      → MayBe (before e w .disk) b (readOf (apply e w .box) b)
+  -- "no reopening is refused", whatever record and table of the right length it is handed
+  pub taken : (e : Event) → Fits l e w → Reopening l e → refused (resultOf reopen (reopenedBox e w) .said) ≡ false
+  -- a box that is not ready is mending, and ends ready
+  pub mends : isReady (w .box .state .phase) ≡ false → Mends (w .box)
+  -- no flush of a ready box is refused
+  pub flushes : isReady (w .box .state .phase) ≡ true → refused (resultOf flush (w .box) .said) ≡ false
+  -- "a block outside the newest stored window keeps slot and page", till a reopening is finished
+  pub keeps : (e : Event) → Fits l e w → Reopening l e → (b : Block) → b .0 < l .blocks → Outside l (before e w .box .images) b
+      → (es : List Event) → AllFit l es (apply e w) → NotYet es (apply e w) → Kept l e es b w
+
+-- Demand 3: whatever images, table and record a format that is not refused begins with, after its last step and any list of
+-- events
+abbrev pub Demand3 : Type 0
+Demand3 =
+    (slots blocks : ℕ) (x : Box)
+    → refused (resultOf (format slots blocks) x .said) ≡ false
+    → (es : List Event)
+    → AllFit (labelOf slots blocks) es (startOf (labelOf slots blocks) (formatted slots blocks x))
+    → Safe (labelOf slots blocks) (run es (startOf (labelOf slots blocks) (formatted slots blocks x)))

@@ -1,0 +1,152 @@
+-- Lists of calls, cuts and reopenings, and what box and reference disk make of them (document 01, "The plain disk").
+use Prim.Native.Nat.{ℕ, zero, suc}
+use mathlib.Core.Path.{_≡_}
+use mathlib.Core.Bool.{Bool, true, false, not, _&&_}
+use mathlib.Core.List.{List, [], _∷_}
+use mathlib.Core.Option.{Option, some, none}
+use lib.ListN.{length}
+use Rattle.pages.specs.Pages.{pageAt}
+use Rattle.pages.specs.Parts.{Part}
+use Rattle.layout.specs.declared.Block.{Block}
+use Rattle.layout.specs.declared.Label.{Label}
+use Rattle.layout.specs.Places.{labelOf, blockPlace, formatSteps, tableLength}
+use Rattle.protocol.specs.declared.Record.{Record}
+use Rattle.protocol.specs.Paper.{refused}
+use Rattle.protocol.specs.Box.{Images, Box, Store, applied, Effect, Result, boxAfter}
+use Rattle.protocol.specs.Plan.{Call, format, step, flush, reopen, offer, fetch, landFetch, lookUp, view, writeBack, land}
+use Rattle.protocol.specs.Judge.{isReady}
+use Rattle.protocol.specs.Calls.{effectOf, resultOf, viewOf}
+use Rattle.protocol.specs.ReferenceDisk.{Disk, settled, fed}
+
+pub record World : Type 0 where
+  pub box : Box
+  pub disk : Disk
+
+-- a table and a record that a reopening is handed
+pub record Junk : Type 0 where
+  pub table : List ℕ
+  pub state : Record
+
+-- what of the page of the call that a cut breaks off has come to be: "old or new"
+pub data Arrival : Type 0 where
+  old new : Arrival
+
+pub data Event : Type 0 where
+  call : Call → Event
+  -- a reopening "with any record and any table"
+  reopens : Junk → Event
+  -- a cut of a call, then such a reopening
+  cut : Call → Arrival → Junk → Event
+
+-- "A block of a ready box reads as the page that view hands back"
+abbrev pub lent : List ℕ → Part
+lent bytes = record { bytes = bytes; place = (0, 0) }
+
+unfoldable pub readOf : Box → Block → List ℕ
+readOf x b = viewOf (lent (x .images .ssd)) (lent (x .images .hdd)) (x .table) (x .state) b .handed .bytes
+
+-- "Reopening, when finished (at once, or by the last step)": what blocks read as then
+abbrev pub mayFinish : Call → Bool
+mayFinish (format slots blocks) = false
+mayFinish step = true
+mayFinish flush = false
+mayFinish reopen = true
+mayFinish (offer b) = false
+mayFinish (fetch b) = false
+mayFinish (landFetch b) = false
+mayFinish (lookUp b) = false
+mayFinish (view b) = false
+mayFinish (writeBack b) = false
+mayFinish (land b page) = false
+
+abbrev pub readsIf : Bool → Box → Option (Block → List ℕ)
+readsIf true x = some (readOf x)
+readsIf false x = none
+
+-- does this call, which answered so, finish a reopening
+abbrev pub finished : Call → Result → Bool
+finished c r = not (refused (r .said)) && (mayFinish c && isReady (r .state .phase))
+
+unfoldable pub called : Call → World → World
+called c w =
+    let r = resultOf c (w .box) in
+    record { box = boxAfter r; disk = fed c (refused (r .said)) (readsIf (finished c r) (boxAfter r)) (w .disk) }
+
+-- the images with another table and record
+abbrev pub handed : Junk → Box → Box
+handed j x = record { images = x .images; table = j .table; state = j .state }
+
+-- a reopening that is refused leaves box and reference disk as they were
+abbrev pub takenIf : Bool → World → World → World
+takenIf true w v = w
+takenIf false w v = v
+
+unfoldable pub reopened : Junk → World → World
+reopened j w =
+    takenIf (refused (resultOf reopen (handed j (w .box)) .said)) w (called reopen (record { box = handed j (w .box); disk = w .disk }))
+
+-- the images that a cut leaves: "all earlier stores done, and the page of the call it breaks off old or new"
+abbrev pub survived : Arrival → Option Store → Images → Images
+survived old store im = im
+survived new store im = applied store im
+
+-- "that call counts as made exactly if its store was done"
+abbrev pub made : Arrival → Option Store → Bool
+made old store = false
+made new none = false
+made new (some store) = true
+
+-- box and reference disk just before the reopening that follows a cut
+unfoldable pub struck : Call → Arrival → World → World
+struck c a w =
+    let e = effectOf c (w .box) in
+    let v = takenIf (made a (e .store)) (called c w) w in
+    record {
+      box = record { images = survived a (e .store) (w .box .images); table = v .box .table; state = v .box .state };
+      disk = v .disk;
+    }
+
+abbrev pub apply : Event → World → World
+apply (call c) w = called c w
+apply (reopens j) w = reopened j w
+apply (cut c a j) w = reopened j (struck c a w)
+
+unfoldable pub run : List Event → World → World
+run [] w = w
+run (e ∷ es) w = run es (apply e w)
+
+-- the start: "what a format's last step left .., that format having been begun and stepped to its end with each call given
+-- what the last one left"
+unfoldable pub steps : ℕ → Box → Box
+steps zero x = x
+steps (suc n) x = steps n (boxAfter (resultOf step x))
+
+unfoldable pub formatted : ℕ → ℕ → Box → Box
+formatted slots blocks x = steps (formatSteps (labelOf slots blocks)) (boxAfter (resultOf (format slots blocks) x))
+
+-- "both at first its HDD page"
+abbrev pub startOf : Label → Box → World
+startOf l x = record { box = x; disk = settled (λ b. pageAt (x .images .hdd) (blockPlace l b)) }
+
+-- the lists of demand 3: formats are refused where they stand, and after a cut the table has the right length
+abbrev pub CallFits : Call → World → Type 0
+CallFits (format slots blocks) w = refused (resultOf (format slots blocks) (w .box) .said) ≡ true
+CallFits step w = Unit {0}
+CallFits flush w = Unit {0}
+CallFits reopen w = Unit {0}
+CallFits (offer b) w = Unit {0}
+CallFits (fetch b) w = Unit {0}
+CallFits (landFetch b) w = Unit {0}
+CallFits (lookUp b) w = Unit {0}
+CallFits (view b) w = Unit {0}
+CallFits (writeBack b) w = Unit {0}
+CallFits (land b page) w = Unit {0}
+
+abbrev pub Fits : Label → Event → World → Type 0
+Fits l (call c) w = CallFits c w
+Fits l (reopens j) w = Unit {0}
+Fits l (cut c a j) w = CallFits c w × (length (j .table) ≡ tableLength l)
+
+abbrev pub AllFit : Label → List Event → World → Type 0
+AllFit l [] w = Unit {0}
+AllFit l (e ∷ es) w = Fits l e w × AllFit l es (apply e w)

@@ -1,0 +1,309 @@
+-- Why a call says no: one test for each number of document 01's table, and each call's chain of them, "Least number first".
+use Prim.Native.Nat.{ℕ, zero, suc, _+_, _-_, _*_, _/_, _%_}
+use mathlib.Core.Bool.{Bool, true, false, not, _&&_, _||_}
+use mathlib.Core.List.{List, [], _∷_}
+use mathlib.Core.Option.{Option, some, none}
+use lib.ListN.{length, drop}
+use lib.Dec.{eqb, ltb, leb}
+use Rattle.pages.specs.Pages.{pageAt}
+use Rattle.layout.specs.declared.Slot.{Slot}
+use Rattle.layout.specs.declared.Block.{Block}
+use Rattle.layout.specs.declared.Label.{Label}
+use Rattle.layout.specs.declared.LabelRead.{LabelRead}
+use Rattle.layout.specs.declared.LabelRead.the-variants.{Legal, Illegal}
+use Rattle.layout.specs.Places.{labelOf, withinLimits, metaPages, labelPlace, ssdLength, hddLength, tableLength}
+use Rattle.layout.specs.LabelPage.{decodeLabel}
+use Rattle.layout.specs.PageRule.{pairTest, listed, distinct, inRange}
+use Rattle.protocol.specs.declared.Record.{Record}
+use Rattle.protocol.specs.declared.Phase.{Phase}
+use Rattle.protocol.specs.declared.Phase.the-variants.{Formatting, Recovering, Ready}
+use Rattle.protocol.specs.declared.Condition.{Condition}
+use Rattle.protocol.specs.declared.Condition.the-variants.{NotCached, Clean, Dirty, Writing, Fetching}
+use Rattle.protocol.specs.Rows.{rowBlock, rowFlags, valid, writing, used, labelIn, windowIn}
+use Rattle.protocol.specs.Box.{Images, Box}
+use Rattle.protocol.specs.Condition.{conditionOf}
+use Rattle.protocol.specs.Plan.{Call, format, step, flush, reopen, offer, fetch, landFetch, lookUp, view, writeBack, land, plan, storesMeta}
+use Rattle.protocol.specs.Recovery.{labelAt, metasOf, pagesTest}
+
+-- the largest stamp
+abbrev pub largestStamp : ℕ
+largestStamp = 4294967295
+
+-- the rows of document 01's table
+pub data Reason : Type 0 where
+  badLimits noLabel badRecord wrongLength badRows wrongPhase blockTooHigh : Reason
+  slotOpen wrongState hasSlot windowFull allOpen stampsSpent : Reason
+
+abbrev pub numberOf : Reason → ℕ
+numberOf badLimits = 1
+numberOf noLabel = 2
+numberOf badRecord = 3
+numberOf wrongLength = 4
+numberOf badRows = 5
+numberOf wrongPhase = 6
+numberOf blockTooHigh = 7
+numberOf slotOpen = 8
+numberOf wrongState = 9
+numberOf hasSlot = 10
+numberOf windowFull = 11
+numberOf allOpen = 12
+numberOf stampsSpent = 13
+
+-- the label by which a call judges lengths: format by its arguments, reopen by the label page, others by the record
+abbrev pub labelFor : Call → Box → Label
+labelFor (format slots blocks) x = labelOf slots blocks
+labelFor reopen x = labelAt (x .images .ssd)
+labelFor step x = labelIn (x .state)
+labelFor flush x = labelIn (x .state)
+labelFor (offer b) x = labelIn (x .state)
+labelFor (fetch b) x = labelIn (x .state)
+labelFor (landFetch b) x = labelIn (x .state)
+labelFor (lookUp b) x = labelIn (x .state)
+labelFor (view b) x = labelIn (x .state)
+labelFor (writeBack b) x = labelIn (x .state)
+labelFor (land b page) x = labelIn (x .state)
+
+-- the block that a call names (0 where it names none: no such call asks for it)
+abbrev pub blockFor : Call → Block
+blockFor (format slots blocks) = record { 0 = 0 }
+blockFor reopen = record { 0 = 0 }
+blockFor step = record { 0 = 0 }
+blockFor flush = record { 0 = 0 }
+blockFor (offer b) = b
+blockFor (fetch b) = b
+blockFor (landFetch b) = b
+blockFor (lookUp b) = b
+blockFor (view b) = b
+blockFor (writeBack b) = b
+blockFor (land b page) = b
+
+-- 2: "SSD under a page, or first page no legal label"
+abbrev pub isLabel : LabelRead → Bool
+isLabel (Legal l) = true
+isLabel Illegal = false
+
+unfoldable pub labelTest : List ℕ → Bool
+labelTest ssd = leb 4096 (length ssd) && isLabel (decodeLabel (pageAt ssd labelPlace))
+
+-- 3: "a record number out of range, window repeated or not zero past its length" (the window is an array of 63)
+abbrev pub stepsTest : Label → Phase → Bool
+stepsTest l (Formatting d) = leb d (metaPages l + 1)
+stepsTest l Recovering = true
+stepsTest l Ready = true
+
+unfoldable pub zeroSlots : List Slot → Bool
+zeroSlots [] = true
+zeroSlots (s ∷ w) = eqb (s .0) 0 && zeroSlots w
+
+unfoldable pub recordTest : Record → Bool
+recordTest r =
+    withinLimits (labelIn r)
+    && (ltb (r .hand .0) (r .slots)
+    && (stepsTest (labelIn r) (r .phase)
+    && (leb (r .count) 63
+    && (eqb (length (r .window)) 63
+    && (inRange (labelIn r) (windowIn r) && (distinct (windowIn r) && zeroSlots (drop (r .count) (r .window))))))))
+
+-- 4: "an image, table or data page of the wrong length"
+abbrev pub pageLengthTest : Call → Bool
+pageLengthTest (format slots blocks) = true
+pageLengthTest reopen = true
+pageLengthTest step = true
+pageLengthTest flush = true
+pageLengthTest (offer b) = true
+pageLengthTest (fetch b) = true
+pageLengthTest (landFetch b) = true
+pageLengthTest (lookUp b) = true
+pageLengthTest (view b) = true
+pageLengthTest (writeBack b) = true
+pageLengthTest (land b page) = eqb (length page) 4096
+
+unfoldable pub lengthTest : Label → Images → List ℕ → Bool
+lengthTest l im table = eqb (length (im .ssd)) (ssdLength l) && (eqb (length (im .hdd)) (hddLength l) && eqb (length table) (tableLength l))
+
+-- 5, of a table: "table row .. breaks its rule": the entry rules, and 8 for used "(only with valid)"
+unfoldable pub rowTest : Label → ℕ → ℕ → Bool
+rowTest l block flags = pairTest l block (flags % 8) && (ltb flags 16 && (not (used flags) || valid flags))
+
+unfoldable pub eachRow : (ℕ → ℕ → ℕ → Bool) → ℕ → List ℕ → Bool
+eachRow test s [] = true
+eachRow test s (block ∷ []) = true
+eachRow test s (block ∷ flags ∷ rows) = test s block flags && eachRow test (suc s) rows
+
+-- a test at each slot of a window
+unfoldable pub eachSlot : (Slot → Bool) → List Slot → Bool
+eachSlot test [] = true
+eachSlot test (s ∷ w) = test s && eachSlot test w
+
+abbrev pub isEmpty : List Slot → Bool
+isEmpty [] = true
+isEmpty (s ∷ w) = false
+
+-- 5: "or rows, window and phase don't agree": ready, the window's slots are exactly the writing rows; mending, it is not
+-- empty, its rows are zero and no row is writing; formatting, it is empty and every row is zero
+abbrev pub agreeTest : Phase → List ℕ → List Slot → Bool
+agreeTest Ready table w =
+    eachSlot (λ s. writing (rowFlags table s)) w
+    && eachRow (λ s block flags. not (writing flags) || listed (record { 0 = s }) w) 0 table
+agreeTest Recovering table w =
+    not (isEmpty w)
+    && (eachSlot (λ s. eqb (rowBlock table s .0) 0 && eqb (rowFlags table s) 0) w
+    && eachRow (λ s block flags. not (writing flags)) 0 table)
+agreeTest (Formatting d) table w = isEmpty w && eachRow (λ s block flags. eqb block 0 && eqb flags 0) 0 table
+
+unfoldable pub rowsTest : Record → List ℕ → Bool
+rowsTest r table = eachRow (λ s block flags. rowTest (labelIn r) block flags) 0 table && agreeTest (r .phase) table (windowIn r)
+
+-- 5 of a reopening judges the metadata pages, of any other call the table
+abbrev pub contentsTest : Call → Box → Bool
+contentsTest (format slots blocks) x = true
+contentsTest reopen x = pagesTest (labelAt (x .images .ssd)) (metasOf (labelAt (x .images .ssd)) (x .images .ssd))
+contentsTest step x = rowsTest (x .state) (x .table)
+contentsTest flush x = rowsTest (x .state) (x .table)
+contentsTest (offer b) x = rowsTest (x .state) (x .table)
+contentsTest (fetch b) x = rowsTest (x .state) (x .table)
+contentsTest (landFetch b) x = rowsTest (x .state) (x .table)
+contentsTest (lookUp b) x = rowsTest (x .state) (x .table)
+contentsTest (view b) x = rowsTest (x .state) (x .table)
+contentsTest (writeBack b) x = rowsTest (x .state) (x .table)
+contentsTest (land b page) x = rowsTest (x .state) (x .table)
+
+-- 6: "wrong phase: step when ready, anything else before"
+abbrev pub isReady : Phase → Bool
+isReady Ready = true
+isReady Recovering = false
+isReady (Formatting d) = false
+
+abbrev pub phaseTest : Call → Phase → Bool
+phaseTest (format slots blocks) p = true
+phaseTest reopen p = true
+phaseTest step p = not (isReady p)
+phaseTest flush p = isReady p
+phaseTest (offer b) p = isReady p
+phaseTest (fetch b) p = isReady p
+phaseTest (landFetch b) p = isReady p
+phaseTest (lookUp b) p = isReady p
+phaseTest (view b) p = isReady p
+phaseTest (writeBack b) p = isReady p
+phaseTest (land b page) p = isReady p
+
+-- 8 to 10, by the block's condition
+abbrev pub isOpen : Condition → Bool
+isOpen NotCached = false
+isOpen (Clean s) = false
+isOpen (Dirty s) = false
+isOpen (Writing s) = true
+isOpen (Fetching s) = true
+
+abbrev pub isCached : Condition → Bool
+isCached NotCached = false
+isCached (Clean s) = true
+isCached (Dirty s) = true
+isCached (Writing s) = true
+isCached (Fetching s) = true
+
+-- "open for writing, or dirty and not open"
+abbrev pub takesWrite : Condition → Bool
+takesWrite NotCached = false
+takesWrite (Clean s) = false
+takesWrite (Dirty s) = true
+takesWrite (Writing s) = true
+takesWrite (Fetching s) = false
+
+-- "open for fetch"
+abbrev pub takesFetch : Condition → Bool
+takesFetch NotCached = false
+takesFetch (Clean s) = false
+takesFetch (Dirty s) = false
+takesFetch (Writing s) = false
+takesFetch (Fetching s) = true
+
+-- 9: "land: block in neither state named; land a fetch: not open for fetch"
+abbrev pub stateTest : Call → Condition → Bool
+stateTest (format slots blocks) k = true
+stateTest reopen k = true
+stateTest step k = true
+stateTest flush k = true
+stateTest (offer b) k = true
+stateTest (fetch b) k = true
+stateTest (landFetch b) k = takesFetch k
+stateTest (lookUp b) k = true
+stateTest (view b) k = true
+stateTest (writeBack b) k = true
+stateTest (land b page) k = takesWrite k
+
+-- 11: "a fetch, or an offer of a block that isn't dirty, while 63 are open"
+unfoldable pub openRows : List ℕ → ℕ
+openRows [] = 0
+openRows (block ∷ []) = 0
+openRows (block ∷ flags ∷ rows) = elim (writing flags) [ true ↦ suc (openRows rows) | false ↦ openRows rows ]
+
+abbrev pub opensAnother : Call → Condition → Bool
+opensAnother (format slots blocks) k = false
+opensAnother reopen k = false
+opensAnother step k = false
+opensAnother flush k = false
+opensAnother (offer b) k = not (takesWrite k)
+opensAnother (fetch b) k = true
+opensAnother (landFetch b) k = false
+opensAnother (lookUp b) k = false
+opensAnother (view b) k = false
+opensAnother (writeBack b) k = false
+opensAnother (land b page) k = false
+
+-- 12: "a slot must be swept for, all are open"
+abbrev pub allWriting : List ℕ → Bool
+allWriting table = eachRow (λ s block flags. writing flags) 0 table
+
+-- 13: "the newest stamp is 4,294,967,295, or for an offer or fetch 4,294,967,232 or more"
+abbrev pub stampBound : Call → ℕ
+stampBound (format slots blocks) = largestStamp
+stampBound reopen = largestStamp
+stampBound step = largestStamp
+stampBound flush = largestStamp
+stampBound (offer b) = largestStamp - 63
+stampBound (fetch b) = largestStamp - 63
+stampBound (landFetch b) = largestStamp
+stampBound (lookUp b) = largestStamp
+stampBound (view b) = largestStamp
+stampBound (writeBack b) = largestStamp
+stampBound (land b page) = largestStamp
+
+-- does the condition of a row of the table hold for this call
+unfoldable pub test : Reason → Call → Box → Bool
+test badLimits c x = not (withinLimits (labelFor c x))
+test noLabel c x = not (labelTest (x .images .ssd))
+test badRecord c x = not (recordTest (x .state))
+test wrongLength c x = not (lengthTest (labelFor c x) (x .images) (x .table) && pageLengthTest c)
+test badRows c x = not (contentsTest c x)
+test wrongPhase c x = not (phaseTest c (x .state .phase))
+test blockTooHigh c x = leb (x .state .blocks) (blockFor c .0)
+test slotOpen c x = isOpen (conditionOf (x .table) (blockFor c))
+test wrongState c x = not (stateTest c (conditionOf (x .table) (blockFor c)))
+test hasSlot c x = isCached (conditionOf (x .table) (blockFor c))
+test windowFull c x = opensAnother c (conditionOf (x .table) (blockFor c)) && leb 63 (openRows (x .table))
+test allOpen c x = not (isCached (conditionOf (x .table) (blockFor c))) && allWriting (x .table)
+test stampsSpent c x = storesMeta (plan c x) && leb (stampBound c) (x .state .newest)
+
+-- the numbers that belong to each call, least first
+abbrev pub chain : Call → List Reason
+chain (format slots blocks) = badLimits ∷ wrongLength ∷ []
+chain reopen = noLabel ∷ wrongLength ∷ badRows ∷ []
+chain step = badRecord ∷ wrongLength ∷ badRows ∷ wrongPhase ∷ stampsSpent ∷ []
+chain flush = badRecord ∷ wrongLength ∷ badRows ∷ wrongPhase ∷ stampsSpent ∷ []
+chain (offer b) = badRecord ∷ wrongLength ∷ badRows ∷ wrongPhase ∷ blockTooHigh ∷ slotOpen ∷ windowFull ∷ allOpen ∷ stampsSpent ∷ []
+chain (fetch b) =
+    badRecord ∷ wrongLength ∷ badRows ∷ wrongPhase ∷ blockTooHigh ∷ slotOpen ∷ hasSlot ∷ windowFull ∷ allOpen ∷ stampsSpent ∷ []
+chain (landFetch b) = badRecord ∷ wrongLength ∷ badRows ∷ wrongPhase ∷ blockTooHigh ∷ wrongState ∷ []
+chain (lookUp b) = badRecord ∷ wrongLength ∷ badRows ∷ wrongPhase ∷ blockTooHigh ∷ []
+chain (view b) = badRecord ∷ wrongLength ∷ badRows ∷ wrongPhase ∷ blockTooHigh ∷ []
+chain (writeBack b) = badRecord ∷ wrongLength ∷ badRows ∷ wrongPhase ∷ blockTooHigh ∷ slotOpen ∷ []
+chain (land b page) = badRecord ∷ wrongLength ∷ badRows ∷ wrongPhase ∷ blockTooHigh ∷ wrongState ∷ []
+
+-- the first reason of a chain whose condition holds; a later one is not asked
+unfoldable pub firstOf : List Reason → (Reason → Bool) → Option Reason
+firstOf [] holds = none
+firstOf (r ∷ rs) holds = elim (holds r) [ true ↦ some r | false ↦ firstOf rs holds ]
+
+unfoldable pub judged : Call → Box → Option Reason
+judged c x = firstOf (chain c) (λ r. test r c x)

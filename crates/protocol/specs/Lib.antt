@@ -1,0 +1,15 @@
+pub mod Paper
+pub mod Rows
+pub mod Box
+pub mod Condition
+pub mod Sweep
+pub mod Plan
+pub mod Recovery
+pub mod Perform
+pub mod Judge
+pub mod Calls
+pub mod Why
+pub mod ReferenceDisk
+pub mod Events
+pub mod Demand3
+pub mod Beside

@@ -1,0 +1,127 @@
+-- What each move leaves: the answer, the record, the table, and at most one store.
+use Prim.Native.Nat.{ℕ, zero, suc, _+_, _-_}
+use mathlib.Core.Bool.{Bool, true, false}
+use mathlib.Core.List.{List, [], _∷_, _++_}
+use mathlib.Core.Option.{Option, some, none}
+use lib.ListN.{length, replicate}
+use lib.Dec.{eqb, leb}
+use Rattle.pages.specs.Pages.{pageAt, zeroPage}
+use Rattle.layout.specs.declared.Slot.{Slot}
+use Rattle.layout.specs.declared.Block.{Block}
+use Rattle.layout.specs.declared.Label.{Label}
+use Rattle.layout.specs.Places.{metaPages, labelPlace, metaPlace, dataPlace, blockPlace, metaOf, tableLength}
+use Rattle.layout.specs.LabelPage.{encodeLabel}
+use Rattle.layout.specs.MetaPage.{encodeMeta, rowsOn}
+use Rattle.protocol.specs.declared.Record.{Record}
+use Rattle.protocol.specs.declared.Phase.{Phase}
+use Rattle.protocol.specs.declared.Phase.the-variants.{Formatting, Recovering, Ready}
+use Rattle.protocol.specs.Paper.{Paper, announced, inSlot, done}
+use Rattle.protocol.specs.Rows.{rowBlock, rowFlags, setFlags, setRow, writing, withUsed, withoutWriting, withoutDirty, labelIn, windowIn, recordOf, withHand, withPhase, withStamp, withWindow, without}
+use Rattle.protocol.specs.Box.{Images, Box, ssdImage, hddImage, Store, Effect}
+use Rattle.protocol.specs.Recovery.{labelAt, metasOf, recover, phaseOf, offPage}
+use Rattle.protocol.specs.Plan.{Move, stay, uses, opens, lands, copies, confirms, mends, begins, formats, recovers}
+
+-- "A metadata store writes from the table (without used flags) the whole metadata page .., with the window, and the newest
+-- stamp plus 1; it clears unsettled": page p, from this record and this table
+unfoldable pub confirmed : ℕ → Paper → Record → List ℕ → Effect
+confirmed p said r table =
+    record {
+      said = said;
+      state = withStamp r (r .newest + 1);
+      table = table;
+      store = some (record {
+        image = ssdImage;
+        place = metaPlace (labelIn r) p;
+        bytes = encodeMeta (r .newest + 1) (windowIn r) (rowsOn p table);
+      });
+    }
+
+-- a row is opened: the slot joins the window
+abbrev pub joined : Slot → Slot → Record → Record
+joined s hand r = withWindow (withHand r hand) (r .unconfirmed) (windowIn r ++ (s ∷ []))
+
+-- "store its slot's page"
+abbrev pub dataStore : Slot → List ℕ → Box → Store
+dataStore s page x = record { image = ssdImage; place = dataPlace (labelIn (x .state)) s; bytes = page }
+
+-- "An open slot leaves the window, loses the writing flag and sets unsettled"; a closed one changes the page alone
+abbrev pub landedAs : Bool → Slot → List ℕ → Box → Effect
+landedAs true s page x =
+    record {
+      said = done;
+      state = withWindow (x .state) true (without s (windowIn (x .state)));
+      table = setFlags (x .table) s (withoutWriting (rowFlags (x .table) s));
+      store = some (dataStore s page x);
+    }
+landedAs false s page x = record { said = done; state = x .state; table = x .table; store = some (dataStore s page x) }
+
+abbrev pub landedIn : Slot → List ℕ → Box → Effect
+landedIn s page x = landedAs (writing (rowFlags (x .table) s)) s page x
+
+-- "copy its page to its HDD block, mark it clean"
+abbrev pub copiedFrom : Slot → Paper → List ℕ → Slot → Box → Effect
+copiedFrom s said table hand x =
+    record {
+      said = said;
+      state = withHand (x .state) hand;
+      table = setFlags table s (withoutDirty (rowFlags table s));
+      store = some (record {
+        image = hddImage;
+        place = blockPlace (labelIn (x .state)) (rowBlock table s);
+        bytes = pageAt (x .images .ssd) (dataPlace (labelIn (x .state)) s);
+      });
+    }
+
+-- "each step stores the lowest-numbered metadata page with a pending slot, its window being the pending slots of other
+-- pages, which alone stay pending"
+abbrev pub mendedAt : ℕ → Record → Record
+mendedAt p r = withPhase (withWindow r (r .unconfirmed) (offPage p (windowIn r))) (phaseOf (offPage p (windowIn r)))
+
+-- "Format: begins by zeroing the table, with hand 0, newest stamp 0, settled"
+abbrev pub begun : Label → Effect
+begun l =
+    record {
+      said = done;
+      state = recordOf l (record { 0 = 0 }) 0 (Formatting 0) false [];
+      table = replicate (tableLength l) 0;
+      store = none;
+    }
+
+-- "then one store a step: a zero label page, the M metadata pages in order with stamp 0, the label"
+abbrev pub formatStore : Label → List ℕ → List Slot → ℕ → Store
+formatStore l table window zero = record { image = ssdImage; place = labelPlace; bytes = zeroPage }
+formatStore l table window (suc p) =
+    elim (leb (metaPages l) p) [
+      | true ↦ record { image = ssdImage; place = labelPlace; bytes = encodeLabel l }
+      | false ↦ record { image = ssdImage; place = metaPlace l p; bytes = encodeMeta 0 window (rowsOn p table) }
+    ]
+
+-- "M + 2 steps; then ready, with those three set so again"
+abbrev pub formatState : Label → Record → ℕ → Record
+formatState l r d =
+    elim (leb (metaPages l + 1) d) [
+      | true ↦ withPhase (withHand (withStamp r 0) (record { 0 = 0 })) Ready
+      | false ↦ withPhase r (Formatting (d + 1))
+    ]
+
+unfoldable pub perform : Move → Box → Effect
+perform (stay said) x = record { said = said; state = x .state; table = x .table; store = none }
+perform (uses s) x =
+    record { said = inSlot s; state = x .state; table = setFlags (x .table) s (withUsed (rowFlags (x .table) s)); store = none }
+perform (opens s b flags table hand) x =
+    confirmed (metaOf s) (announced s) (joined s hand (x .state)) (setRow table s b flags)
+perform (lands s page) x = landedIn s page x
+perform (copies s said table hand) x = copiedFrom s said table hand x
+perform confirms x = confirmed 0 done (x .state) (x .table)
+perform (mends p) x = confirmed p done (mendedAt p (x .state)) (x .table)
+perform (begins l) x = begun l
+perform (formats d) x =
+    record {
+      said = done;
+      state = formatState (labelIn (x .state)) (x .state) d;
+      table = x .table;
+      store = some (formatStore (labelIn (x .state)) (x .table) (windowIn (x .state)) d);
+    }
+perform recovers x =
+    let r = recover (labelAt (x .images .ssd)) (metasOf (labelAt (x .images .ssd)) (x .images .ssd)) in
+    record { said = done; state = r .state; table = r .table; store = none }

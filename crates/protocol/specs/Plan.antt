@@ -1,0 +1,156 @@
+-- The calls, and what each does where nothing refuses it: a pure function from call and box to a move.
+use Prim.Native.Nat.{ℕ, suc}
+use mathlib.Core.Bool.{Bool, true, false}
+use mathlib.Core.List.{List, [], _∷_}
+use mathlib.Core.Option.{Option, some, none}
+use lib.Dec.{ltb}
+use Rattle.pages.specs.Pages.{pageAt}
+use Rattle.layout.specs.declared.Slot.{Slot}
+use Rattle.layout.specs.declared.Block.{Block}
+use Rattle.layout.specs.declared.Label.{Label}
+use Rattle.layout.specs.Places.{labelOf, metaOf, blockPlace}
+use Rattle.protocol.specs.declared.Record.{Record}
+use Rattle.protocol.specs.declared.Phase.{Phase}
+use Rattle.protocol.specs.declared.Phase.the-variants.{Formatting, Recovering, Ready}
+use Rattle.protocol.specs.declared.Condition.{Condition}
+use Rattle.protocol.specs.declared.Condition.the-variants.{NotCached, Clean, Dirty, Writing, Fetching}
+use Rattle.protocol.specs.Paper.{Paper, overwrite, copiedOut, onDisk, nothingToDo, done}
+use Rattle.protocol.specs.Rows.{rowFlags, dirty, withWriting, labelIn, windowIn}
+use Rattle.protocol.specs.Box.{Box, Images}
+use Rattle.protocol.specs.Condition.{conditionOf}
+use Rattle.protocol.specs.Sweep.{Victim, nextSlot, sweep}
+
+-- document 01's calls, with their arguments
+pub data Call : Type 0 where
+  format : ℕ → ℕ → Call
+  step flush reopen : Call
+  offer fetch landFetch lookUp view writeBack : Block → Call
+  land : Block → List ℕ → Call
+
+pub data Move : Type 0 where
+  -- nothing changes
+  stay : Paper → Move
+  -- the used flag of a slot is set
+  uses : Slot → Move
+  -- a slot is opened for a block with these flags; the table that the sweep left, and the hand after
+  opens : Slot → Block → ℕ → List ℕ → Slot → Move
+  -- a page goes into a slot, and an open slot is closed
+  lands : Slot → List ℕ → Move
+  -- a dirty slot's page is copied to its block; the answer, the table that the sweep left, and the hand after
+  copies : Slot → Paper → List ℕ → Slot → Move
+  -- metadata page 0 is stored
+  confirms : Move
+  -- a metadata page is stored with the pending slots of the others
+  mends : ℕ → Move
+  -- a format begins; a step of it, after so many
+  begins : Label → Move
+  formats : ℕ → Move
+  -- table and record are filled from the metadata pages
+  recovers : Move
+
+-- a slot that was swept for: "if that slot is dirty, copy its page to its HDD block, mark it clean, leave the hand on it,
+-- answer "copied out" .. Otherwise the row becomes this block .., the hand moves one past it (wrapping)"
+abbrev pub takesAs : Bool → Label → Block → ℕ → Victim → Move
+takesAs true l b flags v = copies (v .slot) copiedOut (v .table) (v .slot)
+takesAs false l b flags v = opens (v .slot) b flags (v .table) (nextSlot l (v .slot))
+
+abbrev pub takes : Label → Block → ℕ → Option Victim → Move
+takes l b flags none = stay nothingToDo
+takes l b flags (some v) = takesAs (dirty (rowFlags (v .table) (v .slot))) l b flags v
+
+abbrev pub sweeps : Box → Block → ℕ → Move
+sweeps x b flags = takes (labelIn (x .state)) b flags (sweep (labelIn (x .state)) (x .table) (x .state .hand))
+
+-- "Offer": dirty and not open "overwrite", clean "announced", not cached swept for, with flags 7 (open: refused by 8)
+abbrev pub offering : Box → Block → Condition → Move
+offering x b NotCached = sweeps x b 7
+offering x b (Clean s) = opens s b (withWriting (rowFlags (x .table) s)) (x .table) (x .state .hand)
+offering x b (Dirty s) = stay overwrite
+offering x b (Writing s) = stay nothingToDo
+offering x b (Fetching s) = stay nothingToDo
+
+-- "Fetch a block not cached: as an offer by sweep, with flags 5" (with a slot: refused by 8 or 10)
+abbrev pub fetching : Box → Block → Condition → Move
+fetching x b NotCached = sweeps x b 5
+fetching x b (Clean s) = stay nothingToDo
+fetching x b (Dirty s) = stay nothingToDo
+fetching x b (Writing s) = stay nothingToDo
+fetching x b (Fetching s) = stay nothingToDo
+
+-- "Land 4,096 bytes for a block open for writing, or dirty and not open: store its slot's page" (else refused by 9)
+abbrev pub landing : List ℕ → Condition → Move
+landing page NotCached = stay nothingToDo
+landing page (Clean s) = stay nothingToDo
+landing page (Dirty s) = lands s page
+landing page (Writing s) = lands s page
+landing page (Fetching s) = stay nothingToDo
+
+-- "Land a fetch: copies the HDD page into the slot and closes it likewise" (not open for fetch: refused by 9)
+abbrev pub landingFetch : Box → Block → Condition → Move
+landingFetch x b NotCached = stay nothingToDo
+landingFetch x b (Clean s) = stay nothingToDo
+landingFetch x b (Dirty s) = stay nothingToDo
+landingFetch x b (Writing s) = stay nothingToDo
+landingFetch x b (Fetching s) = lands s (pageAt (x .images .hdd) (blockPlace (labelIn (x .state)) b))
+
+-- "Look up a block: its slot, if cached and not open, and set its used flag; else "on disk""
+abbrev pub lookingUp : Condition → Move
+lookingUp NotCached = stay onDisk
+lookingUp (Clean s) = uses s
+lookingUp (Dirty s) = uses s
+lookingUp (Writing s) = stay onDisk
+lookingUp (Fetching s) = stay onDisk
+
+-- "Write back a block: if dirty, copy to HDD and mark clean; uncached or clean: "nothing to do"" (open: refused by 8)
+abbrev pub writingBack : Box → Condition → Move
+writingBack x NotCached = stay nothingToDo
+writingBack x (Clean s) = stay nothingToDo
+writingBack x (Dirty s) = copies s done (x .table) (x .state .hand)
+writingBack x (Writing s) = stay nothingToDo
+writingBack x (Fetching s) = stay nothingToDo
+
+-- "Flush: if unsettled, store metadata page 0; else "nothing to do""
+abbrev pub flushing : Bool → Move
+flushing true = confirms
+flushing false = stay nothingToDo
+
+-- "the lowest-numbered metadata page with a pending slot"
+unfoldable pub lowestFrom : ℕ → List Slot → ℕ
+lowestFrom p [] = p
+lowestFrom p (s ∷ w) = elim (ltb (metaOf s) p) [ true ↦ lowestFrom (metaOf s) w | false ↦ lowestFrom p w ]
+
+abbrev pub lowestPage : List Slot → ℕ
+lowestPage [] = 0
+lowestPage (s ∷ w) = lowestFrom (metaOf s) w
+
+-- a step: of a format, or of mending (ready: refused by 6)
+abbrev pub stepping : Record → Phase → Move
+stepping r (Formatting d) = formats d
+stepping r Recovering = mends (lowestPage (windowIn r))
+stepping r Ready = stay nothingToDo
+
+unfoldable pub plan : Call → Box → Move
+plan (format slots blocks) x = begins (labelOf slots blocks)
+plan step x = stepping (x .state) (x .state .phase)
+plan flush x = flushing (x .state .unconfirmed)
+plan reopen x = recovers
+plan (offer b) x = offering x b (conditionOf (x .table) b)
+plan (fetch b) x = fetching x b (conditionOf (x .table) b)
+plan (landFetch b) x = landingFetch x b (conditionOf (x .table) b)
+plan (lookUp b) x = lookingUp (conditionOf (x .table) b)
+plan (view b) x = stay done
+plan (writeBack b) x = writingBack x (conditionOf (x .table) b)
+plan (land b page) x = landing page (conditionOf (x .table) b)
+
+-- the moves that store metadata, a format's steps apart
+abbrev pub storesMeta : Move → Bool
+storesMeta (stay p) = false
+storesMeta (uses s) = false
+storesMeta (opens s b f t h) = true
+storesMeta (lands s d) = false
+storesMeta (copies s p t h) = false
+storesMeta confirms = true
+storesMeta (mends p) = true
+storesMeta (begins l) = false
+storesMeta (formats d) = false
+storesMeta recovers = false

@@ -1,0 +1,48 @@
+-- The reference disk: document 01's plain disk.
+use Prim.Native.Nat.{ℕ}
+use mathlib.Core.Bool.{Bool, true, false, cond}
+use mathlib.Core.List.{List, [], _∷_, List·Memᴰ}
+use mathlib.Core.Option.{Option, some, none}
+use lib.Dec.{eqb}
+use Rattle.layout.specs.declared.Block.{Block}
+use Rattle.protocol.specs.Plan.{Call, format, step, flush, reopen, offer, fetch, landFetch, lookUp, view, writeBack, land}
+
+-- "Each block has a page and the contents that may come back"
+pub record Disk : Type 0 where
+  pub page : Block → List ℕ
+  pub contents : Block → List (List ℕ)
+
+-- a page is one of a block's contents
+abbrev pub MayBe : Disk → Block → List ℕ → Type 0
+MayBe d b page = List·Memᴰ page (d .contents b)
+
+-- each block's page is its only content: "both at first its HDD page"; a flush; a finished reopening
+abbrev pub settled : (Block → List ℕ) → Disk
+settled page = record { page = page; contents = λ b. page b ∷ [] }
+
+-- "the bytes become the block's page and join its contents"
+abbrev pub written : Block → List ℕ → Disk → Disk
+written b bytes d = record {
+  page = λ c. cond (eqb (c .0) (b .0)) bytes (d .page c);
+  contents = λ c. cond (eqb (c .0) (b .0)) (bytes ∷ d .contents b) (d .contents c);
+}
+
+-- what a call that was not refused does to the disk
+abbrev pub fedCall : Call → Disk → Disk
+fedCall (format slots blocks) d = d
+fedCall step d = d
+fedCall flush d = settled (d .page)
+fedCall reopen d = d
+fedCall (offer b) d = d
+fedCall (fetch b) d = d
+fedCall (landFetch b) d = d
+fedCall (lookUp b) d = d
+fedCall (view b) d = d
+fedCall (writeBack b) d = d
+fedCall (land b bytes) d = written b bytes d
+
+-- "The plain disk is fed calls, arguments, refusals, and what blocks read as when a reopening finishes"
+abbrev pub fed : Call → Bool → Option (Block → List ℕ) → Disk → Disk
+fed c true reads d = d
+fed c false none d = fedCall c d
+fed c false (some reads) d = settled reads

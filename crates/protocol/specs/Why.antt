@@ -1,0 +1,194 @@
+-- Why a call says no, in document 01's words: the proposition of each row of its table.
+use Prim.Native.Nat.{ℕ, suc, _+_, _*_, _%_, _≤_, _<_}
+use mathlib.Core.Path.{_≡_}
+use mathlib.Core.Logic.{_≢_, _⊎_, _↔_}
+use mathlib.Core.Bool.{Bool, true, false}
+use mathlib.Core.List.{List, [], _∷_}
+use lib.ListN.{length, getD}
+use Rattle.pages.specs.Pages.{pageAt}
+use Rattle.layout.specs.declared.Slot.{Slot}
+use Rattle.layout.specs.declared.Block.{Block}
+use Rattle.layout.specs.declared.Label.{Label}
+use Rattle.layout.specs.declared.Entry.{Entry}
+use Rattle.layout.specs.Places.{Limits, labelOf, metaPages, metaPlace, labelPlace, ssdLength, hddLength, tableLength, slotOn}
+use Rattle.layout.specs.LabelPage.{encodeLabel}
+use Rattle.layout.specs.MetaPage.{stampOf, countOf, slotAt}
+use Rattle.layout.specs.PageRule.{PageRule, PairRule, listed}
+use Rattle.protocol.specs.declared.Record.{Record}
+use Rattle.protocol.specs.declared.Phase.{Phase}
+use Rattle.protocol.specs.declared.Phase.the-variants.{Formatting, Recovering, Ready}
+use Rattle.protocol.specs.Rows.{rowBlock, rowFlags, valid, dirty, writing, used, labelIn, windowIn}
+use Rattle.protocol.specs.Box.{Images, Box}
+use Rattle.protocol.specs.Plan.{Call, format, step, flush, reopen, offer, fetch, landFetch, lookUp, view, writeBack, land, plan, storesMeta}
+use Rattle.protocol.specs.Recovery.{labelAt, metasOf, entryIn}
+use Rattle.protocol.specs.Judge.{Reason, badLimits, noLabel, badRecord, wrongLength, badRows, wrongPhase, blockTooHigh, slotOpen, wrongState, hasSlot, windowFull, allOpen, stampsSpent, labelFor, blockFor, openRows, stampBound}
+
+-- 2: the first page is the page of a label within the limits
+pub record HasLabel (ssd : List ℕ) : Type 0 where
+  pub label : Label
+  pub limits : Limits label
+  pub whole : 4096 ≤ length ssd
+  pub page : pageAt ssd labelPlace ≡ encodeLabel label
+
+-- 3: every number of the record in range, the window's slots in range, none repeated, zero past its length
+pub record RecordRule (r : Record) : Type 0 where
+  pub limits : Limits (labelIn r)
+  pub hand : r .hand .0 < r .slots
+  pub steps : (d : ℕ) → r .phase ≡ Formatting d → d ≤ metaPages (labelIn r) + 1
+  pub count : r .count ≤ 63
+  pub array : length (r .window) ≡ 63
+  pub in-range : (k : ℕ) → k < r .count → getD (r .window) k (record { 0 = 0 }) .0 < r .slots
+  pub apart : (k m : ℕ) → k < m → m < r .count → getD (r .window) k (record { 0 = 0 }) .0 ≢ getD (r .window) m (record { 0 = 0 }) .0
+  pub past : (k : ℕ) → r .count ≤ k → getD (r .window) k (record { 0 = 0 }) .0 ≡ 0
+
+-- 4
+abbrev pub PageLength : Call → Type 0
+PageLength (format slots blocks) = Unit {0}
+PageLength reopen = Unit {0}
+PageLength step = Unit {0}
+PageLength flush = Unit {0}
+PageLength (offer b) = Unit {0}
+PageLength (fetch b) = Unit {0}
+PageLength (landFetch b) = Unit {0}
+PageLength (lookUp b) = Unit {0}
+PageLength (view b) = Unit {0}
+PageLength (writeBack b) = Unit {0}
+PageLength (land b page) = length page ≡ 4096
+
+pub record Lengths (l : Label) (c : Call) (im : Images) (table : List ℕ) : Type 0 where
+  pub ssd-length : length (im .ssd) ≡ ssdLength l
+  pub hdd-length : length (im .hdd) ≡ hddLength l
+  pub table-length : length table ≡ tableLength l
+  pub page-length : PageLength c
+
+-- the table has a row for the slot
+abbrev pub IsRow : List ℕ → Slot → Type 0
+IsRow table s = 2 * s .0 + 1 < length table
+
+-- 5: "Table rows keep these entry rules too"; flags "as stored, plus 8 for used (only with valid)"
+pub record RowRule (l : Label) (block flags : ℕ) : Type 0 where
+  pub pair : PairRule l block (flags % 8)
+  pub no-more : flags < 16
+  pub used-valid : used flags ≡ true → valid flags ≡ true
+
+-- 5: "In the ready phase the window lists the open slots .., which are exactly the rows with the writing flag. While
+-- mending it is not empty, its rows are zero and no row is writing; while formatting it is empty and every row is zero."
+pub record ReadyAgree (table : List ℕ) (w : List Slot) : Type 0 where
+  pub listed-open : (s : Slot) → listed s w ≡ true → writing (rowFlags table s) ≡ true
+  pub open-listed : (s : Slot) → IsRow table s → writing (rowFlags table s) ≡ true → listed s w ≡ true
+
+pub record RecoveringAgree (table : List ℕ) (w : List Slot) : Type 0 where
+  pub some-pending : w ≢ []
+  pub pending-zero : (s : Slot) → listed s w ≡ true → (rowBlock table s .0 ≡ 0) × (rowFlags table s ≡ 0)
+  pub none-writing : (s : Slot) → IsRow table s → writing (rowFlags table s) ≡ false
+
+pub record FormattingAgree (table : List ℕ) (w : List Slot) : Type 0 where
+  pub none-listed : w ≡ []
+  pub all-zero : (s : Slot) → IsRow table s → (rowBlock table s .0 ≡ 0) × (rowFlags table s ≡ 0)
+
+abbrev pub Agree : Phase → List ℕ → List Slot → Type 0
+Agree Ready table w = ReadyAgree table w
+Agree Recovering table w = RecoveringAgree table w
+Agree (Formatting d) table w = FormattingAgree table w
+
+pub record RowsRule (r : Record) (table : List ℕ) : Type 0 where
+  pub each : (s : Slot) → IsRow table s → RowRule (labelIn r) (rowBlock table s .0) (rowFlags table s)
+  pub agree : Agree (r .phase) table (windowIn r)
+
+-- 5, of a reopening: each metadata page keeps its rule; "other stamps differ between pages"; "No block is in two entries";
+-- "Each slot in the newest stamp's window has a valid, writing entry"
+pub record PagesRule (l : Label) (pages : List (List ℕ)) : Type 0 where
+  pub each : (p : ℕ) → p < length pages → PageRule l p (getD pages p [])
+  pub stamps : (p q : ℕ) → p < q → q < length pages → stampOf (getD pages p []) ≢ 0 → stampOf (getD pages p []) ≢ stampOf (getD pages q [])
+  pub once : (s t : Slot) → s .0 < t .0 → t .0 < l .slots → valid (entryIn pages s .flags) ≡ true → valid (entryIn pages t .flags) ≡ true
+      → entryIn pages s .block .0 ≢ entryIn pages t .block .0
+  pub newest : (p : ℕ) → p < length pages → ((q : ℕ) → q < length pages → stampOf (getD pages q []) ≤ stampOf (getD pages p []))
+      → (k : ℕ) → k < countOf (getD pages p [])
+      → (valid (entryIn pages (slotAt (getD pages p []) k) .flags) ≡ true) ×
+      (writing (entryIn pages (slotAt (getD pages p []) k) .flags) ≡ true)
+
+abbrev pub Contents : Call → Box → Type 0
+Contents (format slots blocks) x = Unit {0}
+Contents reopen x = PagesRule (labelAt (x .images .ssd)) (metasOf (labelAt (x .images .ssd)) (x .images .ssd))
+Contents step x = RowsRule (x .state) (x .table)
+Contents flush x = RowsRule (x .state) (x .table)
+Contents (offer b) x = RowsRule (x .state) (x .table)
+Contents (fetch b) x = RowsRule (x .state) (x .table)
+Contents (landFetch b) x = RowsRule (x .state) (x .table)
+Contents (lookUp b) x = RowsRule (x .state) (x .table)
+Contents (view b) x = RowsRule (x .state) (x .table)
+Contents (writeBack b) x = RowsRule (x .state) (x .table)
+Contents (land b page) x = RowsRule (x .state) (x .table)
+
+-- 6
+abbrev pub RightPhase : Call → Phase → Type 0
+RightPhase (format slots blocks) p = Unit {0}
+RightPhase reopen p = Unit {0}
+RightPhase step p = p ≢ Ready
+RightPhase flush p = p ≡ Ready
+RightPhase (offer b) p = p ≡ Ready
+RightPhase (fetch b) p = p ≡ Ready
+RightPhase (landFetch b) p = p ≡ Ready
+RightPhase (lookUp b) p = p ≡ Ready
+RightPhase (view b) p = p ≡ Ready
+RightPhase (writeBack b) p = p ≡ Ready
+RightPhase (land b page) p = p ≡ Ready
+
+-- 8 to 12: the block's slot, "its lowest slot counts"
+pub record SlotOf (table : List ℕ) (b : Block) : Type 0 where
+  pub slot : Slot
+  pub row : IsRow table slot
+  pub valid-row : valid (rowFlags table slot) ≡ true
+  pub block : rowBlock table slot .0 ≡ b .0
+  pub lowest : (t : Slot) → t .0 < slot .0 → valid (rowFlags table t) ≡ true → rowBlock table t .0 ≢ b .0
+
+-- 9: open for writing, or dirty and not open; open for fetch
+abbrev pub RightState : Call → List ℕ → Type 0
+RightState (format slots blocks) table = Unit {0}
+RightState reopen table = Unit {0}
+RightState step table = Unit {0}
+RightState flush table = Unit {0}
+RightState (offer b) table = Unit {0}
+RightState (fetch b) table = Unit {0}
+RightState (landFetch b) table = (s : SlotOf table b) × (writing (rowFlags table (s .slot)) ≡ true) ×
+    (dirty (rowFlags table (s .slot)) ≡ false)
+RightState (lookUp b) table = Unit {0}
+RightState (view b) table = Unit {0}
+RightState (writeBack b) table = Unit {0}
+RightState (land b page) table = (s : SlotOf table b) × (dirty (rowFlags table (s .slot)) ≡ true)
+
+-- 11: a fetch, or an offer of a block that isn't dirty
+abbrev pub OpensAnother : Call → List ℕ → Type 0
+OpensAnother (format slots blocks) table = ⊥
+OpensAnother reopen table = ⊥
+OpensAnother step table = ⊥
+OpensAnother flush table = ⊥
+OpensAnother (offer b) table = (s : SlotOf table b) → dirty (rowFlags table (s .slot)) ≡ false
+OpensAnother (fetch b) table = Unit {0}
+OpensAnother (landFetch b) table = ⊥
+OpensAnother (lookUp b) table = ⊥
+OpensAnother (view b) table = ⊥
+OpensAnother (writeBack b) table = ⊥
+OpensAnother (land b page) table = ⊥
+
+-- the table of document 01
+abbrev pub Why : Reason → Call → Box → Type 0
+Why badLimits c x = Limits (labelFor c x) → ⊥
+Why noLabel c x = HasLabel (x .images .ssd) → ⊥
+Why badRecord c x = RecordRule (x .state) → ⊥
+Why wrongLength c x = Lengths (labelFor c x) c (x .images) (x .table) → ⊥
+Why badRows c x = Contents c x → ⊥
+Why wrongPhase c x = RightPhase c (x .state .phase) → ⊥
+Why blockTooHigh c x = x .state .blocks ≤ blockFor c .0
+Why slotOpen c x = (s : SlotOf (x .table) (blockFor c)) × (writing (rowFlags (x .table) (s .slot)) ≡ true)
+Why wrongState c x = RightState c (x .table) → ⊥
+Why hasSlot c x = SlotOf (x .table) (blockFor c)
+Why windowFull c x = OpensAnother c (x .table) × (63 ≤ openRows (x .table))
+Why allOpen c x = (SlotOf (x .table) (blockFor c) → ⊥) × ((s : Slot) → IsRow (x .table) s → writing (rowFlags (x .table) s) ≡ true)
+Why stampsSpent c x = (storesMeta (plan c x) ≡ true) × (stampBound c ≤ x .state .newest)
+
+-- "Least number first .. A number is used if its condition holds for that call, and in no other case": r is the first of
+-- a chain whose condition holds
+abbrev pub FirstWhy : List Reason → Reason → (Reason → Type 0) → Type 0
+FirstWhy [] r why = ⊥
+FirstWhy (q ∷ rs) r why = ((q ≡ r) × why r) ⊎ ((why q → ⊥) × FirstWhy rs r why)
