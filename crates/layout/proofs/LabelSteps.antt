@@ -1,10 +1,11 @@
 -- What a turn of each loop of the label page does, at byte i.
-use Prim.Native.Nat.{ℕ, suc, _+_, _-_, _*_, _≤_, _<_}
+use Prim.Native.Nat.{ℕ, suc, _+_, _-_, _*_, _^_, _≤_, _<_}
 use mathlib.Core.Path.{_≡_, sym, ap, _∙_}
 use mathlib.Core.Logic.{_≢_}
 use mathlib.Core.List.{List, _∷_}
 use mathlib.Core.Option.{some, none}
 use native.Mathlib.Omega.{arith}
+use native.Mathlib.Nat.{pow-suc}
 use lib.ListN.{length, getD, drop, set, drop-of-length-le, length-drop, length-set}
 use lib.Seq.{getD-set-same, drop-set-lt}
 use borrow.Author.Tests.{eq-eqb, ne-eqb}
@@ -12,7 +13,7 @@ use Rattle.layout.specs.declared.label_page.Scan.the-variants.{Number as
 use Rattle.layout.specs.LabelPage.{after, numberFrom, number}
 use Rattle.layout.specs.LabelScan.{scanOf}
 use Rattle.layout.proofs.Loops.{left}
-use Rattle.layout.proofs.Decimal.{from-line, from-digit, from-full, from-low, from-high, from-none, number-none, number-first, number-low, number-high}
+use Rattle.layout.proofs.Decimal.{fits, from-line, from-digit, from-full, from-low, from-high, from-none, number-none, number-first, number-low, number-high}
 
 -- byte i of a text and byte j of the bytes
 module _ (text bytes : List ℕ) (i j : ℕ) where
@@ -76,6 +77,39 @@ module _ (bytes : List ℕ) (i k n : ℕ) (h : i < length bytes) where
 
   pub next-digit : (j : ℕ) → k ≡ suc j → 48 ≤ getD bytes i 0 → getD bytes i 0 ≤ 57 → numberFrom k n (drop i bytes) ≡ numberFrom j (10 * n + (getD bytes i 0 - 48)) (drop (i + 1) bytes)
   next-digit j z l m = at-byte ∙ ap (λ (x : ℕ). numberFrom x n (getD bytes i 0 ∷ drop (i + 1) bytes)) z ∙ from-digit j n _ _ l m
+
+-- a digit more: the number fits in 32 bits, and the scan goes on behind it
+module _ (bytes : List ℕ) (at i n b : ℕ) (lo : at < i) (hi : i < at + 8) (fit : n < 10 ^ (i - at)) (top : b ≤ 57) where
+  small : n < 100000000
+  small = fits (i - at) (at + 8 - i) n fit (omega arith)
+
+  pub times-ten : 10 * n < 2 ^ 32
+  times-ten = omega (arith, small)
+
+  pub plus-digit : 10 * n + (b - 48) < 2 ^ 32
+  plus-digit = omega (arith, small)
+
+  pub digit-turn : i < length bytes → b ≡ getD bytes i 0 → 48 ≤ b → numberFrom (at + 8 - i) n (drop i bytes) ≡ number (drop at bytes)
+      → (at < i + 1)
+      × (i + 1 ≤ at + 8)
+      × (i + 1 ≤ length bytes)
+      × (10 * n + (b - 48) < 10 ^ (i + 1 - at))
+      × (numberFrom (at + 8 - (i + 1)) (10 * n + (b - 48)) (drop (i + 1) bytes) ≡ number (drop at bytes))
+  digit-turn h e low inv =
+      let j : i + 1 - at ≡ suc (i - at) = omega arith in
+      let p : 10 ^ suc (i - at) ≡ 10 ^ (i - at) * 10 = pow-suc 10 (i - at) in (
+        omega arith,
+        omega arith,
+        omega arith,
+        rw (j, p) (omega arith),
+        ap (λ (x : ℕ). numberFrom (at + 8 - (i + 1)) (10 * n + (x - 48)) (drop (i + 1) bytes)) e
+            ∙ sym (next-digit bytes i (at + 8 - i) n h (at + 8 - (i + 1)) (omega arith) (omega arith) (omega arith))
+            ∙ inv,
+      )
+
+-- no digit more
+pub none-more : (a i : ℕ) → a ≤ i → a - i ≡ 0
+none-more a i h = omega arith
 
 -- a byte stored at i, and those after it
 pub drop-put : (l : List ℕ) (i d : ℕ) → i < length l → drop i (set l i d) ≡ d ∷ drop (i + 1) l

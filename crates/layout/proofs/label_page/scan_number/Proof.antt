@@ -1,12 +1,10 @@
-use Prim.Native.Nat.{ℕ, suc, _+_, _-_, _*_, _^_, _≤_, _<_}
-use mathlib.Core.Path.{_≡_, sym, ap, _∙_}
+use Prim.Native.Nat.{ℕ, _+_, _-_, _*_, _^_, _≤_, _<_}
+use mathlib.Core.Path.{_≡_, sym, ap, subst, _∙_}
 use mathlib.Core.List.{List}
-use native.Mathlib.Nat.{pow-suc}
-use lib.ListN.{length, getD, drop}
+use lib.ListN.{length, drop}
 use Rattle.layout.specs.LabelPage.{numberFrom, number}
 use Rattle.layout.specs.LabelScan.{scanOf}
-use Rattle.layout.proofs.Decimal.{fits}
-use Rattle.layout.proofs.LabelSteps.{scan-found, number-empty, first-digit, first-low, first-high, next-none, next-line, next-low, next-high, next-full, next-digit}
+use Rattle.layout.proofs.LabelSteps.{scan-found, number-empty, first-digit, first-low, first-high, next-none, next-line, next-low, next-high, next-full, none-more, times-ten, plus-digit, digit-turn}
 use borrow.Author.Needs.{needs}
 use native.Mathlib.Omega.{arith}
 use Rattle.layout.proofs.label_page.scan_number.Statement.{statement}
@@ -75,10 +73,9 @@ returns-4 : tie.Need-returns-4 Inv-loop μ-loop
 returns-4 c =
     let l = c .before .before .before .before .loop in
     let a = c .before .before .before .before .before .before .before .before .before .before .before .args in
-    let bytes : List ℕ = a .bytes .now in
+    let h = c .before .before .before .loop-test .taken in
     let e = c .before .wide2 .ensures .0 in
-    let h : l .i < length bytes = omega arith in
-    sym (scan-found bytes (a .at) (l .n) (l .i) h (sym (l .inv .4) ∙ next-line bytes (l .i) (a .at + 8 - l .i) (l .n) h (sym e ∙ c .if4 .taken)))
+    sym (scan-found (a .bytes .now) (a .at) (l .n) (l .i) h (sym (l .inv .4) ∙ next-line (a .bytes .now) (l .i) (a .at + 8 - l .i) (l .n) h (sym e ∙ c .if4 .taken)))
 
 add-if5 : tie.Need-add-if5 Inv-loop μ-loop
 add-if5 c = search needs
@@ -87,34 +84,37 @@ returns-5 : tie.Need-returns-5 Inv-loop μ-loop
 returns-5 c =
     let l = c .before .before .before .before .before .loop in
     let a = c .before .before .before .before .before .before .before .before .before .before .before .before .args in
+    let h = c .before .before .before .before .loop-test .taken in
     let e = c .before .before .wide2 .ensures .0 in
-    sym (ap (scanOf (a .bytes .now)) (sym (l .inv .4) ∙ next-full (a .bytes .now) (l .i) (a .at + 8 - l .i) (l .n) (omega arith) (omega arith) (λ q. c .before .if4 .left (e ∙ q))))
+    sym (ap (scanOf (a .bytes .now)) (sym (l .inv .4) ∙ next-full (a .bytes .now) (l .i) (a .at + 8 - l .i) (l .n) h (none-more (a .at + 8) (l .i) (c .if5 .taken)) (λ q. c .before .if4 .left (e ∙ q))))
 
 returns-6 : tie.Need-returns-6 Inv-loop μ-loop
 returns-6 c =
     let l = c .before .before .before .before .before .before .loop in
     let a = c .before .before .before .before .before .before .before .before .before .before .before .before .before .args in
+    let h = c .before .before .before .before .before .loop-test .taken in
     let e = c .before .before .before .wide2 .ensures .0 in
-    sym (ap (scanOf (a .bytes .now)) (sym (l .inv .4) ∙ next-low (a .bytes .now) (l .i) (a .at + 8 - l .i) (l .n) (omega arith) (λ q. c .before .before .if4 .left (e ∙ q)) (omega arith)))
+    sym (ap (scanOf (a .bytes .now)) (sym (l .inv .4) ∙ next-low (a .bytes .now) (l .i) (a .at + 8 - l .i) (l .n) h (λ q. c .before .before .if4 .left (e ∙ q)) (subst (λ (x : ℕ). x < 48) e (c .if6 .taken))))
 
 returns-7 : tie.Need-returns-7 Inv-loop μ-loop
 returns-7 c =
     let l = c .before .before .before .before .before .before .before .loop in
     let a = c .before .before .before .before .before .before .before .before .before .before .before .before .before .before .args in
+    let h = c .before .before .before .before .before .before .loop-test .taken in
     let e = c .before .before .before .before .wide2 .ensures .0 in
-    sym (ap (scanOf (a .bytes .now)) (sym (l .inv .4) ∙ next-high (a .bytes .now) (l .i) (a .at + 8 - l .i) (l .n) (omega arith) (omega arith)))
+    sym (ap (scanOf (a .bytes .now)) (sym (l .inv .4) ∙ next-high (a .bytes .now) (l .i) (a .at + 8 - l .i) (l .n) h (subst (λ (x : ℕ). 57 < x) e (c .if7 .taken))))
 
 mul-n : tie.Need-mul-n Inv-loop μ-loop
 mul-n c =
     let l = c .before .before .before .before .before .before .before .loop in
     let a = c .before .before .before .before .before .before .before .before .before .before .before .before .before .before .args in
-    omega (arith, fits (l .i - a .at) (a .at + 8 - l .i) (l .n) (l .inv .3) (omega arith))
+    record { fits = times-ten (a .bytes .now) (a .at) (l .i) (l .n) _ (l .inv .0) (c .before .before .if5 .left) (l .inv .3) (c .if7 .left) }
 
 add-n : tie.Need-add-n Inv-loop μ-loop
 add-n c =
     let l = c .before .before .before .before .before .before .before .loop in
     let a = c .before .before .before .before .before .before .before .before .before .before .before .before .before .before .args in
-    omega (arith, fits (l .i - a .at) (a .at + 8 - l .i) (l .n) (l .inv .3) (omega arith))
+    record { fits = plus-digit (a .bytes .now) (a .at) (l .i) (l .n) _ (l .inv .0) (c .before .before .if5 .left) (l .inv .3) (c .if7 .left) }
 
 add-i-2 : tie.Need-add-i-2 Inv-loop μ-loop
 add-i-2 c = search needs
@@ -126,19 +126,9 @@ loop-again : tie.Need-loop-again Inv-loop μ-loop
 loop-again c =
     let l = c .before .before .before .before .before .before .before .loop in
     let a = c .before .before .before .before .before .before .before .before .before .before .before .before .before .before .args in
-    let bytes : List ℕ = a .bytes .now in
+    let h = c .before .before .before .before .before .before .loop-test .taken in
     let e = c .before .before .before .before .wide2 .ensures .0 in
-    let j : l .i + 1 - a .at ≡ suc (l .i - a .at) = omega arith in
-    let p : 10 ^ suc (l .i - a .at) ≡ 10 ^ (l .i - a .at) * 10 = pow-suc 10 (l .i - a .at) in
-    let s : numberFrom (a .at + 8 - l .i) (l .n) (drop (l .i) bytes) ≡ numberFrom (a .at + 8 - (l .i + 1)) (10 * l .n + (getD bytes (l .i) 0 - 48)) (drop (l .i + 1) bytes) =
-    next-digit bytes (l .i) (a .at + 8 - l .i) (l .n) (omega arith) (a .at + 8 - (l .i + 1)) (omega arith) (omega arith) (omega arith)
-    in (
-      omega arith,
-      omega arith,
-      omega arith,
-      rw (j, p) (omega arith),
-      ap (λ (x : ℕ). numberFrom (a .at + 8 - (l .i + 1)) (10 * l .n + (x - 48)) (drop (l .i + 1) bytes)) e ∙ sym s ∙ l .inv .4,
-    )
+    digit-turn (a .bytes .now) (a .at) (l .i) (l .n) _ (l .inv .0) (c .before .before .if5 .left) (l .inv .3) (c .if7 .left) h e (c .before .if6 .left) (l .inv .4)
 
 returns-8 : tie.Need-returns-8 Inv-loop μ-loop
 returns-8 c =
