@@ -33,7 +33,6 @@ fn proved_encode(out: &mut [u8], stamp: u32, slot: u32, rows: &[u32]) {
 }
 
 /// A metadata page in plain Rust.
-#[inline(never)]
 fn encode(stamp: u32, window: &[u32], rows: &[u32]) -> [u8; PAGE] {
     let mut page = [0u8; PAGE];
     page[0..4].copy_from_slice(&stamp.to_le_bytes());
