@@ -87,7 +87,7 @@ nth-other l k s h a b f = go (nth-value l k s h (omega arith))
     go (inr e) = omega (arith, e, f, b)
 
 -- every slot is met
-nth-meets : (l : Label) (s u : Slot) → s .0 < l .slots → u .0 < l .slots → (k : ℕ) × (k < l .slots) × (nth l k s ≡ u)
+pub nth-meets : (l : Label) (s u : Slot) → s .0 < l .slots → u .0 < l .slots → (k : ℕ) × (k < l .slots) × (nth l k s ≡ u)
 nth-meets l s u h g = go (told (ltb (u .0) (s .0)))
   where
     at : (k : ℕ) → k < l .slots → (s .0 + k ≡ u .0) ⊎ (s .0 + k ≡ u .0 + l .slots) → (j : ℕ) × (j < l .slots) × (nth l j s ≡ u)

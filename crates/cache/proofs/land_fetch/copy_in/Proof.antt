@@ -1,0 +1,43 @@
+use mathlib.Core.Path.{_∙_}
+use borrow.Author.Needs.{needs}
+use Rattle.cache.proofs.MoveLaws.{data-holds, block-holds}
+use Rattle.cache.proofs.land_fetch.copy_in.Statement.{statement}
+use Rattle.cache.proofs.land_fetch.copy_in.Tie as tie
+
+label-requires : tie.Need-label-requires
+label-requires c κs = search needs
+
+data-place-requires : tie.Need-data-place-requires
+data-place-requires c κs = search needs
+
+block-place-requires : tie.Need-block-place-requires
+block-place-requires c κs = search needs
+
+copy-page-requires : tie.Need-copy-page-requires
+copy-page-requires c κs =
+    let s = c .before .before .before .before .before .before in
+    let a = s .args in
+    let l = c .before .before .before .label in (
+      data-holds (a .ssd .now) (a .state) (l .result) (a .s) _ (s .pre .0) (s .pre .1 .1 .0) (l .ensures) (c .before .data-place .ensures),
+      block-holds (a .hdd .now) (a .state) (l .result) (a .b) _ (s .pre .1 .0) (s .pre .1 .1 .1) (c .block-place .ensures),
+    )
+
+same-length : tie.Need-same-length
+same-length c = search needs
+
+returns : tie.Need-returns
+returns c =
+    let d = c .before .before .before in
+    c .before .before .copy-page .ensures
+    ∙ rw (d .block-place .ensures, d .before .data-place .ensures, d .before .before .before .label .ensures)
+
+pub copy-in-spec : {M : Type 1} → statement M
+copy-in-spec =
+    tie.close
+    (tie.spec
+    label-requires
+    data-place-requires
+    block-place-requires
+    copy-page-requires
+    same-length
+    returns)

@@ -1,0 +1,46 @@
+// "Fetch a block not cached: as an offer by sweep, with flags 5."
+use crate::answers;
+use crate::judge;
+use crate::sweeping;
+use layout::Block;
+use protocol::Condition;
+use protocol::Outcome;
+use protocol::Record;
+ghost use mathlib.Core.Path.{_≡_};
+ghost use mathlib.Core.Bool.{Bool, true, false};
+ghost use Prim.Native.Nat.{ℕ, _+_, _*_, _≤_, _<_};
+ghost use lib.ListN.{length};
+ghost use Rattle.protocol.specs.Paper.{paperOf};
+ghost use Rattle.protocol.specs.Calls.{fetchOf};
+
+pub fn fetch(
+    ssd: &mut [u8],
+    hdd: &mut [u8],
+    table: &mut [u32],
+    state: Record,
+    block: Block,
+) -> Outcome
+    ensures { λ q. ⌜ record { said = paperOf (q .answer); state = q .state; table = now (table .exit); ssd = now (ssd .exit); hdd = now (hdd .exit) } ≡ fetchOf (now (ssd .entry)) (now (hdd .entry)) (now (table .entry)) state block ⌝ }
+{
+    let judged = judge::serves(ssd.len(), hdd.len(), 4096, table, state, block);
+    let number = judged.number;
+    if number != 0 {
+        return answers::refused(number, state);
+    }
+    let condition = judged.condition;
+    match condition {
+        Condition::NotCached => sweeping::sweep_for(
+            ssd,
+            hdd,
+            table,
+            state,
+            block,
+            5,
+            judged.writing,
+        ),
+        Condition::Clean(_) => answers::refused(10, state),
+        Condition::Dirty(_) => answers::refused(10, state),
+        Condition::Writing(_) => answers::refused(8, state),
+        Condition::Fetching(_) => answers::refused(8, state),
+    }
+}

@@ -1,0 +1,32 @@
+// "Flush: if unsettled, store metadata page 0; else "nothing to do"."
+use crate::answers;
+use crate::judge;
+use crate::moves;
+use layout::Block;
+use protocol::Answer;
+use protocol::Outcome;
+use protocol::Record;
+ghost use mathlib.Core.Path.{_≡_};
+ghost use mathlib.Core.Bool.{Bool, true, false};
+ghost use Prim.Native.Nat.{ℕ, _+_, _*_, _≤_, _<_};
+ghost use lib.ListN.{length};
+ghost use Rattle.protocol.specs.Paper.{paperOf};
+ghost use Rattle.protocol.specs.Calls.{flushOf};
+
+pub fn flush(ssd: &mut [u8], hdd: &[u8], table: &[u32], state: Record) -> Outcome
+    ensures { λ q. ⌜ record { said = paperOf (q .answer); state = q .state; table = now (table .entry); ssd = now (ssd .exit); hdd = now (hdd .entry) } ≡ flushOf (now (ssd .entry)) (now (hdd .entry)) (now (table .entry)) state ⌝ }
+{
+    let judged = judge::ready(ssd.len(), hdd.len(), 4096, table, state, Block(0));
+    let number = judged.number;
+    if number != 0 {
+        return answers::refused(number, state);
+    }
+    if !state.unconfirmed {
+        return answers::answered(Answer::NothingToDo, state);
+    }
+    if 4294967295 <= state.newest {
+        return answers::refused(13, state);
+    }
+    let next = moves::confirm(ssd, table, state, 0);
+    answers::answered(Answer::Done, next)
+}

@@ -1,0 +1,141 @@
+// "Format": begun by zeroing the table; then one store a step.
+use crate::answers;
+use crate::judge;
+use crate::moves;
+use layout::Label;
+use layout::Slot;
+use layout::label_page;
+use layout::places;
+use protocol::Answer;
+use protocol::Outcome;
+use protocol::Phase;
+use protocol::Record;
+ghost use mathlib.Core.Path.{_≡_};
+ghost use mathlib.Core.Bool.{Bool, true, false};
+ghost use Prim.Native.Nat.{ℕ, _+_, _*_, _≤_, _<_};
+ghost use lib.ListN.{length};
+ghost use Rattle.protocol.specs.Paper.{paperOf};
+ghost use mathlib.Core.List.{[]};
+ghost use lib.ListN.{replicate};
+ghost use Rattle.pages.specs.Pages.{putPage};
+ghost use Rattle.layout.specs.Places.{withinLimits, metaPages};
+ghost use Rattle.protocol.specs.declared.Phase.the-variants.{Formatting};
+ghost use Rattle.protocol.specs.Rows.{labelIn, windowIn, recordOf, withPhase};
+ghost use Rattle.protocol.specs.Perform.{formatStore, formatState};
+ghost use Rattle.protocol.specs.Calls.{formatOf};
+ghost use Rattle.cache.specs.Moves.{Fits};
+
+// Zeroes the table.
+fn clear_table(table: &mut [u32])
+    ensures { λ _. ⌜ now (table .exit) ≡ replicate (length (now (table .entry))) 0 ⌝ }
+{
+    let mut i = 0;
+    while i < table.len() {
+        table[i] = 0;
+        i += 1;
+    }
+}
+
+// The record with which a format begins.
+fn begun(l: Label) -> Record
+    ensures { λ r. ⌜ r ≡ recordOf l (record { 0 = 0 }) 0 (Formatting 0) false [] ⌝ }
+{
+    Record {
+        slots: l.slots,
+        blocks: l.blocks,
+        hand: Slot(0),
+        newest: 0,
+        phase: Phase::Formatting(0),
+        unconfirmed: false,
+        window: [Slot(0); 63],
+        count: 0,
+    }
+}
+
+pub fn format(
+    ssd: &[u8],
+    hdd: &[u8],
+    table: &mut [u32],
+    state: Record,
+    slots: u32,
+    blocks: u32,
+) -> Outcome
+    ensures { λ q. ⌜ record { said = paperOf (q .answer); state = q .state; table = now (table .exit); ssd = now (ssd .entry); hdd = now (hdd .entry) } ≡ formatOf (now (ssd .entry)) (now (hdd .entry)) (now (table .entry)) state slots blocks ⌝ }
+{
+    let l = places::label(slots, blocks);
+    if !places::within_limits(l) {
+        return answers::refused(1, state);
+    }
+    if !judge::lengths_ok(l, ssd.len(), hdd.len(), table.len()) {
+        return answers::refused(4, state);
+    }
+    clear_table(table);
+    let next = begun(l);
+    answers::answered(Answer::Done, next)
+}
+
+// The store of a format's step, after so many of them.
+fn format_store(ssd: &mut [u8], table: &[u32], state: Record, done: u32)
+    requires { ⌜ Fits (length (now ssd)) (length (now table)) state ⌝ }
+    requires { ⌜ withinLimits (labelIn state) ≡ true ⌝ }
+    ensures { λ _. ⌜ now (ssd .exit) ≡ putPage (now (ssd .entry)) (formatStore (labelIn state) (now (table .entry)) (windowIn state) done .place) (formatStore (labelIn state) (now (table .entry)) (windowIn state) done .bytes) ⌝ }
+{
+    if done == 0 {
+        pages::clear_page(ssd, 0);
+        return;
+    }
+    let l = places::label(state.slots, state.blocks);
+    let p = done - 1;
+    if places::meta_pages(l) <= p {
+        let page = label_page::encode_label(l);
+        pages::store(ssd, 0, &page);
+        return;
+    }
+    moves::store_meta(ssd, table, state, 0, p);
+}
+
+// The record in another phase.
+fn with_phase(state: Record, phase: Phase) -> Record
+    ensures { λ r. ⌜ r ≡ withPhase state phase ⌝ }
+{
+    let hand = state.hand;
+    let window = state.window;
+    Record {
+        slots: state.slots,
+        blocks: state.blocks,
+        hand,
+        newest: state.newest,
+        phase,
+        unconfirmed: state.unconfirmed,
+        window,
+        count: state.count,
+    }
+}
+
+// The record after a format's step, after so many of them before it.
+fn format_state(state: Record, done: u32) -> Record
+    requires { ⌜ done ≤ metaPages (labelIn state) + 1 ⌝ }
+    ensures { λ r. ⌜ r ≡ formatState (labelIn state) state done ⌝ }
+{
+    let l = places::label(state.slots, state.blocks);
+    if places::meta_pages(l) + 1 <= done {
+        let first = Slot(0);
+        let mut next = with_phase(state, Phase::Ready);
+        next.hand = first;
+        next.newest = 0;
+        next.unconfirmed = false;
+        return next;
+    }
+    with_phase(state, Phase::Formatting(done + 1))
+}
+
+// A step of a format, after so many of them.
+pub fn format_step(ssd: &mut [u8], table: &[u32], state: Record, done: u32) -> Record
+    requires { ⌜ Fits (length (now ssd)) (length (now table)) state ⌝ }
+    requires { ⌜ withinLimits (labelIn state) ≡ true ⌝ }
+    requires { ⌜ done ≤ metaPages (labelIn state) + 1 ⌝ }
+    ensures { λ r. ⌜ (r ≡ formatState (labelIn state) state done) × (now (ssd .exit) ≡ putPage (now (ssd .entry)) (formatStore (labelIn state) (now (table .entry)) (windowIn state) done .place) (formatStore (labelIn state) (now (table .entry)) (windowIn state) done .bytes)) ⌝ }
+{
+    format_store(ssd, table, state, done);
+    format_state(state, done)
+}

@@ -1,0 +1,63 @@
+// "Land 4,096 bytes for a block open for writing, or dirty and not open: store its slot's page."
+use crate::answers;
+use crate::judge;
+use crate::moves;
+use layout::Block;
+use layout::Slot;
+use layout::places;
+use protocol::Answer;
+use protocol::Condition;
+use protocol::Outcome;
+use protocol::Record;
+ghost use mathlib.Core.Path.{_≡_};
+ghost use mathlib.Core.Bool.{Bool, true, false};
+ghost use Prim.Native.Nat.{ℕ, _+_, _*_, _≤_, _<_};
+ghost use lib.ListN.{length};
+ghost use Rattle.protocol.specs.Paper.{paperOf};
+ghost use Rattle.pages.specs.Pages.{putPage};
+ghost use Rattle.layout.specs.Places.{ssdLength, dataPlace};
+ghost use Rattle.protocol.specs.Rows.{labelIn};
+ghost use Rattle.protocol.specs.Calls.{landOf};
+
+// Stores a slot's page.
+fn store_page(ssd: &mut [u8], state: Record, s: Slot, page: &[u8])
+    requires { ⌜ length (now ssd) ≡ ssdLength (labelIn state) ⌝ }
+    requires { ⌜ length (now page) ≡ 4096 ⌝ }
+    requires { ⌜ s .0 < state .slots ⌝ }
+    ensures { λ _. ⌜ now (ssd .exit) ≡ putPage (now (ssd .entry)) (dataPlace (labelIn state) s) (now (page .entry)) ⌝ }
+{
+    let l = places::label(state.slots, state.blocks);
+    pages::store(ssd, places::data_place(l, s), page);
+}
+
+pub fn land(
+    ssd: &mut [u8],
+    hdd: &[u8],
+    table: &mut [u32],
+    state: Record,
+    block: Block,
+    page: &[u8],
+) -> Outcome
+    ensures { λ q. ⌜ record { said = paperOf (q .answer); state = q .state; table = now (table .exit); ssd = now (ssd .exit); hdd = now (hdd .entry) } ≡ landOf (now (ssd .entry)) (now (hdd .entry)) (now (table .entry)) state block (now (page .entry)) ⌝ }
+{
+    let judged = judge::serves(ssd.len(), hdd.len(), page.len(), table, state, block);
+    let number = judged.number;
+    if number != 0 {
+        return answers::refused(number, state);
+    }
+    let condition = judged.condition;
+    match condition {
+        Condition::NotCached => answers::refused(9, state),
+        Condition::Clean(_) => answers::refused(9, state),
+        Condition::Dirty(s) => {
+            store_page(ssd, state, s, page);
+            answers::answered(Answer::Done, state)
+        }
+        Condition::Writing(s) => {
+            store_page(ssd, state, s, page);
+            let next = moves::close_slot(table, state, s);
+            answers::answered(Answer::Done, next)
+        }
+        Condition::Fetching(_) => answers::refused(9, state),
+    }
+}

@@ -1,0 +1,39 @@
+// "Look up a block: its slot, if cached and not open, and set its used flag; else "on disk"."
+use crate::answers;
+use crate::judge;
+use crate::moves;
+use layout::Block;
+use protocol::Answer;
+use protocol::Condition;
+use protocol::Outcome;
+use protocol::Record;
+ghost use mathlib.Core.Path.{_≡_};
+ghost use mathlib.Core.Bool.{Bool, true, false};
+ghost use Prim.Native.Nat.{ℕ, _+_, _*_, _≤_, _<_};
+ghost use lib.ListN.{length};
+ghost use Rattle.protocol.specs.Paper.{paperOf};
+ghost use Rattle.protocol.specs.Calls.{lookUpOf};
+
+pub fn look_up(ssd: &[u8], hdd: &[u8], table: &mut [u32], state: Record, block: Block) -> Outcome
+    ensures { λ q. ⌜ record { said = paperOf (q .answer); state = q .state; table = now (table .exit); ssd = now (ssd .entry); hdd = now (hdd .entry) } ≡ lookUpOf (now (ssd .entry)) (now (hdd .entry)) (now (table .entry)) state block ⌝ }
+{
+    let judged = judge::serves(ssd.len(), hdd.len(), 4096, table, state, block);
+    let number = judged.number;
+    if number != 0 {
+        return answers::refused(number, state);
+    }
+    let condition = judged.condition;
+    match condition {
+        Condition::NotCached => answers::answered(Answer::OnDisk, state),
+        Condition::Clean(s) => {
+            moves::use_slot(table, s);
+            answers::answered(Answer::InSlot(s), state)
+        }
+        Condition::Dirty(s) => {
+            moves::use_slot(table, s);
+            answers::answered(Answer::InSlot(s), state)
+        }
+        Condition::Writing(_) => answers::answered(Answer::OnDisk, state),
+        Condition::Fetching(_) => answers::answered(Answer::OnDisk, state),
+    }
+}

@@ -1,0 +1,57 @@
+// "Offer a block": dirty and not open "overwrite", clean "announced", not cached swept for.
+use crate::answers;
+use crate::judge;
+use crate::moves;
+use crate::sweeping;
+use layout::Block;
+use protocol::Answer;
+use protocol::Condition;
+use protocol::Outcome;
+use protocol::Record;
+ghost use mathlib.Core.Path.{_≡_};
+ghost use mathlib.Core.Bool.{Bool, true, false};
+ghost use Prim.Native.Nat.{ℕ, _+_, _*_, _≤_, _<_};
+ghost use lib.ListN.{length};
+ghost use Rattle.protocol.specs.Paper.{paperOf};
+ghost use Rattle.protocol.specs.Calls.{offerOf};
+
+pub fn offer(
+    ssd: &mut [u8],
+    hdd: &mut [u8],
+    table: &mut [u32],
+    state: Record,
+    block: Block,
+) -> Outcome
+    ensures { λ q. ⌜ record { said = paperOf (q .answer); state = q .state; table = now (table .exit); ssd = now (ssd .exit); hdd = now (hdd .exit) } ≡ offerOf (now (ssd .entry)) (now (hdd .entry)) (now (table .entry)) state block ⌝ }
+{
+    let judged = judge::serves(ssd.len(), hdd.len(), 4096, table, state, block);
+    let number = judged.number;
+    if number != 0 {
+        return answers::refused(number, state);
+    }
+    let condition = judged.condition;
+    match condition {
+        Condition::NotCached => sweeping::sweep_for(
+            ssd,
+            hdd,
+            table,
+            state,
+            block,
+            7,
+            judged.writing,
+        ),
+        Condition::Clean(s) => {
+            let spent = sweeping::opening_number(judged.writing, state.newest);
+            if spent != 0 {
+                return answers::refused(spent, state);
+            }
+            let flags = table[2 * (s.0 as usize) + 1] + 6;
+            let hand = state.hand;
+            let next = moves::open_slot(ssd, table, state, s, block, flags, hand);
+            answers::answered(Answer::Announced(s), next)
+        }
+        Condition::Dirty(_) => answers::answered(Answer::Overwrite, state),
+        Condition::Writing(_) => answers::refused(8, state),
+        Condition::Fetching(_) => answers::refused(8, state),
+    }
+}

@@ -1,0 +1,42 @@
+// "Write back a block: if dirty, copy to HDD and mark clean; uncached or clean: "nothing to do"."
+use crate::answers;
+use crate::judge;
+use crate::moves;
+use layout::Block;
+use protocol::Answer;
+use protocol::Condition;
+use protocol::Outcome;
+use protocol::Record;
+ghost use mathlib.Core.Path.{_≡_};
+ghost use mathlib.Core.Bool.{Bool, true, false};
+ghost use Prim.Native.Nat.{ℕ, _+_, _*_, _≤_, _<_};
+ghost use lib.ListN.{length};
+ghost use Rattle.protocol.specs.Paper.{paperOf};
+ghost use Rattle.protocol.specs.Calls.{writeBackOf};
+
+pub fn write_back(
+    ssd: &[u8],
+    hdd: &mut [u8],
+    table: &mut [u32],
+    state: Record,
+    block: Block,
+) -> Outcome
+    ensures { λ q. ⌜ record { said = paperOf (q .answer); state = q .state; table = now (table .exit); ssd = now (ssd .entry); hdd = now (hdd .exit) } ≡ writeBackOf (now (ssd .entry)) (now (hdd .entry)) (now (table .entry)) state block ⌝ }
+{
+    let judged = judge::serves(ssd.len(), hdd.len(), 4096, table, state, block);
+    let number = judged.number;
+    if number != 0 {
+        return answers::refused(number, state);
+    }
+    let condition = judged.condition;
+    match condition {
+        Condition::NotCached => answers::answered(Answer::NothingToDo, state),
+        Condition::Clean(_) => answers::answered(Answer::NothingToDo, state),
+        Condition::Dirty(s) => {
+            moves::copy_out(ssd, hdd, table, state, s);
+            answers::answered(Answer::Done, state)
+        }
+        Condition::Writing(_) => answers::refused(8, state),
+        Condition::Fetching(_) => answers::refused(8, state),
+    }
+}
