@@ -1,0 +1,87 @@
+-- A result code tells a refusal from an answer: 1 to 13 are refusals, which change nothing; 0 and from 101 on are answers, of
+-- which 101 and 104 carry a slot.
+use Prim.Native.Nat.{ℕ, _≤_}
+use mathlib.Core.Path.{_≡_, refl}
+use mathlib.Core.Bool.{true, false, _||_}
+use mathlib.Core.List.{List}
+use mathlib.Core.Option.{Option, some, none}
+use native.Mathlib.Omega.{arith}
+use lib.Dec.{eqb, leb}
+use Rattle.protocol.specs.declared.Record.{Record}
+use Rattle.protocol.specs.declared.Answer.{Answer}
+use Rattle.protocol.specs.declared.Answer.the-variants.{Refused, Announced, Overwrite, CopiedOut, InSlot, OnDisk, NothingToDo, Done}
+use Rattle.protocol.specs.Paper.{paperOf, refused}
+use Rattle.protocol.specs.Box.{Box, left}
+use Rattle.protocol.specs.Plan.{Call}
+use Rattle.protocol.specs.Judge.{Reason, badLimits, noLabel, badRecord, wrongLength, badRows, wrongPhase, blockTooHigh, slotOpen, wrongState, hasSlot, windowFull, allOpen, stampsSpent, numberOf, judged}
+use Rattle.protocol.specs.Calls.{decided, effectOf, resultOf, boxOf}
+use Rattle.protocol.proofs.model.Base.{clash}
+use Rattle.protocol.proofs.why.Answers.{plan-answers}
+use Rattle.ferjulm.specs.Codes.{codeOf, slotAfter}
+use Rattle.ferjulm.specs.Calls.{kept, leftBy}
+
+pub record IsRefusal (code : ℕ) : Type 0 where
+  pub least : 1 ≤ code
+  pub most : code ≤ 13
+
+pub number-refuses : (r : Reason) → IsRefusal (numberOf r)
+number-refuses badLimits = omega arith
+number-refuses noLabel = omega arith
+number-refuses badRecord = omega arith
+number-refuses wrongLength = omega arith
+number-refuses badRows = omega arith
+number-refuses wrongPhase = omega arith
+number-refuses blockTooHigh = omega arith
+number-refuses slotOpen = omega arith
+number-refuses wrongState = omega arith
+number-refuses hasSlot = omega arith
+number-refuses windowFull = omega arith
+number-refuses allOpen = omega arith
+number-refuses stampsSpent = omega arith
+
+-- a call that is refused has a code from 1 to 13
+pub refusal-code : (c : Call) (x : Box) → refused (resultOf c x .said) ≡ true → IsRefusal (codeOf (resultOf c x .said))
+unfolding effectOf
+refusal-code c x h = by-reason (judged c x) h
+  where
+    by-reason : (o : Option Reason) → refused (decided o c x .said) ≡ true → IsRefusal (codeOf (decided o c x .said))
+    by-reason (some r) h = number-refuses r
+    by-reason none h = clash h (plan-answers c x)
+
+-- and changes nothing that was lent
+pub refusal-keeps : (c : Call) (ssd hdd table words : List ℕ) (slot : ℕ) (r : Record)
+    → let R = resultOf c (boxOf ssd hdd table r) in refused (R .said) ≡ true
+    → leftBy R words slot ≡ kept (codeOf (R .said)) ssd hdd table words slot
+unfolding effectOf
+refusal-keeps c ssd hdd table words slot r h = by-reason (judged c (boxOf ssd hdd table r)) h
+  where
+    x : Box
+    x = boxOf ssd hdd table r
+
+    by-reason : (o : Option Reason) → let R = left (decided o c x) (x .images) in refused (R .said) ≡ true
+        → leftBy R words slot ≡ kept (codeOf (R .said)) ssd hdd table words slot
+    by-reason (some q) h = refl
+    by-reason none h = clash h (plan-answers c x)
+
+-- any other answer has 0 or a code from 101 on
+pub answer-code : (a : Answer) → refused (paperOf a) ≡ false → (eqb (codeOf (paperOf a)) 0 || leb 101 (codeOf (paperOf a))) ≡ true
+answer-code (Refused n) h = clash refl h
+answer-code (Announced s) h = refl
+answer-code Overwrite h = refl
+answer-code CopiedOut h = refl
+answer-code (InSlot s) h = refl
+answer-code OnDisk h = refl
+answer-code NothingToDo h = refl
+answer-code Done h = refl
+
+-- the slot changes with 101 and 104 alone
+pub slot-code : (a : Answer) (before : ℕ) → (eqb (codeOf (paperOf a)) 101 || eqb (codeOf (paperOf a)) 104) ≡ false
+    → slotAfter (paperOf a) before ≡ before
+slot-code (Refused n) before h = refl
+slot-code (Announced s) before h = clash refl h
+slot-code Overwrite before h = refl
+slot-code CopiedOut before h = refl
+slot-code (InSlot s) before h = clash refl h
+slot-code OnDisk before h = refl
+slot-code NothingToDo before h = refl
+slot-code Done before h = refl

@@ -1,0 +1,5 @@
+pub mod WordLaws
+pub mod RoundTrip
+pub mod CodeLaws
+pub mod CodesApart
+pub mod ViewLaws

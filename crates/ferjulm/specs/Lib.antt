@@ -1,0 +1,4 @@
+pub mod Words
+pub mod Codes
+pub mod Calls
+pub mod View

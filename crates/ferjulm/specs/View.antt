@@ -1,0 +1,50 @@
+-- What a view for C leaves: the result code, the image that the page lies in, and the page's first byte there.
+use Prim.Native.Nat.{ℕ, _*_}
+use mathlib.Core.List.{List}
+use mathlib.Core.Option.{Option, some, none}
+use Rattle.layout.specs.declared.Block.{Block}
+use Rattle.layout.specs.declared.Label.{Label}
+use Rattle.layout.specs.Places.{dataPlace, blockPlace}
+use Rattle.protocol.specs.declared.Record.{Record}
+use Rattle.protocol.specs.declared.Condition.{Condition}
+use Rattle.protocol.specs.declared.Condition.the-variants.{NotCached, Clean, Dirty, Writing, Fetching}
+use Rattle.protocol.specs.Rows.{labelIn}
+use Rattle.protocol.specs.Condition.{conditionOf}
+use Rattle.protocol.specs.Plan.{view}
+use Rattle.protocol.specs.Judge.{Reason, numberOf, judged}
+use Rattle.protocol.specs.Calls.{boxOf}
+use Rattle.ferjulm.specs.declared.Place.{Place}
+use Rattle.ferjulm.specs.Words.{recordIn}
+
+-- page i of image 1, the SSD, or of image 2, the HDD
+abbrev pub pageOf : ℕ → ℕ → Place
+pageOf image i = record { image = image; offset = 4096 * i }
+
+-- where a view's page lies: in the SSD, if cached and not open; else in the HDD
+abbrev pub placeFor : Label → Block → Condition → Place
+placeFor l b NotCached = pageOf 2 (blockPlace l b)
+placeFor l b (Clean s) = pageOf 1 (dataPlace l s)
+placeFor l b (Dirty s) = pageOf 1 (dataPlace l s)
+placeFor l b (Writing s) = pageOf 2 (blockPlace l b)
+placeFor l b (Fetching s) = pageOf 2 (blockPlace l b)
+
+pub record ViewLeft : Type 0 where
+  pub code : ℕ
+  pub place : Place
+
+-- a refusal leaves the place as it was
+abbrev pub placed : Option Reason → Place → Place → ViewLeft
+placed (some r) there before = record { code = numberOf r; place = before }
+placed none there before = record { code = 0; place = there }
+
+unfoldable pub viewPlaceOf : List ℕ → List ℕ → List ℕ → Record → Block → Place → ViewLeft
+viewPlaceOf ssd hdd table state b before =
+    placed (judged (view b) (boxOf ssd hdd table state)) (placeFor (labelIn state) b (conditionOf table b)) before
+
+-- a view by the record that the words are; 3 where they are none
+abbrev pub viewOn : Option Record → List ℕ → List ℕ → List ℕ → Block → Place → ViewLeft
+viewOn none ssd hdd table b before = record { code = 3; place = before }
+viewOn (some r) ssd hdd table b before = viewPlaceOf ssd hdd table r b before
+
+unfoldable pub cView : List ℕ → List ℕ → List ℕ → List ℕ → Block → Place → ViewLeft
+cView ssd hdd table words b before = viewOn (recordIn words) ssd hdd table b before

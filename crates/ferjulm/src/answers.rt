@@ -1,0 +1,53 @@
+// What an answer becomes for C.
+use protocol::Answer;
+ghost use mathlib.Core.Path.{_≡_};
+ghost use Rattle.protocol.specs.Paper.{paperOf, refused};
+ghost use Rattle.ferjulm.specs.Codes.{codeOf, slotAfter};
+
+// Whether it is a refusal.
+pub fn is_refused(answer: Answer) -> bool
+    ensures { λ r. ⌜ r ≡ refused (paperOf answer) ⌝ }
+{
+    match answer {
+        Answer::Refused(_) => true,
+        Answer::Announced(_) => false,
+        Answer::Overwrite => false,
+        Answer::CopiedOut => false,
+        Answer::InSlot(_) => false,
+        Answer::OnDisk => false,
+        Answer::NothingToDo => false,
+        Answer::Done => false,
+    }
+}
+
+// Its result code.
+pub fn code_of(answer: Answer) -> u32
+    ensures { λ r. ⌜ r ≡ codeOf (paperOf answer) ⌝ }
+{
+    match answer {
+        Answer::Refused(number) => number,
+        Answer::Announced(_) => 101,
+        Answer::Overwrite => 102,
+        Answer::CopiedOut => 103,
+        Answer::InSlot(_) => 104,
+        Answer::OnDisk => 105,
+        Answer::NothingToDo => 106,
+        Answer::Done => 0,
+    }
+}
+
+// The slot that it carries, or what was there before.
+pub fn slot_of(answer: Answer, before: u32) -> u32
+    ensures { λ r. ⌜ r ≡ slotAfter (paperOf answer) before ⌝ }
+{
+    match answer {
+        Answer::Refused(_) => before,
+        Answer::Announced(s) => s.0,
+        Answer::Overwrite => before,
+        Answer::CopiedOut => before,
+        Answer::InSlot(s) => s.0,
+        Answer::OnDisk => before,
+        Answer::NothingToDo => before,
+        Answer::Done => before,
+    }
+}

@@ -1,0 +1,173 @@
+// The calls but a view: the words are judged and unpacked, the box's call is made, and what it leaves is packed.
+use crate::closing;
+use crate::record;
+use layout::Block;
+use layout::places;
+ghost use mathlib.Core.Path.{_≡_};
+ghost use Rattle.protocol.specs.Plan.{flush, offer, fetch, landFetch, lookUp, writeBack, land};
+ghost use Rattle.ferjulm.specs.Calls.{cCall, cFormat};
+
+// Begins a format. The words handed in are not judged, but for their number.
+#[no_mangle]
+pub extern "C" fn ferjulm_format(
+    ssd: &[u8],
+    hdd: &[u8],
+    table: &mut [u32],
+    words: &mut [u32],
+    slots: u32,
+    blocks: u32,
+    slot: &mut u32,
+) -> u32
+    ensures { λ r. ⌜ record { code = r; words = now (words .exit); table = now (table .exit); ssd = now (ssd .entry); hdd = now (hdd .entry); slot = now (slot .exit) } ≡ cFormat slots blocks (now (ssd .entry)) (now (hdd .entry)) (now (table .entry)) (now (words .entry)) (now (slot .entry)) ⌝ }
+{
+    if words.len() != 71 {
+        let l = places::label(slots, blocks);
+        if places::within_limits(l) {
+            return 3;
+        }
+        return 1;
+    }
+    let state = record::unpack(words);
+    let outcome = cache::format::format(ssd, hdd, table, state, slots, blocks);
+    closing::closed(words, slot, outcome)
+}
+
+// Offers a block.
+#[no_mangle]
+pub extern "C" fn ferjulm_offer(
+    ssd: &mut [u8],
+    hdd: &mut [u8],
+    table: &mut [u32],
+    words: &mut [u32],
+    block: u32,
+    slot: &mut u32,
+) -> u32
+    ensures { λ r. ⌜ record { code = r; words = now (words .exit); table = now (table .exit); ssd = now (ssd .exit); hdd = now (hdd .exit); slot = now (slot .exit) } ≡ cCall (offer (record { 0 = block })) (now (ssd .entry)) (now (hdd .entry)) (now (table .entry)) (now (words .entry)) (now (slot .entry)) ⌝ }
+{
+    if !record::is_record(words) {
+        return 3;
+    }
+    let state = record::unpack(words);
+    let outcome = cache::offer::offer(ssd, hdd, table, state, Block(block));
+    closing::closed(words, slot, outcome)
+}
+
+// Lands a page for a block.
+#[no_mangle]
+pub extern "C" fn ferjulm_land(
+    ssd: &mut [u8],
+    hdd: &[u8],
+    table: &mut [u32],
+    words: &mut [u32],
+    block: u32,
+    page: &[u8],
+    slot: &mut u32,
+) -> u32
+    ensures { λ r. ⌜ record { code = r; words = now (words .exit); table = now (table .exit); ssd = now (ssd .exit); hdd = now (hdd .entry); slot = now (slot .exit) } ≡ cCall (land (record { 0 = block }) (now (page .entry))) (now (ssd .entry)) (now (hdd .entry)) (now (table .entry)) (now (words .entry)) (now (slot .entry)) ⌝ }
+{
+    if !record::is_record(words) {
+        return 3;
+    }
+    let state = record::unpack(words);
+    let outcome = cache::land::land(ssd, hdd, table, state, Block(block), page);
+    closing::closed(words, slot, outcome)
+}
+
+// Fetches a block.
+#[no_mangle]
+pub extern "C" fn ferjulm_fetch(
+    ssd: &mut [u8],
+    hdd: &mut [u8],
+    table: &mut [u32],
+    words: &mut [u32],
+    block: u32,
+    slot: &mut u32,
+) -> u32
+    ensures { λ r. ⌜ record { code = r; words = now (words .exit); table = now (table .exit); ssd = now (ssd .exit); hdd = now (hdd .exit); slot = now (slot .exit) } ≡ cCall (fetch (record { 0 = block })) (now (ssd .entry)) (now (hdd .entry)) (now (table .entry)) (now (words .entry)) (now (slot .entry)) ⌝ }
+{
+    if !record::is_record(words) {
+        return 3;
+    }
+    let state = record::unpack(words);
+    let outcome = cache::fetch::fetch(ssd, hdd, table, state, Block(block));
+    closing::closed(words, slot, outcome)
+}
+
+// Lands a fetch.
+#[no_mangle]
+pub extern "C" fn ferjulm_land_fetch(
+    ssd: &mut [u8],
+    hdd: &[u8],
+    table: &mut [u32],
+    words: &mut [u32],
+    block: u32,
+    slot: &mut u32,
+) -> u32
+    ensures { λ r. ⌜ record { code = r; words = now (words .exit); table = now (table .exit); ssd = now (ssd .exit); hdd = now (hdd .entry); slot = now (slot .exit) } ≡ cCall (landFetch (record { 0 = block })) (now (ssd .entry)) (now (hdd .entry)) (now (table .entry)) (now (words .entry)) (now (slot .entry)) ⌝ }
+{
+    if !record::is_record(words) {
+        return 3;
+    }
+    let state = record::unpack(words);
+    let outcome = cache::land_fetch::land_fetch(ssd, hdd, table, state, Block(block));
+    closing::closed(words, slot, outcome)
+}
+
+// Looks a block up.
+#[no_mangle]
+pub extern "C" fn ferjulm_look_up(
+    ssd: &[u8],
+    hdd: &[u8],
+    table: &mut [u32],
+    words: &mut [u32],
+    block: u32,
+    slot: &mut u32,
+) -> u32
+    ensures { λ r. ⌜ record { code = r; words = now (words .exit); table = now (table .exit); ssd = now (ssd .entry); hdd = now (hdd .entry); slot = now (slot .exit) } ≡ cCall (lookUp (record { 0 = block })) (now (ssd .entry)) (now (hdd .entry)) (now (table .entry)) (now (words .entry)) (now (slot .entry)) ⌝ }
+{
+    if !record::is_record(words) {
+        return 3;
+    }
+    let state = record::unpack(words);
+    let outcome = cache::look_up::look_up(ssd, hdd, table, state, Block(block));
+    closing::closed(words, slot, outcome)
+}
+
+// Writes a block back.
+#[no_mangle]
+pub extern "C" fn ferjulm_write_back(
+    ssd: &[u8],
+    hdd: &mut [u8],
+    table: &mut [u32],
+    words: &mut [u32],
+    block: u32,
+    slot: &mut u32,
+) -> u32
+    ensures { λ r. ⌜ record { code = r; words = now (words .exit); table = now (table .exit); ssd = now (ssd .entry); hdd = now (hdd .exit); slot = now (slot .exit) } ≡ cCall (writeBack (record { 0 = block })) (now (ssd .entry)) (now (hdd .entry)) (now (table .entry)) (now (words .entry)) (now (slot .entry)) ⌝ }
+{
+    if !record::is_record(words) {
+        return 3;
+    }
+    let state = record::unpack(words);
+    let outcome = cache::write_back::write_back(ssd, hdd, table, state, Block(block));
+    closing::closed(words, slot, outcome)
+}
+
+// Flushes.
+#[no_mangle]
+pub extern "C" fn ferjulm_flush(
+    ssd: &mut [u8],
+    hdd: &[u8],
+    table: &[u32],
+    words: &mut [u32],
+    slot: &mut u32,
+) -> u32
+    ensures { λ r. ⌜ record { code = r; words = now (words .exit); table = now (table .entry); ssd = now (ssd .exit); hdd = now (hdd .entry); slot = now (slot .exit) } ≡ cCall flush (now (ssd .entry)) (now (hdd .entry)) (now (table .entry)) (now (words .entry)) (now (slot .entry)) ⌝ }
+{
+    if !record::is_record(words) {
+        return 3;
+    }
+    let state = record::unpack(words);
+    let outcome = cache::flush::flush(ssd, hdd, table, state);
+    closing::closed(words, slot, outcome)
+}
