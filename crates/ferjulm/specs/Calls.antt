@@ -8,7 +8,8 @@ use lib.Dec.{eqb}
 use Rattle.layout.specs.Places.{labelOf, withinLimits}
 use Rattle.protocol.specs.declared.Record.{Record}
 use Rattle.protocol.specs.Box.{Result}
-use Rattle.protocol.specs.Plan.{Call, format}
+use Rattle.protocol.specs.Plan.{Call, format, reopen}
+use Rattle.protocol.specs.Judge.{labelTest}
 use Rattle.protocol.specs.Calls.{resultOf, boxOf}
 use Rattle.ferjulm.specs.Words.{unpacked, recordIn}
 use Rattle.ferjulm.specs.Codes.{codeOf, slotAfter, wordsAfter}
@@ -55,3 +56,7 @@ cFresh n c ssd hdd table words slot =
 abbrev pub cFormat : ℕ → ℕ → List ℕ → List ℕ → List ℕ → List ℕ → ℕ → Left
 cFormat slots blocks ssd hdd table words slot =
     cFresh (cond (withinLimits (labelOf slots blocks)) 3 1) (format slots blocks) ssd hdd table words slot
+
+-- reopen: of another length 3, after 2
+abbrev pub cReopen : List ℕ → List ℕ → List ℕ → List ℕ → ℕ → Left
+cReopen ssd hdd table words slot = cFresh (cond (labelTest ssd) 3 2) reopen ssd hdd table words slot

@@ -2,10 +2,14 @@
 use crate::closing;
 use crate::record;
 use layout::Block;
+use layout::LabelRead;
 use layout::places;
+use recovery::reopen;
 ghost use mathlib.Core.Path.{_≡_};
-ghost use Rattle.protocol.specs.Plan.{flush, offer, fetch, landFetch, lookUp, writeBack, land};
-ghost use Rattle.ferjulm.specs.Calls.{cCall, cFormat};
+ghost use mathlib.Core.Bool.{cond};
+ghost use Rattle.protocol.specs.Judge.{labelTest};
+ghost use Rattle.protocol.specs.Plan.{step, flush, offer, fetch, landFetch, lookUp, writeBack, land};
+ghost use Rattle.ferjulm.specs.Calls.{cCall, cFormat, cReopen};
 
 // Begins a format. The words handed in are not judged, but for their number.
 #[no_mangle]
@@ -169,5 +173,53 @@ pub extern "C" fn ferjulm_flush(
     }
     let state = record::unpack(words);
     let outcome = cache::flush::flush(ssd, hdd, table, state);
+    closing::closed(words, slot, outcome)
+}
+
+// Makes a step, of a format or of mending.
+#[no_mangle]
+pub extern "C" fn ferjulm_step(
+    ssd: &mut [u8],
+    hdd: &[u8],
+    table: &[u32],
+    words: &mut [u32],
+    slot: &mut u32,
+) -> u32
+    ensures { λ r. ⌜ record { code = r; words = now (words .exit); table = now (table .entry); ssd = now (ssd .exit); hdd = now (hdd .entry); slot = now (slot .exit) } ≡ cCall step (now (ssd .entry)) (now (hdd .entry)) (now (table .entry)) (now (words .entry)) (now (slot .entry)) ⌝ }
+{
+    if !record::is_record(words) {
+        return 3;
+    }
+    let state = record::unpack(words);
+    let outcome = recovery::step::step(ssd, hdd, table, state);
+    closing::closed(words, slot, outcome)
+}
+
+// The number of a reopening with words that can't hold a record.
+fn unheld(ssd: &[u8]) -> u32
+    ensures { λ r. ⌜ r ≡ cond (labelTest (now (ssd .entry))) 3 2 ⌝ }
+{
+    match reopen::label_of(ssd) {
+        LabelRead::Legal(_) => 3,
+        LabelRead::Illegal => 2,
+    }
+}
+
+// Reopens the box. The words handed in are not judged, but for their number.
+#[no_mangle]
+pub extern "C" fn ferjulm_reopen(
+    ssd: &[u8],
+    hdd: &[u8],
+    table: &mut [u32],
+    words: &mut [u32],
+    slot: &mut u32,
+) -> u32
+    ensures { λ r. ⌜ record { code = r; words = now (words .exit); table = now (table .exit); ssd = now (ssd .entry); hdd = now (hdd .entry); slot = now (slot .exit) } ≡ cReopen (now (ssd .entry)) (now (hdd .entry)) (now (table .entry)) (now (words .entry)) (now (slot .entry)) ⌝ }
+{
+    if words.len() != 71 {
+        return unheld(ssd);
+    }
+    let state = record::unpack(words);
+    let outcome = reopen::reopen(ssd, hdd, table, state);
     closing::closed(words, slot, outcome)
 }

@@ -1,0 +1,67 @@
+use mathlib.Core.Path.{_≡_, sym, _∙_}
+use mathlib.Core.Bool.{true}
+use borrow.Author.Tests.{not-true, not-false}
+use Rattle.protocol.specs.Plan.{step}
+use Rattle.ferjulm.specs.Words.{isRecord}
+use Rattle.ferjulm.proofs.CodeLaws.{record-length, no-record, on-record}
+use borrow.Author.Needs.{needs}
+use Rattle.ferjulm.proofs.calls.ferjulm_step.Statement.{statement}
+use Rattle.ferjulm.proofs.calls.ferjulm_step.Tie as tie
+
+is-record-requires : tie.Need-is-record-requires
+is-record-requires c κs = search needs
+
+same-length : tie.Need-same-length
+same-length c = search needs
+
+returns : tie.Need-returns
+returns c =
+    let r = c .before in
+    let a = r .before .before .before .before .before .before .args in
+    no-record step (a .ssd .now) (a .hdd .now) (a .table .now) (a .words .now) (a .slot .now)
+    (sym (r .is-record .ensures) ∙ not-true _ (c .if1 .taken))
+
+-- past the first test the words are a record
+legal : (c : tie.Else1) → isRecord (c .before .before .before .before .before .before .before .args .words .now) ≡ true
+legal c = sym (c .before .is-record .ensures) ∙ not-false _ (c .if1 .left)
+
+unpack-requires : tie.Need-unpack-requires
+unpack-requires c κs = record-length _ (legal (c .before))
+
+step-requires : tie.Need-step-requires
+step-requires c κs = search needs
+
+closed-requires : tie.Need-closed-requires
+closed-requires c κs =
+    record-length _
+    (legal (c .before .before .before .before .before .before .before .before))
+
+same-length-2 : tie.Need-same-length-2
+same-length-2 c = search needs
+
+same-length-3 : tie.Need-same-length-3
+same-length-3 c = search needs
+
+returns-2 : tie.Need-returns-2
+returns-2 c =
+    let q = c .before .before in
+    let p = q .before .before .before .before .before in
+    let u = p .before .before in
+    let e = u .before .before in
+    let a = e .before .before .before .before .before .before .before .args in
+    on-record step (a .ssd .now) (a .hdd .now) (a .table .now) (a .words .now) (a .slot .now)
+    (u .unpack .result) (p .step .result) (u .unpack .ensures) (p .step .ensures) (q .closed .ensures) (legal e)
+
+pub ferjulm-step-spec : {M : Type 1} → statement M
+ferjulm-step-spec =
+    tie.close
+    (tie.spec
+    is-record-requires
+    same-length
+    returns
+    unpack-requires
+    step-requires
+    closed-requires
+    same-length-2
+    same-length-3
+    returns-2)

@@ -1,0 +1,9 @@
+pub mod MendLaws
+pub mod StepLaws
+pub mod StoredLaws
+pub mod RuleLaws
+pub mod BitLaws
+pub mod TwiceLaws
+pub mod FillLaws
+pub mod ReopenLaws
+pub mod DispatchLaws

@@ -1,0 +1,168 @@
+-- Mending: the lowest page with a pending slot, and the pending slots of the others, place by place.
+use Prim.Native.Nat.{ℕ, zero, suc, _+_, _-_, _≤_, _<_}
+use mathlib.Core.Path.{_≡_, refl, sym, ap, _∙_}
+use mathlib.Core.Logic.{_≢_}
+use mathlib.Core.Bool.{Bool, true, false}
+use mathlib.Core.List.{List, [], _∷_, _++_}
+use native.Mathlib.Omega.{arith}
+use native.Mathlib.Numerals.{add-one}
+use lib.ListN.{length, getD, set, take, drop, replicate, length-take, length-append}
+use lib.Seq.{take-suc}
+use lib.Dec.{eqb, ltb}
+use borrow.Author.Tests.{ltb-true}
+use Rattle.layout.specs.declared.Slot.{Slot}
+use Rattle.layout.specs.declared.Label.{Label}
+use Rattle.layout.specs.Places.{metaPages, metaOf}
+use Rattle.layout.specs.PageRule.{inRange}
+use Rattle.protocol.specs.declared.Record.{Record}
+use Rattle.protocol.specs.declared.Phase.{Phase}
+use Rattle.protocol.specs.declared.Phase.the-variants.{Recovering}
+use Rattle.protocol.specs.Rows.{labelIn, windowIn, arrayOf}
+use Rattle.protocol.specs.Recovery.{offPage, phaseOf}
+use Rattle.protocol.specs.Plan.{lowestFrom, lowestPage}
+use Rattle.protocol.specs.Perform.{mendedAt}
+use Rattle.protocol.specs.Judge.{recordTest}
+use Rattle.protocol.proofs.model.Base.{and-left, and-right}
+use Rattle.table.proofs.RecordLaws.{array-more, kept, window-is, window-length}
+use Rattle.table.proofs.WindowLaws.{window-left, window-end}
+use Rattle.cache.specs.Moves.{Fits}
+use Rattle.cache.proofs.MoveLaws.{meta-of-low}
+use Rattle.table.specs.Scan.{orElse}
+use Rattle.recovery.specs.declared.Pending.{Pending}
+use Rattle.recovery.specs.Pending.{pendingOf, keptIf, keptOff, lower, phaseAt}
+
+-- the lowest page, by the slots that are left
+module _ (w : List Slot) (n i : ℕ) (d : Slot) (h : i < n) (m : n ≤ length w) where
+  pub lowest-left : (p : ℕ) → lowestFrom p (drop i (take n w)) ≡ lowestFrom (lower p (metaOf (getD w i d))) (drop (i + 1) (take n w))
+  unfolding lowestFrom
+  lowest-left p = rw (window-left w n i d h m) (go (ltb (metaOf (getD w i d)) p))
+    where
+      go : (b : Bool) → elim b [ true ↦ lowestFrom (metaOf (getD w i d)) (drop (i + 1) (take n w)) | false ↦ lowestFrom p (drop (i + 1) (take n w)) ]
+          ≡ lowestFrom (orElse b (metaOf (getD w i d)) p) (drop (i + 1) (take n w))
+      go true = refl
+      go false = refl
+
+pub lowest-first : (w : List Slot) (n : ℕ) (d : Slot) → 1 ≤ n → n ≤ length w
+    → lowestFrom (metaOf (getD w 0 d)) (drop 1 (take n w)) ≡ lowestPage (take n w)
+lowest-first w n d h m = sym (ap lowestPage (window-left w n 0 d (omega arith) m))
+
+pub lowest-end : (w : List Slot) (n i p : ℕ) → n ≤ i → lowestFrom p (drop i (take n w)) ≡ p
+unfolding lowestFrom
+lowest-end w n i p h = rw (window-end w n i h)
+
+abbrev pick : Bool → List Slot → List Slot → List Slot
+pick true v w = v
+pick false v w = w
+
+-- one slot more
+off-more : (p : ℕ) (w : List Slot) (s : Slot)
+    → offPage p (w ++ (s ∷ [])) ≡ pick (eqb (metaOf s) p) (offPage p w) (offPage p w ++ (s ∷ []))
+unfolding offPage
+off-more p [] s = go (eqb (metaOf s) p)
+  where
+    go : (b : Bool) → _≡_ {A = List Slot} (elim b [ true ↦ [] | false ↦ s ∷ [] ]) (pick b [] (s ∷ []))
+    go true = refl
+    go false = refl
+off-more p (t ∷ w) s = go (eqb (metaOf t) p) (eqb (metaOf s) p) (off-more p w s)
+  where
+    go : (a b : Bool) → offPage p (w ++ (s ∷ [])) ≡ pick b (offPage p w) (offPage p w ++ (s ∷ []))
+        → _≡_ {A = List Slot} (elim a [ true ↦ offPage p (w ++ (s ∷ [])) | false ↦ t ∷ offPage p (w ++ (s ∷ [])) ])
+        (pick b (elim a [ true ↦ offPage p w | false ↦ t ∷ offPage p w ])
+        (elim a [ true ↦ offPage p w | false ↦ t ∷ offPage p w ] ++ (s ∷ [])))
+    go true true e = e
+    go true false e = e
+    go false true e = ap (λ (v : List Slot). t ∷ v) e
+    go false false e = ap (λ (v : List Slot). t ∷ v) e
+
+pub off-most : (p : ℕ) (w : List Slot) → length (offPage p w) ≤ length w
+unfolding offPage
+off-most p [] = omega arith
+off-most p (t ∷ w) = go (eqb (metaOf t) p) (off-most p w)
+  where
+    go : (a : Bool) → length (offPage p w) ≤ length w
+        → length {A = Slot} (elim a [ true ↦ offPage p w | false ↦ t ∷ offPage p w ]) ≤ suc (length w)
+    go true e = omega arith
+    go false e = omega arith
+
+pending-more : (w : List Slot) (s : Slot) (p : ℕ) → length w < 63
+    → keptOff (pendingOf w) s p ≡ pendingOf (pick (eqb (metaOf s) p) w (w ++ (s ∷ [])))
+pending-more w s p h = go (eqb (metaOf s) p)
+  where
+    go : (b : Bool) → keptIf b (pendingOf w) s ≡ pendingOf (pick b w (w ++ (s ∷ [])))
+    go true = refl
+    go false = rw (array-more w s h, length-append w (s ∷ []))
+
+pub pending-one : (p : ℕ) (window : List Slot) (i : ℕ) (d : Slot) → i < length window → i < 63
+    → keptOff (pendingOf (offPage p (take i window))) (getD window i d) p ≡ pendingOf (offPage p (take (i + 1) window))
+pending-one p window i d h k =
+    let n : length (offPage p (take i window)) < 63 = omega (arith, off-most p (take i window), length-take i window) in
+    pending-more (offPage p (take i window)) (getD window i d) p n
+    ∙ ap pendingOf (sym (off-more p (take i window) (getD window i d)))
+    ∙ ap (λ (v : List Slot). pendingOf (offPage p v)) (sym (take-suc window i d h) ∙ ap (λ (m : ℕ). take m window) (sym (add-one i)))
+
+pub phase-some : (n : ℕ) → n ≢ 0 → Recovering ≡ phaseAt n
+phase-some zero h = absurd (h refl)
+phase-some (suc n) h = refl
+
+pub pending-none : (p : ℕ) (w : List Slot)
+    → record { window = replicate 63 (record { 0 = 0 }); count = 0 } ≡ pendingOf (offPage p (take 0 w))
+unfolding offPage arrayOf
+pending-none p w = refl
+
+pub phase-at : (w : List Slot) → phaseAt (length w) ≡ phaseOf w
+phase-at [] = refl
+phase-at (s ∷ w) = refl
+
+-- the lowest page is one of the box
+low-from : (l : Label) (p : ℕ) (w : List Slot) → p < metaPages l → inRange l w ≡ true → lowestFrom p w < metaPages l
+unfolding lowestFrom inRange
+low-from l p [] h e = h
+low-from l p (s ∷ w) h e =
+    let low : s .0 < l .slots = ltb-true _ _ (and-left (ltb (s .0) (l .slots)) (inRange l w) e) in
+    let e₂ = and-right (ltb (s .0) (l .slots)) (inRange l w) e in
+    go (ltb (metaOf s) p) (low-from l (metaOf s) w (meta-of-low l s low) e₂) (low-from l p w h e₂)
+  where
+    go : (b : Bool) → lowestFrom (metaOf s) w < metaPages l → lowestFrom p w < metaPages l
+        → elim b [ true ↦ lowestFrom (metaOf s) w | false ↦ lowestFrom p w ] < metaPages l
+    go true a b = a
+    go false a b = b
+
+pub lowest-low : (l : Label) (w : List Slot) → 1 ≤ length w → inRange l w ≡ true → lowestPage w < metaPages l
+unfolding inRange
+lowest-low l [] h e = absurd (omega arith)
+lowest-low l (s ∷ w) h e =
+    let low : s .0 < l .slots = ltb-true _ _ (and-left (ltb (s .0) (l .slots)) (inRange l w) e) in
+    low-from l (metaOf s) w (meta-of-low l s low) (and-right (ltb (s .0) (l .slots)) (inRange l w) e)
+
+-- the record with the pending slots of other pages
+pub mended-is : (r : Record) (p : ℕ) (left : Pending) (phase : Phase) → left ≡ pendingOf (offPage p (take (r .count) (r .window)))
+    → phase ≡ phaseAt (left .count)
+    → record {
+      slots = r .slots;
+      blocks = r .blocks;
+      hand = r .hand;
+      newest = r .newest;
+      phase = phase;
+      unconfirmed = r .unconfirmed;
+      window = left .window;
+      count = left .count;
+    }
+    ≡ mendedAt p r
+mended-is r p left phase e f = rw (f, e, window-is r, phase-at (offPage p (windowIn r)))
+
+-- lengths fit it too
+pub mended-fits : (ssd table : ℕ) (r next : Record) (p : ℕ) → Fits ssd table r → recordTest r ≡ true → next ≡ mendedAt p r
+    → Fits ssd table next
+mended-fits ssd table r next p F t e =
+    let n : length (windowIn r) ≡ r .count = window-length r (kept r t) in
+    rw e (record {
+      ssd-size = F .ssd-size;
+      table-size = F .table-size;
+      slots-most = F .slots-most;
+      window-most = omega (arith, off-most p (windowIn r), F .window-most);
+    })
+
+pub mends-low : (r : Record) → recordTest r ≡ true → 1 ≤ r .count → lowestPage (windowIn r) < metaPages (labelIn r)
+mends-low r t h =
+    let n : length (windowIn r) ≡ r .count = window-length r (kept r t) in
+    lowest-low (labelIn r) (windowIn r) (omega arith) (kept r t .ranged)

@@ -1,0 +1,16 @@
+use borrow.Author.Tests.{eq-eqb, ne-eqb, le-leb, lt-leb, le-ltb, lt-ltb}
+use borrow.Author.Needs.{needs}
+use native.Mathlib.Omega.{arith}
+use Rattle.recovery.proofs.fill.kept.Statement.{statement}
+use Rattle.recovery.proofs.fill.kept.Tie as tie
+use Rattle.recovery.proofs.fill.kept.Reads as reads
+use Rattle.recovery.proofs.fill.kept.Lts as lts
+
+returns : tie.Need-returns
+returns c = rw (ne-eqb _ _ (c .if1 .taken))
+
+returns-2 : tie.Need-returns-2
+returns-2 c = rw (eq-eqb _ _ (c .before .if1 .left))
+
+pub kept-spec : {M : Type 1} → statement M
+kept-spec = tie.close (tie.spec returns returns-2)

@@ -1,0 +1,85 @@
+use Prim.Native.Nat.{_≤_, _-_}
+use mathlib.Core.Path.{_≡_, sym, ap, _∙_}
+use lib.ListN.{length, getD, take, drop}
+use Rattle.protocol.specs.Plan.{lowestFrom, lowestPage}
+use Rattle.recovery.proofs.MendLaws.{lowest-left, lowest-first, lowest-end}
+use borrow.Author.Needs.{needs}
+use native.Mathlib.Omega.{arith}
+use Rattle.recovery.proofs.step.lowest_page.Statement.{statement}
+use Rattle.recovery.proofs.step.lowest_page.Tie as tie
+use Rattle.recovery.proofs.step.lowest_page.Reads as reads
+use Rattle.recovery.proofs.step.lowest_page.Lts as lts
+use Rattle.layout.proofs.places.meta_of.Reads as meta-of-reads
+use Rattle.recovery.proofs.step.lower_of.Reads as lower-of-reads
+
+abbrev Inv-loop : tie.InvT-loop
+Inv-loop count window n p₀ i₀ p i = (n ≡ count) × (1 ≤ i) × (i ≤ count) × (lowestFrom p (drop i (take count window)) ≡ lowestPage (take count window))
+
+abbrev μ-loop : tie.MeasureT-loop
+μ-loop count window n p₀ i₀ p i = count - i
+
+array-copy-out-first : tie.Need-array-copy-out-first Inv-loop μ-loop
+array-copy-out-first c = search needs
+
+meta-of-requires : tie.Need-meta-of-requires Inv-loop μ-loop
+meta-of-requires c κs = search needs
+
+loop-holds : tie.Need-loop-holds Inv-loop μ-loop
+loop-holds c =
+    let a = c .before .before .args in
+    let all : length (a .t1) ≡ 63 = search needs in
+    (search needs, search needs, search needs, rw (c .meta-of .ensures) (lowest-first (a .t1) (a .count) _ (c .before .before .pre .0) (omega arith)))
+
+mul-s : tie.Need-mul-s Inv-loop μ-loop
+mul-s c = search needs
+
+array-copy-out-s : tie.Need-array-copy-out-s Inv-loop μ-loop
+array-copy-out-s c = search needs
+
+meta-of-requires-2 : tie.Need-meta-of-requires-2 Inv-loop μ-loop
+meta-of-requires-2 c κs = search needs
+
+lower-of-requires : tie.Need-lower-of-requires Inv-loop μ-loop
+lower-of-requires c κs = search needs
+
+add-i : tie.Need-add-i Inv-loop μ-loop
+add-i c = search needs
+
+loop-less : tie.Need-loop-less Inv-loop μ-loop
+loop-less c = search needs
+
+loop-again : tie.Need-loop-again Inv-loop μ-loop
+loop-again c =
+    let a = c .before .before .before .before .before .before .before .args in
+    let l = c .before .before .before .before .loop in
+    let all : length (a .t1) ≡ 63 = search needs in (
+      search needs,
+      search needs,
+      search needs,
+      rw (c .lower-of .ensures, c .before .meta-of2 .ensures)
+          (sym (lowest-left (a .t1) (a .count) (l .i) _ (omega arith) (omega arith) (l .p)) ∙ l .inv .3),
+    )
+
+returns : tie.Need-returns Inv-loop μ-loop
+returns c =
+    let a = c .before .before .before .before .args in
+    let l = c .before .loop in
+    sym (lowest-end (a .t1) (a .count) (l .i) (l .p) (omega arith)) ∙ l .inv .3
+
+pub lowest-page-spec : {M : Type 1} → statement M
+lowest-page-spec =
+    tie.close
+    (tie.spec
+    Inv-loop
+    μ-loop
+    array-copy-out-first
+    meta-of-requires
+    loop-holds
+    mul-s
+    array-copy-out-s
+    meta-of-requires-2
+    lower-of-requires
+    add-i
+    loop-less
+    loop-again
+    returns)

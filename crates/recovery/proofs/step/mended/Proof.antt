@@ -1,0 +1,21 @@
+use Rattle.recovery.proofs.MendLaws.{mended-is}
+use native.Mathlib.Omega.{arith}
+use borrow.Author.Needs.{needs}
+use Rattle.recovery.proofs.step.mended.Statement.{statement}
+use Rattle.recovery.proofs.step.mended.Tie as tie
+use Rattle.recovery.proofs.step.mended.Reads as reads
+use Rattle.recovery.proofs.step.mended.Lts as lts
+use Rattle.recovery.proofs.step.off_page.Reads as off-page-reads
+use Rattle.recovery.proofs.step.phase_of.Reads as phase-of-reads
+
+off-page-requires : tie.Need-off-page-requires
+off-page-requires c κs = search needs
+
+phase-of-requires : tie.Need-phase-of-requires
+phase-of-requires c κs = search needs
+
+returns : tie.Need-returns
+returns c = mended-is _ _ _ _ (c .before .before .before .off-page .ensures) (c .before .phase-of .ensures)
+
+pub mended-spec : {M : Type 1} → statement M
+mended-spec = tie.close (tie.spec off-page-requires phase-of-requires returns)

@@ -1,0 +1,16 @@
+use Rattle.recovery.proofs.MendLaws.{phase-some}
+use native.Mathlib.Omega.{arith}
+use borrow.Author.Needs.{needs}
+use Rattle.recovery.proofs.step.phase_of.Statement.{statement}
+use Rattle.recovery.proofs.step.phase_of.Tie as tie
+use Rattle.recovery.proofs.step.phase_of.Reads as reads
+use Rattle.recovery.proofs.step.phase_of.Lts as lts
+
+returns : tie.Need-returns
+returns c = search needs
+
+returns-2 : tie.Need-returns-2
+returns-2 c = phase-some _ (c .if1 .left)
+
+pub phase-of-spec : {M : Type 1} → statement M
+phase-of-spec = tie.close (tie.spec returns returns-2)

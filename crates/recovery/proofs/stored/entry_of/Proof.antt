@@ -1,0 +1,30 @@
+use mathlib.Core.Path.{_≡_, refl, sym, ap, _∙_}
+use Rattle.protocol.specs.Recovery.{entryIn}
+use Rattle.cache.proofs.MoveLaws.{meta-of-low}
+use native.Mathlib.Omega.{arith}
+use borrow.Author.Needs.{needs}
+use Rattle.recovery.proofs.stored.entry_of.Statement.{statement}
+use Rattle.recovery.proofs.stored.entry_of.Tie as tie
+use Rattle.recovery.proofs.stored.entry_of.Reads as reads
+use Rattle.recovery.proofs.stored.entry_of.Lts as lts
+use Rattle.layout.proofs.places.meta_of.Reads as meta-of-reads
+use Rattle.metadata.proofs.page.entry_at.Reads as entry-at-reads
+use Rattle.recovery.proofs.stored.meta_page.Reads as meta-page-reads
+
+meta-of-requires : tie.Need-meta-of-requires
+meta-of-requires c κs = search needs
+
+meta-page-requires : tie.Need-meta-page-requires
+meta-page-requires c κs =
+    let s = c .before .before in
+    (s .pre .0, rw (c .meta-of .ensures) (meta-of-low (s .args .l) (s .args .s) (s .pre .1)))
+
+entry-at-requires : tie.Need-entry-at-requires
+entry-at-requires c κs = search needs
+
+returns : tie.Need-returns
+unfolding entryIn
+returns c = rw (c .entry-at .ensures, c .before .before .meta-page .ensures .0, c .before .before .before .meta-of .ensures)
+
+pub entry-of-spec : {M : Type 1} → statement M
+entry-of-spec = tie.close (tie.spec meta-of-requires meta-page-requires entry-at-requires returns)

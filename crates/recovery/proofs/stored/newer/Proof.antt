@@ -1,0 +1,19 @@
+use borrow.Author.Tests.{eq-eqb, ne-eqb, le-leb, lt-leb, le-ltb, lt-ltb}
+use native.Mathlib.Omega.{arith}
+use borrow.Author.Needs.{needs}
+use Rattle.recovery.proofs.stored.newer.Statement.{statement}
+use Rattle.recovery.proofs.stored.newer.Tie as tie
+use Rattle.recovery.proofs.stored.newer.Reads as reads
+use Rattle.recovery.proofs.stored.newer.Lts as lts
+
+add-t5 : tie.Need-add-t5
+add-t5 c = search needs
+
+returns : tie.Need-returns
+returns c = rw (lt-ltb _ _ (c .if1 .taken))
+
+returns-2 : tie.Need-returns-2
+returns-2 c = rw (le-ltb _ _ (c .if1 .left))
+
+pub newer-spec : {M : Type 1} → statement M
+newer-spec = tie.close (tie.spec add-t5 returns returns-2)

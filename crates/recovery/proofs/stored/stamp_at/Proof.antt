@@ -1,0 +1,20 @@
+use native.Mathlib.Omega.{arith}
+use borrow.Author.Needs.{needs}
+use Rattle.recovery.proofs.stored.stamp_at.Statement.{statement}
+use Rattle.recovery.proofs.stored.stamp_at.Tie as tie
+use Rattle.recovery.proofs.stored.stamp_at.Reads as reads
+use Rattle.recovery.proofs.stored.stamp_at.Lts as lts
+use Rattle.metadata.proofs.page.stamp_of.Reads as stamp-of-reads
+use Rattle.recovery.proofs.stored.meta_page.Reads as meta-page-reads
+
+meta-page-requires : tie.Need-meta-page-requires
+meta-page-requires c κs = search needs
+
+stamp-of-requires : tie.Need-stamp-of-requires
+stamp-of-requires c κs = search needs
+
+returns : tie.Need-returns
+returns c = rw (c .stamp-of .ensures, c .before .meta-page .ensures .0)
+
+pub stamp-at-spec : {M : Type 1} → statement M
+stamp-at-spec = tie.close (tie.spec meta-page-requires stamp-of-requires returns)

@@ -1,0 +1,28 @@
+use Prim.Native.Nat.{ℕ, _+_, _*_, _-_, _≤_, _<_}
+use mathlib.Core.Path.{_≡_, refl, sym, ap, _∙_}
+use Rattle.recovery.specs.Twice.{bitOf}
+use native.Mathlib.Omega.{arith}
+use borrow.Author.Needs.{needs}
+use Rattle.recovery.proofs.twice.is_marked.Statement.{statement}
+use Rattle.recovery.proofs.twice.is_marked.Tie as tie
+use Rattle.recovery.proofs.twice.is_marked.Reads as reads
+use Rattle.recovery.proofs.twice.is_marked.Lts as lts
+
+cast-w : tie.Need-cast-w
+cast-w c = search needs
+
+mul-result : tie.Need-mul-result
+mul-result c = search needs
+
+shared-slice-read-result : tie.Need-shared-slice-read-result
+shared-slice-read-result c = search needs
+
+shr-result : tie.Need-shr-result
+shr-result c = search needs
+
+returns : tie.Need-returns
+unfolding bitOf
+returns c = refl
+
+pub is-marked-spec : {M : Type 1} → statement M
+is-marked-spec = tie.close (tie.spec cast-w mul-result shared-slice-read-result shr-result returns)

@@ -1,0 +1,109 @@
+// The table and the record, from pages that keep every rule.
+use crate::step;
+use crate::stored;
+use layout::Block;
+use layout::Entry;
+use layout::Label;
+use layout::Slot;
+use protocol::Record;
+ghost use mathlib.Core.Path.{_≡_};
+ghost use mathlib.Core.Bool.{Bool, true, false};
+ghost use mathlib.Core.List.{List};
+ghost use Prim.Native.Nat.{ℕ, _+_, _*_, _≤_, _<_};
+ghost use lib.ListN.{length, take};
+ghost use Rattle.layout.specs.Places.{Limits, ssdLength, tableLength};
+ghost use Rattle.layout.specs.MetaPage.{rowsFrom};
+ghost use Rattle.layout.specs.PageRule.{inRange};
+ghost use Rattle.protocol.specs.Rows.{recordOf};
+ghost use Rattle.protocol.specs.Recovery.{metasOf, entryIn, pagesTest, phaseOf, recover};
+ghost use Rattle.recovery.specs.Pending.{pendingOf};
+ghost use Rattle.recovery.specs.Fill.{keptEntry, freed, reopenedAs};
+
+// An entry as it is kept: without the writing flag.
+fn kept(entry: Entry) -> Entry
+    ensures { λ r. ⌜ r ≡ keptEntry entry ⌝ }
+{
+    let flags = entry.flags;
+    if flags % 2 != 1 {
+        return Entry {
+            block: Block(0),
+            flags: 0,
+        };
+    }
+    let block = entry.block;
+    Entry {
+        block,
+        flags: flags % 4,
+    }
+}
+
+// Fills the table with every stored entry, as if none were dropped.
+fn fill(ssd: &[u8], table: &mut [u32], l: Label)
+    requires { ⌜ length (now ssd) ≡ ssdLength l ⌝ }
+    requires { ⌜ length (now table) ≡ tableLength l ⌝ }
+    ensures { λ _. ⌜ now (table .exit) ≡ rowsFrom (l .slots) (λ s. keptEntry (entryIn (metasOf l (now (ssd .entry))) (record { 0 = s }))) ⌝ }
+{
+    let slots = l.slots;
+    let mut s: u32 = 0;
+    while s < slots {
+        let entry = kept(stored::entry_of(ssd, l, Slot(s)));
+        let block = entry.block;
+        let k = 2 * (s as usize);
+        table[k] = block.0;
+        table[k + 1] = entry.flags;
+        s += 1;
+    }
+}
+
+// Zeroes the rows of the window's slots.
+fn free_rows(table: &mut [u32], l: Label, window: [Slot; 63], count: u32)
+    requires { ⌜ length (now table) ≡ tableLength l ⌝ }
+    requires { ⌜ count ≤ 63 ⌝ }
+    requires { ⌜ inRange l (take count window) ≡ true ⌝ }
+    ensures { λ _. ⌜ now (table .exit) ≡ freed (take count window) (now (table .entry)) ⌝ }
+{
+    let n = count as usize;
+    let mut i: usize = 0;
+    while i < n {
+        let s = window[i];
+        let k = 2 * (s.0 as usize);
+        table[k] = 0;
+        table[k + 1] = 0;
+        i += 1;
+    }
+}
+
+// The record of a reopened box.
+fn reopened(l: Label, stamp: u32, window: [Slot; 63], count: u32) -> Record
+    ensures { λ r. ⌜ r ≡ reopenedAs l stamp window count ⌝ }
+{
+    let hand = Slot(0);
+    let phase = step::phase_of(count);
+    Record {
+        slots: l.slots,
+        blocks: l.blocks,
+        hand,
+        newest: stamp,
+        phase,
+        unconfirmed: false,
+        window,
+        count,
+    }
+}
+
+// Table and record of a reopened box.
+pub fn recover(ssd: &[u8], table: &mut [u32], l: Label) -> Record
+    requires { ⌜ length (now ssd) ≡ ssdLength l ⌝ }
+    requires { ⌜ length (now table) ≡ tableLength l ⌝ }
+    requires { ⌜ Limits l ⌝ }
+    requires { ⌜ pagesTest l (metasOf l (now ssd)) ≡ true ⌝ }
+    ensures { λ r. ⌜ record { table = now (table .exit); state = r } ≡ recover l (metasOf l (now (ssd .entry))) ⌝ }
+{
+    fill(ssd, table, l);
+    let found = stored::newest(ssd, l);
+    let pending = stored::pending(ssd, l, found.at);
+    let window = pending.window;
+    let count = pending.count;
+    free_rows(table, l, window, count);
+    reopened(l, found.stamp, window, count)
+}
