@@ -10,7 +10,8 @@ use Rattle.protocol.specs.Events.{called}
 use Rattle.recovery.specs.declared.Request.{Request}
 use Rattle.recovery.specs.Dispatch.{callOf, madeOf, madeBy}
 
-made-call : (c : Call) (x : Box) (r : Result) → r ≡ resultOf c x → (disk : Disk) → madeOf c r disk ≡ madeBy c (record { box = x; disk = disk })
+made-call : (c : Call) (x : Box) (r : Result) → r ≡ resultOf c x → (disk : Disk) → madeOf c r disk ≡ madeBy c
+    (record { box = x; disk = disk })
 unfolding called
 made-call c x r e disk = ap (λ (y : Result). madeOf c y disk) e
 

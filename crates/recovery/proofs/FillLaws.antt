@@ -1,5 +1,5 @@
 -- The table of a reopened box, filled row by row, and its record.
-use Prim.Native.Nat.{ℕ, zero, suc, _+_, _-_, _*_, _≤_, _<_}
+use Prim.Native.Nat.{ℕ, zero, suc, _+_, _*_, _≤_, _<_}
 use mathlib.Core.Path.{_≡_, refl, sym, ap, _∙_}
 use mathlib.Core.Bool.{Bool, true, false, _&&_, _||_}
 use mathlib.Core.List.{List, [], _∷_, _++_, append-assoc}
@@ -15,13 +15,13 @@ use Rattle.layout.specs.declared.Label.{Label}
 use Rattle.layout.specs.MetaPage.{rowsFrom}
 use Rattle.layout.specs.PageRule.{listed, inRange}
 use Rattle.protocol.specs.declared.Record.{Record}
-use Rattle.protocol.specs.Rows.{valid, writing, setRow, arrayOf}
-use Rattle.protocol.specs.Recovery.{entryIn, Newest, newestOf, eachLegal, stampsDiffer, noneTwice, allOpenIn, storedRows, pagesTest, freeEntry, recovered, recover, Recovered}
+use Rattle.protocol.specs.Rows.{valid, writing, setRow}
+use Rattle.protocol.specs.Recovery.{entryIn, Newest, newestOf, eachLegal, stampsDiffer, noneTwice, allOpenIn, storedRows, pagesTest, freeEntry, recovered, recover}
 use Rattle.protocol.proofs.model.Base.{Told, told, told-true, told-false, clash, and-left, and-right, eqb-is}
 use Rattle.protocol.proofs.Windows.{take-array}
 use Rattle.table.proofs.WindowLaws.{window-left, window-end}
 use Rattle.recovery.specs.declared.Pending.{Pending}
-use Rattle.recovery.specs.Pending.{pendingOf, phaseAt}
+use Rattle.recovery.specs.Pending.{pendingOf}
 use Rattle.recovery.specs.Fill.{keptEntry, freed, reopenedAs}
 use Rattle.recovery.proofs.MendLaws.{phase-at}
 use Rattle.recovery.proofs.StoredLaws.{Bounded}
@@ -124,7 +124,8 @@ open-at pages (t ∷ w) s e h = go (told (eqb (s .0) (t .0))) (open-at pages w s
     first = and-left (valid (entryIn pages t .flags) && writing (entryIn pages t .flags)) _ e
 
     go : Told (eqb (s .0) (t .0))
-        → (allOpenIn pages w ≡ true → listed s w ≡ true → (valid (entryIn pages s .flags) ≡ true) × (writing (entryIn pages s .flags) ≡ true))
+        → (allOpenIn pages w ≡ true → listed s w ≡ true → (valid (entryIn pages s .flags) ≡ true) ×
+        (writing (entryIn pages s .flags) ≡ true))
         → (valid (entryIn pages s .flags) ≡ true) × (writing (entryIn pages s .flags) ≡ true)
     go (told-true q) ih =
         let same : s ≡ t = ap (λ (n : ℕ). record { 0 = n }) (eqb-is (s .0) (t .0) q) in

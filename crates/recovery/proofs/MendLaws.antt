@@ -1,12 +1,12 @@
 -- Mending: the lowest page with a pending slot, and the pending slots of the others, place by place.
-use Prim.Native.Nat.{ℕ, zero, suc, _+_, _-_, _≤_, _<_}
+use Prim.Native.Nat.{ℕ, zero, suc, _+_, _≤_, _<_}
 use mathlib.Core.Path.{_≡_, refl, sym, ap, _∙_}
 use mathlib.Core.Logic.{_≢_}
 use mathlib.Core.Bool.{Bool, true, false}
 use mathlib.Core.List.{List, [], _∷_, _++_}
 use native.Mathlib.Omega.{arith}
 use native.Mathlib.Numerals.{add-one}
-use lib.ListN.{length, getD, set, take, drop, replicate, length-take, length-append}
+use lib.ListN.{length, getD, take, drop, replicate, length-take, length-append}
 use lib.Seq.{take-suc}
 use lib.Dec.{eqb, ltb}
 use borrow.Author.Tests.{ltb-true}
@@ -37,8 +37,11 @@ module _ (w : List Slot) (n i : ℕ) (d : Slot) (h : i < n) (m : n ≤ length w)
   unfolding lowestFrom
   lowest-left p = rw (window-left w n i d h m) (go (ltb (metaOf (getD w i d)) p))
     where
-      go : (b : Bool) → elim b [ true ↦ lowestFrom (metaOf (getD w i d)) (drop (i + 1) (take n w)) | false ↦ lowestFrom p (drop (i + 1) (take n w)) ]
-          ≡ lowestFrom (orElse b (metaOf (getD w i d)) p) (drop (i + 1) (take n w))
+      rest : List Slot
+      rest = drop (i + 1) (take n w)
+
+      go : (b : Bool) → elim b [ true ↦ lowestFrom (metaOf (getD w i d)) rest | false ↦ lowestFrom p rest ]
+          ≡ lowestFrom (orElse b (metaOf (getD w i d)) p) rest
       go true = refl
       go false = refl
 

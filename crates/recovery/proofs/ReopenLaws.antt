@@ -11,7 +11,6 @@ use borrow.Author.Tests.{leb-true, eqb-true}
 use Rattle.pages.specs.Pages.{pageAt}
 use Rattle.pages.proofs.PageLaws.{length-page}
 use Rattle.layout.specs.declared.Label.{Label}
-use Rattle.layout.specs.declared.LabelRead.{LabelRead}
 use Rattle.layout.specs.declared.LabelRead.the-variants.{Legal, Illegal}
 use Rattle.layout.specs.Places.{Limits, labelPlace, ssdLength, hddLength, tableLength}
 use Rattle.layout.specs.LabelPage.{decodeLabel}
@@ -19,11 +18,11 @@ use Rattle.layout.proofs.LabelLaws.{label-only}
 use Rattle.layout.proofs.PlaceLaws.{within}
 use Rattle.protocol.specs.declared.Record.{Record}
 use Rattle.protocol.specs.Paper.{done}
-use Rattle.protocol.specs.Box.{Images, Box, Result, refusing, left}
+use Rattle.protocol.specs.Box.{Box, Result, refusing, left}
 use Rattle.protocol.specs.Recovery.{labelRead, labelAt, metasOf, newestOf, eachLegal, stampsDiffer, noneTwice, storedRows, allOpenIn, pagesTest, Recovered, recover}
 use Rattle.protocol.specs.Plan.{reopen, recovers, plan}
 use Rattle.protocol.specs.Perform.{perform}
-use Rattle.protocol.specs.Judge.{Reason, noLabel, wrongLength, badRows, isLabel, labelTest, lengthTest, test, firstOf, judged}
+use Rattle.protocol.specs.Judge.{noLabel, wrongLength, badRows, isLabel, labelTest, lengthTest, test, firstOf, judged}
 use Rattle.protocol.specs.Calls.{boxOf, reopenOf}
 use Rattle.protocol.proofs.model.Base.{Told, told, told-true, told-false, clash, and-left, and-right}
 use Rattle.cache.specs.Judging.{lengthsTest}

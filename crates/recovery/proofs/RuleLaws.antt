@@ -1,7 +1,7 @@
 -- The rules of a reopening, page by page and place by place.
 use Prim.Native.Nat.{ℕ, _+_, _≤_, _<_}
-use mathlib.Core.Path.{_≡_, refl}
-use mathlib.Core.Bool.{Bool, true, false, not, _&&_, _||_}
+use mathlib.Core.Path.{_≡_}
+use mathlib.Core.Bool.{true, false, not, _&&_, _||_}
 use mathlib.Core.List.{List, []}
 use native.Mathlib.Numerals.{add-one}
 use lib.ListN.{length, getD, take, drop}
@@ -29,7 +29,8 @@ module _ (l : Label) (ssd : List ℕ) (p : ℕ) where
     stamp-left t = rw (metas-left l ssd p h)
 
     pub differ-left : stampsDiffer (drop p (metasOf l ssd))
-        ≡ ((eqb (stampOf (getD (metasOf l ssd) p [])) 0 || not (stampIn (stampOf (getD (metasOf l ssd) p [])) (drop (p + 1) (metasOf l ssd))))
+        ≡ ((eqb (stampOf (getD (metasOf l ssd) p [])) 0 || not
+        (stampIn (stampOf (getD (metasOf l ssd) p [])) (drop (p + 1) (metasOf l ssd))))
         && stampsDiffer (drop (p + 1) (metasOf l ssd)))
     unfolding stampsDiffer
     differ-left = rw (metas-left l ssd p h)
@@ -49,7 +50,8 @@ module _ (l : Label) (ssd : List ℕ) (p : ℕ) where
 
 module _ (pages : List (List ℕ)) (w : List Slot) (n i : ℕ) where
   pub open-left : (d : Slot) → i < n → n ≤ length w → allOpenIn pages (drop i (take n w))
-      ≡ ((valid (entryIn pages (getD w i d) .flags) && writing (entryIn pages (getD w i d) .flags)) && allOpenIn pages (drop (i + 1) (take n w)))
+      ≡ ((valid (entryIn pages (getD w i d) .flags) && writing (entryIn pages (getD w i d) .flags)) && allOpenIn pages
+      (drop (i + 1) (take n w)))
   unfolding allOpenIn
   open-left d h m = rw (window-left w n i d h m)
 

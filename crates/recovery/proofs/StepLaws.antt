@@ -1,5 +1,5 @@
 -- A step, by the record's phase, once 3 to 5 are passed.
-use Prim.Native.Nat.{ℕ, zero, suc, _+_, _≤_, _<_}
+use Prim.Native.Nat.{ℕ, zero, suc, _+_, _≤_}
 use mathlib.Core.Path.{_≡_, refl, sym, ap, _∙_}
 use mathlib.Core.Bool.{Bool, true, false, not, _&&_}
 use mathlib.Core.List.{List, [], _∷_}
@@ -16,12 +16,12 @@ use Rattle.protocol.specs.declared.Phase.{Phase}
 use Rattle.protocol.specs.declared.Phase.the-variants.{Formatting, Recovering, Ready}
 use Rattle.protocol.specs.Paper.{done}
 use Rattle.protocol.specs.Rows.{labelIn, windowIn}
-use Rattle.protocol.specs.Box.{Images, Box, Result, refusing, left}
+use Rattle.protocol.specs.Box.{Box, Result, refusing, left}
 use Rattle.protocol.specs.Plan.{step, formats, mends, lowestPage, stepping, storesMeta, plan}
 use Rattle.protocol.specs.Perform.{formatStore, formatState, perform}
 use Rattle.protocol.specs.Judge.{Reason, badRecord, wrongLength, badRows, wrongPhase, stampsSpent, largestStamp, isReady, isEmpty, stepsTest, agreeTest, recordTest, lengthTest, rowsTest, test, firstOf, judged}
 use Rattle.protocol.specs.Calls.{boxOf, stepOf}
-use Rattle.protocol.proofs.model.Base.{Told, told, told-true, told-false, and-left, and-right, clash}
+use Rattle.protocol.proofs.model.Base.{Told, told, told-true, told-false, and-left, clash}
 use Rattle.protocol.proofs.Accepted.{Legal, legal}
 use Rattle.table.proofs.RecordLaws.{kept}
 use Rattle.cache.specs.Judging.{refuseIf, lengthsTest, soundThen}

@@ -2,7 +2,7 @@
 use Prim.Native.Nat.{ℕ, zero, suc, _+_, _-_, _≤_, _<_}
 use mathlib.Core.Path.{_≡_, refl, sym, ap, _∙_}
 use mathlib.Core.Logic.{_≢_}
-use mathlib.Core.Bool.{Bool, true, false, _&&_}
+use mathlib.Core.Bool.{Bool, true, false}
 use mathlib.Core.List.{List, [], _∷_, _++_}
 use native.Mathlib.Omega.{arith}
 use native.Mathlib.Nat.{zero-add}
@@ -20,11 +20,10 @@ use Rattle.layout.proofs.Loops.{left}
 use Rattle.layout.proofs.RuleLaws.{count-rule, page-rows}
 use Rattle.protocol.specs.Rows.{arrayOf}
 use Rattle.protocol.specs.Recovery.{metasOf, Newest, newer, newestFrom, newestOf, eachLegal}
-use Rattle.protocol.proofs.model.Base.{Told, told, told-true, told-false, and-left, and-right}
+use Rattle.protocol.proofs.model.Base.{and-left, and-right}
 use Rattle.protocol.proofs.Metas.{length-firsts, length-metas, metas-at}
 use Rattle.table.proofs.RecordLaws.{array-more}
 use Rattle.recovery.specs.declared.Newest.{Newest as Numbered}
-use Rattle.recovery.specs.declared.Pending.{Pending}
 use Rattle.recovery.specs.Pending.{pendingOf}
 use Rattle.recovery.specs.Stored.{newestAt, newerIf, newerAt, Found}
 

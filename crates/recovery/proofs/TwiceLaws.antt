@@ -1,21 +1,19 @@
 -- A block in two entries: what a pass over a range finds, and that the passes together find all.
-use Prim.Native.Nat.{ℕ, zero, suc, _+_, _-_, _*_, _/_, _%_, _≤_, _<_}
+use Prim.Native.Nat.{ℕ, suc, _+_, _-_, _*_, _/_, _%_, _≤_, _<_}
 use mathlib.Core.Path.{_≡_, refl, sym, ap, _∙_}
-use mathlib.Core.Logic.{_≢_, _⊎_, inl, inr}
+use mathlib.Core.Logic.{_⊎_, inl, inr}
 use mathlib.Core.Bool.{Bool, true, false, not, _&&_, _||_}
 use mathlib.Core.List.{List, [], _∷_}
 use native.Mathlib.Omega.{arith}
-use native.Mathlib.Numerals.{add-one}
 use native.Mathlib.Decide.{decLt}
 use lib.ListN.{length, getD, drop, set, replicate, drop-of-length-le, length-set, length-replicate}
 use lib.Seq.{drop-cons}
 use lib.Dec.{eqb, leb, ltb}
-use borrow.Author.Tests.{eq-eqb, ne-eqb, eqb-true, le-leb, lt-leb, leb-true, lt-ltb, le-ltb, ltb-true}
-use Rattle.layout.specs.declared.Slot.{Slot}
+use borrow.Author.Tests.{eq-eqb, ne-eqb, le-leb, leb-true, lt-ltb, le-ltb, ltb-true}
 use Rattle.layout.specs.declared.Label.{Label}
 use Rattle.layout.specs.declared.Entry.{Entry}
-use Rattle.layout.specs.Places.{Limits, metaPages}
-use Rattle.layout.specs.MetaPage.{rowsFrom}
+use Rattle.layout.specs.Places.{metaPages}
+use Rattle.layout.specs.MetaPage.{entryAt, rowsFrom}
 use Rattle.layout.proofs.Booleans.{and-assoc}
 use Rattle.layout.proofs.RuleLaws.{page-rule}
 use Rattle.protocol.specs.Rows.{valid}
@@ -24,7 +22,7 @@ use Rattle.protocol.specs.Recovery.{entryIn, eachLegal, blockIn, noneTwice, sto
 use Rattle.protocol.proofs.model.Base.{Told, told, told-true, told-false, clash, and-left, and-right, eqb-is}
 use Rattle.protocol.proofs.Entries.{length-rows, rows-block, rows-flags}
 use Rattle.protocol.proofs.Tables.{each-of}
-use Rattle.recovery.specs.Twice.{bitOf, marked, inSpan, Visit, visitedIf, visited, allFresh}
+use Rattle.recovery.specs.Twice.{bitOf, marked, inSpan, visited, allFresh}
 use Rattle.recovery.proofs.BitLaws.{bit-marked, bit-none}
 use Rattle.recovery.proofs.StoredLaws.{legal-at}
 
@@ -64,7 +62,8 @@ one-marked start map x y g size e = go (valid g) (told (inSpan start y))
         pick (told-false q) = rw q (ne-eqb (y - start) (x - start) (λ z. clash (eq-eqb y x (omega (arith, low .0))) q))
 
     go : (v : Bool) → Told (inSpan start y)
-        → ((v && inSpan start y) && bitOf (marked map (x - start)) (y - start)) ≡ (((v && inSpan start y) && bitOf map (y - start)) || (v && eqb y x))
+        → ((v && inSpan start y) && bitOf (marked map (x - start)) (y - start)) ≡
+        (((v && inSpan start y) && bitOf map (y - start)) || (v && eqb y x))
     go false s = refl
     go true (told-true s) = rw s (bit-marked map (x - start) (y - start) size (low .1) ∙ rw (same (span-low start y s .0)))
     go true (told-false s) = rw (s, ne-eqb y x (λ z. clash (rw z e) s))
@@ -111,7 +110,8 @@ fresh-from start map (x ∷ f ∷ rows) size =
         let s = and-right (valid f) (inSpan start x) v in
         rw (v, m)
         (ih (marked map (x - start)) (length-marked map (x - start) ∙ size)
-        ∙ rw (marks-split start map x rows size s) (and-assoc (noneMarked start map rows) (not (blockIn x rows)) (noneAmong (inSpan start) rows)))
+        ∙ rw (marks-split start map x rows size s)
+        (and-assoc (noneMarked start map rows) (not (blockIn x rows)) (noneAmong (inSpan start) rows)))
 
 unmarked : (start : ℕ) (rows : List ℕ) → noneMarked start (replicate 16384 0) rows ≡ true
 unfolding noneMarked
@@ -244,7 +244,11 @@ once-all l pages start n e h o =
         → (not (valid (getD (storedRows l pages) (2 * s + 1) 0)) || ltb (getD (storedRows l pages) (2 * s) 0) start) ≡ true
     each s k =
         let q : s < l .slots = omega (arith, length-rows (l .slots) (λ s. entryIn pages (record { 0 = s }))) in
-        rw (rows-flags (l .slots) (λ s. entryIn pages (record { 0 = s })) s q, rows-block (l .slots) (λ s. entryIn pages (record { 0 = s })) s q)
+        rw (
+          rows-flags (l .slots) (λ s. entryIn pages (record { 0 = s })) s q,
+          rows-block (l .slots)
+              (λ s. entryIn pages (record { 0 = s })) s q,
+        )
         (go (told (valid (entryIn pages (record { 0 = s }) .flags))) q)
       where
         go : Told (valid (entryIn pages (record { 0 = s }) .flags)) → s < l .slots
@@ -254,6 +258,19 @@ once-all l pages start n e h o =
             let k : entryIn pages (record { 0 = s }) .block .0 < start = omega (arith, b) in
             rw (v, lt-ltb _ _ k)
         go (told-false v) q = rw v
+
+-- the entry of a slot, by its page and its place there
+pub entry-on : (pages : List (List ℕ)) (s p i : ℕ) → s ≡ 240 * p + i → i < 240
+    → entryAt (getD pages p []) i ≡ entryIn pages (record { 0 = s })
+unfolding entryIn
+entry-on pages s p i e h =
+    let a : s / 240 ≡ p = omega arith in
+    let b : s % 240 ≡ i = omega arith in
+    rw (a, b)
+
+pub page-low : (l : Label) (s p : ℕ) → s ≡ 240 * p → s < l .slots → p < metaPages l
+unfolding metaPages
+page-low l s p e h = omega arith
 
 -- one row of a pass
 pub fresh-left : (start : ℕ) (map : List ℕ) (n : ℕ) (f : ℕ → Entry) (s : ℕ) → s < n

@@ -1,7 +1,7 @@
 // "No block is in two entries", in linear time: passes over ranges of 524,288 blocks, with a bit for each of them.
 use crate::stored;
 use layout::Label;
-use layout::Slot;
+use metadata::page;
 ghost use mathlib.Core.Path.{_≡_};
 ghost use mathlib.Core.Bool.{Bool, true, false};
 ghost use mathlib.Core.List.{List};
@@ -53,21 +53,42 @@ fn visit(map: &mut [u32], start: u32, block: u32, flags: u32) -> bool
     true
 }
 
-// Whether all stored entries are new to the map.
+// The slot after the last one of the page that begins with slot s.
+fn page_end(s: u32, slots: u32) -> u32
+    requires { ⌜ s < slots ⌝ }
+    requires { ⌜ slots ≤ 57600 ⌝ }
+    ensures { λ r. ⌜ (s < r) × (r ≤ slots) × (r ≤ s + 240) × (r < slots → r ≡ s + 240) ⌝ }
+{
+    if slots - s < 240 {
+        return slots;
+    }
+    s + 240
+}
+
+// Whether all stored entries are new to the map: page by page.
 fn pass(map: &mut [u32], ssd: &[u8], l: Label, start: u32) -> bool
     requires { ⌜ length (now map) ≡ 16384 ⌝ }
     requires { ⌜ length (now ssd) ≡ ssdLength l ⌝ }
+    requires { ⌜ Limits l ⌝ }
     ensures { λ r. ⌜ r ≡ allFresh start (now (map .entry)) (storedRows l (metasOf l (now (ssd .entry)))) ⌝ }
 {
     let slots = l.slots;
+    let mut p: u32 = 0;
     let mut s: u32 = 0;
     while s < slots {
-        let entry = stored::entry_of(ssd, l, Slot(s));
-        let block = entry.block;
-        if !visit(map, start, block.0, entry.flags) {
-            return false;
+        let page = stored::meta_page(ssd, l, p);
+        let end = page_end(s, slots);
+        let mut i: u32 = 0;
+        while s < end {
+            let entry = page::entry_at(page, i);
+            let block = entry.block;
+            if !visit(map, start, block.0, entry.flags) {
+                return false;
+            }
+            i += 1;
+            s += 1;
         }
-        s += 1;
+        p += 1;
     }
     true
 }
@@ -75,6 +96,7 @@ fn pass(map: &mut [u32], ssd: &[u8], l: Label, start: u32) -> bool
 // Whether no block of the range that begins at `start` is in two entries.
 fn range_once(ssd: &[u8], l: Label, start: u32) -> bool
     requires { ⌜ length (now ssd) ≡ ssdLength l ⌝ }
+    requires { ⌜ Limits l ⌝ }
     ensures { λ r. ⌜ r ≡ allFresh start (replicate 16384 0) (storedRows l (metasOf l (now (ssd .entry)))) ⌝ }
 {
     let mut map = [0u32; 16384];

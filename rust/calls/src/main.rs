@@ -194,7 +194,58 @@ fn agree(slots: u32, blocks: u32, calls: usize) {
     println!("{slots} slots: {calls} random calls, {refused} of them refused: answers, record, table and images the same");
 }
 
+extern "C" {
+    fn mmap(at: *mut u8, len: usize, protection: i32, flags: i32, file: i32, offset: i64) -> *mut u8;
+}
+
+/// Address space that no memory stands behind until it is touched (private, anonymous, not reserved).
+fn untouched(len: usize) -> Vec<u8> {
+    let at = unsafe { mmap(std::ptr::null_mut(), len, 3, 0x4022, -1, 0) };
+    assert!(at as isize != -1, "no address space");
+    unsafe { Vec::from_raw_parts(at, len, len) }
+}
+
+/// An SSD image whose entries are all valid and closed, with blocks spread over the HDD, and room for table and record. The HDD is
+/// never touched: reopening reads only its length.
+fn stored(slots: u32, blocks: u32) -> World {
+    let mut w = full(slots, 1);
+    w.hdd = untouched(PAGE * blocks as usize);
+    w.table.fill(7);
+    let text = format!("cache=lufuw\nlayout=1\nslots={slots}\nblocks={blocks}\n");
+    w.ssd[..text.len()].copy_from_slice(text.as_bytes());
+    for s in 0..slots {
+        let page = PAGE * (1 + s as usize / 240);
+        w.ssd[page] = (s / 240 % 256) as u8;
+        let at = page + 512 + 8 * (s as usize % 240);
+        let block = (s as u64 * 7_919 % blocks as u64) as u32;
+        w.ssd[at..at + 4].copy_from_slice(&block.to_le_bytes());
+        w.ssd[at + 4] = 1 + 2 * (s % 2) as u8;
+    }
+    w
+}
+
+/// Reopening, turn about; both must leave the same table and record.
+fn reopenings(slots: u32, blocks: u32, turns: usize) {
+    let mut w = stored(slots, blocks);
+    let (mut ours, mut theirs) = (Vec::new(), Vec::new());
+    let mut left = Vec::new();
+    for _ in 0..turns {
+        ours.push(timed(std::slice::from_mut(&mut w), 0, proved::reopen));
+        left.push((w.table.clone(), w.record.clone()));
+        w.table.fill(7);
+        theirs.push(timed(std::slice::from_mut(&mut w), 0, plain::reopen));
+        assert!(left.pop() == Some((w.table.clone(), w.record.clone())), "both left the same");
+        w.table.fill(7);
+    }
+    show(&format!("reopen, {slots} slots, {blocks} blocks"), &ours, &theirs);
+    std::mem::forget(w.hdd);
+}
+
 fn main() {
+    println!("reopening");
+    reopenings(4, 8, 1_001);
+    reopenings(4, 16_777_216, 1_001);
+    reopenings(57_600, 16_777_216, 101);
     agree(4, 8, 20_000);
     agree(64, 70, 20_000);
     agree(481, 500, 300);

@@ -370,3 +370,123 @@ pub fn view(w: &mut World, block: u32) -> u32 {
     }
     0
 }
+
+/// A number of a label's line, and what comes after it.
+fn number(bytes: &[u8]) -> Option<(u32, &[u8])> {
+    let end = bytes.iter().take(9).position(|b| *b == b'\n')?;
+    let digits = &bytes[..end];
+    if end == 0 || digits[0] == b'0' || !digits.iter().all(u8::is_ascii_digit) {
+        return None;
+    }
+    Some((digits.iter().fold(0, |n, d| 10 * n + (d - b'0') as u32), &bytes[end + 1..]))
+}
+
+fn label(ssd: &[u8]) -> Option<(u32, u32)> {
+    let page = ssd.get(..PAGE)?;
+    let (slots, rest) = number(page.strip_prefix(b"cache=lufuw\nlayout=1\nslots=")?)?;
+    let (blocks, rest) = number(rest.strip_prefix(b"blocks=")?)?;
+    (within(slots, blocks) && rest.iter().all(|b| *b == 0)).then_some((slots, blocks))
+}
+
+fn word(bytes: &[u8]) -> u32 {
+    u32::from_le_bytes(bytes.try_into().unwrap())
+}
+
+fn zero(bytes: &[u8]) -> bool {
+    bytes.iter().all(|b| *b == 0)
+}
+
+fn meta(ssd: &[u8], p: usize) -> &[u8] {
+    &ssd[PAGE * (1 + p)..PAGE * (2 + p)]
+}
+
+/// Block and flags of a slot's entry.
+fn entry(ssd: &[u8], slot: u32) -> (u32, u32) {
+    let at = 512 + 8 * (slot as usize % 240);
+    let page = meta(ssd, slot as usize / 240);
+    (word(&page[at..at + 4]), page[at + 4] as u32)
+}
+
+/// The rule of a single metadata page.
+fn page_ok(page: &[u8], p: u32, slots: u32, blocks: u32) -> bool {
+    let count = page[4] as usize + 256 * page[5] as usize;
+    if count > 63 || (word(&page[0..4]) == 0 && count != 0) || !zero(&page[6..16]) {
+        return false;
+    }
+    let slot = |k: usize| word(&page[16 + 4 * k..20 + 4 * k]);
+    if !(0..count).all(|k| slot(k) < slots && (k + 1..count).all(|m| slot(k) != slot(m))) {
+        return false;
+    }
+    if !zero(&page[16 + 4 * count..512]) || !zero(&page[2432..]) {
+        return false;
+    }
+    page[512..2432].chunks_exact(8).enumerate().all(|(i, e)| {
+        let (block, flags) = (word(&e[0..4]), e[4]);
+        let legal = if flags == 0 { block == 0 } else { flags <= 7 && flags % 2 == 1 && block < blocks };
+        legal && zero(&e[5..8]) && (240 * p + (i as u32) < slots || flags == 0)
+    })
+}
+
+/// Whether no block is in two valid entries: a bit for each block, over ranges of 524,288 blocks, page by page.
+fn none_twice(ssd: &[u8], slots: u32, blocks: u32) -> bool {
+    let mut from = 0;
+    while from < blocks {
+        let mut seen = [0u32; 16_384];
+        for p in 0..metas(slots) as usize {
+            for e in meta(ssd, p)[512..2432].chunks_exact(8).take(slots as usize - 240 * p) {
+                let (block, flags) = (word(&e[0..4]), e[4]);
+                if flags % 2 == 1 && block >= from && block - from < 524_288 {
+                    let k = (block - from) as usize;
+                    if seen[k / 32] >> (k % 32) & 1 == 1 {
+                        return false;
+                    }
+                    seen[k / 32] |= 1 << (k % 32);
+                }
+            }
+        }
+        from += 524_288;
+    }
+    true
+}
+
+pub fn reopen(w: &mut World) -> u32 {
+    let Some((slots, blocks)) = label(&w.ssd) else {
+        return 2;
+    };
+    if w.record.len() != 71 {
+        return 3;
+    }
+    if !lengths_ok(w, slots, blocks) {
+        return 4;
+    }
+    let pages = metas(slots) as usize;
+    let stamp = |p: usize| word(&meta(&w.ssd, p)[0..4]);
+    if !(0..pages).all(|p| page_ok(meta(&w.ssd, p), p as u32, slots, blocks)) {
+        return 5;
+    }
+    if !(0..pages).all(|p| stamp(p) == 0 || (p + 1..pages).all(|q| stamp(p) != stamp(q))) {
+        return 5;
+    }
+    if !none_twice(&w.ssd, slots, blocks) {
+        return 5;
+    }
+    let newest = (0..pages).max_by_key(|p| (stamp(*p), usize::MAX - p)).unwrap();
+    let page = meta(&w.ssd, newest);
+    let count = page[4] as usize;
+    let mut r = Record { slots, blocks, hand: 0, newest: stamp(newest), phase: 2, steps: 0, unsettled: false, window: [0; 63], count };
+    for (k, s) in r.window[..count].iter_mut().enumerate() {
+        *s = word(&page[16 + 4 * k..20 + 4 * k]);
+    }
+    if !r.window[..count].iter().all(|s| entry(&w.ssd, *s).1 % 2 == 1 && entry(&w.ssd, *s).1 / 4 % 2 == 1) {
+        return 5;
+    }
+    for s in 0..slots {
+        let (block, flags) = entry(&w.ssd, s);
+        let dropped = flags % 2 == 0 || (flags / 4 % 2 == 1 && r.window[..count].contains(&s));
+        let row = if dropped { [0, 0] } else { [block, flags % 4] };
+        w.table[2 * s as usize..2 * s as usize + 2].copy_from_slice(&row);
+    }
+    r.phase = if count == 0 { 2 } else { 1 };
+    pack(&mut w.record, &r);
+    0
+}

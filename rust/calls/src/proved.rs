@@ -11,6 +11,7 @@ extern "C" {
     fn ferjulm_look_up(ssd: *const u8, ssd_len: usize, hdd: *const u8, hdd_len: usize, table: *mut u32, table_len: usize, record: *mut u32, record_len: usize, block: u32, slot: *mut u32) -> u32;
     fn ferjulm_write_back(ssd: *const u8, ssd_len: usize, hdd: *mut u8, hdd_len: usize, table: *mut u32, table_len: usize, record: *mut u32, record_len: usize, block: u32, slot: *mut u32) -> u32;
     fn ferjulm_flush(ssd: *mut u8, ssd_len: usize, hdd: *const u8, hdd_len: usize, table: *const u32, table_len: usize, record: *mut u32, record_len: usize, slot: *mut u32) -> u32;
+    fn ferjulm_reopen(ssd: *const u8, ssd_len: usize, hdd: *const u8, hdd_len: usize, table: *mut u32, table_len: usize, record: *mut u32, record_len: usize, slot: *mut u32) -> u32;
     fn ferjulm_view(ssd: *const u8, ssd_len: usize, hdd: *const u8, hdd_len: usize, table: *const u32, table_len: usize, record: *const u32, record_len: usize, block: u32, image: *mut u32, offset: *mut u64) -> u32;
 }
 
@@ -54,6 +55,10 @@ pub fn write_back(w: &mut World, block: u32) -> u32 {
 
 pub fn flush(w: &mut World) -> u32 {
     call!(ferjulm_flush, w,)
+}
+
+pub fn reopen(w: &mut World) -> u32 {
+    call!(ferjulm_reopen, w,)
 }
 
 pub fn view(w: &mut World, block: u32) -> u32 {

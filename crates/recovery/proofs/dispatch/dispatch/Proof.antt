@@ -1,21 +1,8 @@
 use Rattle.protocol.specs.Calls.{boxOf}
 use Rattle.recovery.proofs.DispatchLaws.{made}
-use native.Mathlib.Omega.{arith}
 use borrow.Author.Needs.{needs}
 use Rattle.recovery.proofs.dispatch.dispatch.Statement.{statement}
 use Rattle.recovery.proofs.dispatch.dispatch.Tie as tie
-use Rattle.recovery.proofs.dispatch.dispatch.Reads as reads
-use Rattle.recovery.proofs.dispatch.dispatch.Lts as lts
-use Rattle.cache.proofs.fetch.fetch.Reads as fetch-reads
-use Rattle.cache.proofs.flush.flush.Reads as flush-reads
-use Rattle.cache.proofs.format.format.Reads as format-reads
-use Rattle.cache.proofs.land.land.Reads as land-reads
-use Rattle.cache.proofs.land_fetch.land_fetch.Reads as land-fetch-reads
-use Rattle.cache.proofs.look_up.look_up.Reads as look-up-reads
-use Rattle.cache.proofs.offer.offer.Reads as offer-reads
-use Rattle.cache.proofs.write_back.write_back.Reads as write-back-reads
-use Rattle.recovery.proofs.reopen.reopen.Reads as reopen-reads
-use Rattle.recovery.proofs.step.step.Reads as step-reads
 
 enum-known-request : tie.Need-enum-known-request
 enum-known-request c = search needs
@@ -89,7 +76,8 @@ same-length-3 c = search needs
 returns : tie.Need-returns
 returns c =
     let a = c .before .before .before .before .before .before .before .before .before .before .before .before .before .args in
-    made (a .request) _ (a .page .now) (boxOf (a .ssd .now) (a .hdd .now) (a .table .now) (a .state)) _ (c .before .before .before .before .before .before .before .request .given .1) (c .before .before .format .ensures)
+    made (a .request) _ (a .page .now) (boxOf (a .ssd .now) (a .hdd .now) (a .table .now) (a .state)) _
+    (c .before .before .before .before .before .before .before .request .given .1) (c .before .before .format .ensures)
 
 same-length-4 : tie.Need-same-length-4
 same-length-4 c = search needs
@@ -103,7 +91,8 @@ same-length-6 c = search needs
 returns-2 : tie.Need-returns-2
 returns-2 c =
     let a = c .before .before .before .before .before .before .before .before .before .before .before .before .args in
-    made (a .request) _ (a .page .now) (boxOf (a .ssd .now) (a .hdd .now) (a .table .now) (a .state)) _ (c .before .before .before .before .before .before .enum-told .given .1) (c .before .before .step .ensures)
+    made (a .request) _ (a .page .now) (boxOf (a .ssd .now) (a .hdd .now) (a .table .now) (a .state)) _
+    (c .before .before .before .before .before .before .enum-told .given .1) (c .before .before .step .ensures)
 
 same-length-7 : tie.Need-same-length-7
 same-length-7 c = search needs
@@ -116,8 +105,11 @@ same-length-9 c = search needs
 
 returns-3 : tie.Need-returns-3
 returns-3 c =
-    let a = c .before .before .before .before .before .before .before .before .before .before .before .before .before .before .before .before .before .args in
-    made (a .request) _ (a .page .now) (boxOf (a .ssd .now) (a .hdd .now) (a .table .now) (a .state)) _ (c .before .before .before .before .before .before .before .before .before .before .before .request2 .given .1) (c .before .before .before .before .before .before .offer .ensures)
+    let mid = c .before .before .before .before .before .before .before .before .before in
+    let a = mid .before .before .before .before .before .before .before .before .args in
+    made (a .request) _ (a .page .now) (boxOf (a .ssd .now) (a .hdd .now) (a .table .now) (a .state)) _
+    (c .before .before .before .before .before .before .before .before .before .before .before .request2 .given .1)
+    (c .before .before .before .before .before .before .offer .ensures)
 
 same-length-10 : tie.Need-same-length-10
 same-length-10 c = search needs
@@ -130,8 +122,11 @@ same-length-12 c = search needs
 
 returns-4 : tie.Need-returns-4
 returns-4 c =
-    let a = c .before .before .before .before .before .before .before .before .before .before .before .before .before .before .before .args in
-    made (a .request) _ (a .page .now) (boxOf (a .ssd .now) (a .hdd .now) (a .table .now) (a .state)) _ (c .before .before .before .before .before .before .before .before .before .request3 .given .1) (c .before .before .before .before .land .ensures)
+    let mid = c .before .before .before .before .before .before .before .before .before in
+    let a = mid .before .before .before .before .before .before .args in
+    made (a .request) _ (a .page .now) (boxOf (a .ssd .now) (a .hdd .now) (a .table .now) (a .state)) _
+    (c .before .before .before .before .before .before .before .before .before .request3 .given .1)
+    (c .before .before .before .before .land .ensures)
 
 same-length-13 : tie.Need-same-length-13
 same-length-13 c = search needs
@@ -144,8 +139,11 @@ same-length-15 c = search needs
 
 returns-5 : tie.Need-returns-5
 returns-5 c =
-    let a = c .before .before .before .before .before .before .before .before .before .before .before .before .before .before .before .before .before .args in
-    made (a .request) _ (a .page .now) (boxOf (a .ssd .now) (a .hdd .now) (a .table .now) (a .state)) _ (c .before .before .before .before .before .before .before .before .before .before .before .request4 .given .1) (c .before .before .before .before .before .before .fetch .ensures)
+    let mid = c .before .before .before .before .before .before .before .before .before in
+    let a = mid .before .before .before .before .before .before .before .before .args in
+    made (a .request) _ (a .page .now) (boxOf (a .ssd .now) (a .hdd .now) (a .table .now) (a .state)) _
+    (c .before .before .before .before .before .before .before .before .before .before .before .request4 .given .1)
+    (c .before .before .before .before .before .before .fetch .ensures)
 
 same-length-16 : tie.Need-same-length-16
 same-length-16 c = search needs
@@ -158,8 +156,11 @@ same-length-18 c = search needs
 
 returns-6 : tie.Need-returns-6
 returns-6 c =
-    let a = c .before .before .before .before .before .before .before .before .before .before .before .before .before .before .before .args in
-    made (a .request) _ (a .page .now) (boxOf (a .ssd .now) (a .hdd .now) (a .table .now) (a .state)) _ (c .before .before .before .before .before .before .before .before .before .request5 .given .1) (c .before .before .before .before .land-fetch .ensures)
+    let mid = c .before .before .before .before .before .before .before .before .before in
+    let a = mid .before .before .before .before .before .before .args in
+    made (a .request) _ (a .page .now) (boxOf (a .ssd .now) (a .hdd .now) (a .table .now) (a .state)) _
+    (c .before .before .before .before .before .before .before .before .before .request5 .given .1)
+    (c .before .before .before .before .land-fetch .ensures)
 
 same-length-19 : tie.Need-same-length-19
 same-length-19 c = search needs
@@ -173,7 +174,8 @@ same-length-21 c = search needs
 returns-7 : tie.Need-returns-7
 returns-7 c =
     let a = c .before .before .before .before .before .before .before .before .before .before .before .before .before .args in
-    made (a .request) _ (a .page .now) (boxOf (a .ssd .now) (a .hdd .now) (a .table .now) (a .state)) _ (c .before .before .before .before .before .before .before .request6 .given .1) (c .before .before .look-up .ensures)
+    made (a .request) _ (a .page .now) (boxOf (a .ssd .now) (a .hdd .now) (a .table .now) (a .state)) _
+    (c .before .before .before .before .before .before .before .request6 .given .1) (c .before .before .look-up .ensures)
 
 same-length-22 : tie.Need-same-length-22
 same-length-22 c = search needs
@@ -186,8 +188,11 @@ same-length-24 c = search needs
 
 returns-8 : tie.Need-returns-8
 returns-8 c =
-    let a = c .before .before .before .before .before .before .before .before .before .before .before .before .before .before .before .args in
-    made (a .request) _ (a .page .now) (boxOf (a .ssd .now) (a .hdd .now) (a .table .now) (a .state)) _ (c .before .before .before .before .before .before .before .before .before .request7 .given .1) (c .before .before .before .before .write-back .ensures)
+    let mid = c .before .before .before .before .before .before .before .before .before in
+    let a = mid .before .before .before .before .before .before .args in
+    made (a .request) _ (a .page .now) (boxOf (a .ssd .now) (a .hdd .now) (a .table .now) (a .state)) _
+    (c .before .before .before .before .before .before .before .before .before .request7 .given .1)
+    (c .before .before .before .before .write-back .ensures)
 
 same-length-25 : tie.Need-same-length-25
 same-length-25 c = search needs
@@ -201,7 +206,8 @@ same-length-27 c = search needs
 returns-9 : tie.Need-returns-9
 returns-9 c =
     let a = c .before .before .before .before .before .before .before .before .before .before .before .before .args in
-    made (a .request) _ (a .page .now) (boxOf (a .ssd .now) (a .hdd .now) (a .table .now) (a .state)) _ (c .before .before .before .before .before .before .enum-told2 .given .1) (c .before .before .flush .ensures)
+    made (a .request) _ (a .page .now) (boxOf (a .ssd .now) (a .hdd .now) (a .table .now) (a .state)) _
+    (c .before .before .before .before .before .before .enum-told2 .given .1) (c .before .before .flush .ensures)
 
 same-length-28 : tie.Need-same-length-28
 same-length-28 c = search needs
@@ -215,7 +221,8 @@ same-length-30 c = search needs
 returns-10 : tie.Need-returns-10
 returns-10 c =
     let a = c .before .before .before .before .before .before .before .before .before .before .before .before .args in
-    made (a .request) _ (a .page .now) (boxOf (a .ssd .now) (a .hdd .now) (a .table .now) (a .state)) _ (c .before .before .before .before .before .before .enum-told3 .given .1) (c .before .before .reopen .ensures)
+    made (a .request) _ (a .page .now) (boxOf (a .ssd .now) (a .hdd .now) (a .table .now) (a .state)) _
+    (c .before .before .before .before .before .before .enum-told3 .given .1) (c .before .before .reopen .ensures)
 
 pub dispatch-spec : {M : Type 1} → statement M
 dispatch-spec =

@@ -1,8 +1,7 @@
-use lib.ListN.{length-set}
+use lib.ListN.{length-set, length, take}
 use Rattle.recovery.proofs.FillLaws.{rows-none, row-filled, rows-filled}
-use Prim.Native.Nat.{ℕ, _+_, _*_, _-_, _≤_, _<_}
-use mathlib.Core.Path.{_≡_, refl, sym, ap, _∙_}
-use lib.ListN.{length, getD, take, drop}
+use Prim.Native.Nat.{_*_, _-_, _≤_}
+use mathlib.Core.Path.{_≡_, ap, _∙_}
 use Rattle.layout.specs.Places.{tableLength}
 use Rattle.layout.specs.MetaPage.{rowsFrom}
 use Rattle.protocol.specs.Recovery.{metasOf, entryIn}
@@ -11,13 +10,10 @@ use borrow.Author.Needs.{needs}
 use native.Mathlib.Omega.{arith}
 use Rattle.recovery.proofs.fill.fill.Statement.{statement}
 use Rattle.recovery.proofs.fill.fill.Tie as tie
-use Rattle.recovery.proofs.fill.fill.Reads as reads
-use Rattle.recovery.proofs.fill.fill.Lts as lts
-use Rattle.recovery.proofs.fill.kept.Reads as kept-reads
-use Rattle.recovery.proofs.stored.entry_of.Reads as entry-of-reads
 
 abbrev Inv-loop : tie.InvT-loop
-Inv-loop ssd table₀ l slots s₀ table s = (slots ≡ l .slots) × (s ≤ slots) × (length table ≡ tableLength l) × (take (2 * s) table ≡ rowsFrom s (λ k. keptEntry (entryIn (metasOf l ssd) (record { 0 = k }))))
+Inv-loop ssd table₀ l slots s₀ table s = (slots ≡ l .slots) × (s ≤ slots) × (length table ≡ tableLength l) ×
+    (take (2 * s) table ≡ rowsFrom s (λ k. keptEntry (entryIn (metasOf l ssd) (record { 0 = k }))))
 
 abbrev μ-loop : tie.MeasureT-loop
 μ-loop ssd table₀ l slots s₀ table s = slots - s
@@ -64,8 +60,14 @@ loop-again : tie.Need-loop-again Inv-loop μ-loop
 loop-again c =
     let s = c .before .before .before .before .before .before .before in
     let l = c .before .before .before .before .loop in
-    let e = c .before .kept .ensures ∙ ap keptEntry (c .before .before .entry-of .ensures) in
-    (l .inv .0, omega arith, simp length-set (l .inv .2), row-filled (l .table) (λ k. keptEntry (entryIn (metasOf (s .args .l) (s .args .ssd .now)) (record { 0 = k }))) _ (l .s) (omega (arith, l .inv .0, l .inv .2)) e (l .inv .3))
+    let e = c .before .kept .ensures ∙ ap keptEntry (c .before .before .entry-of .ensures) in (
+      l .inv .0,
+      omega arith,
+      simp length-set (l .inv .2),
+      row-filled (l .table)
+          (λ k. keptEntry (entryIn (metasOf (s .args .l) (s .args .ssd .now)) (record { 0 = k }))) _ (l .s)
+          (omega (arith, l .inv .0, l .inv .2)) e (l .inv .3),
+    )
 
 same-length : tie.Need-same-length Inv-loop μ-loop
 same-length c = search needs

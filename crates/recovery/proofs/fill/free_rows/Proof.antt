@@ -1,18 +1,17 @@
 use Rattle.recovery.proofs.FillLaws.{freed-left, freed-end}
-use Prim.Native.Nat.{ℕ, _+_, _*_, _-_, _≤_, _<_}
-use mathlib.Core.Path.{_≡_, refl, sym, ap, _∙_}
-use lib.ListN.{length, getD, take, drop, length-set}
+use Prim.Native.Nat.{_-_, _≤_}
+use mathlib.Core.Path.{_≡_, sym, _∙_}
+use lib.ListN.{length, take, drop, length-set}
 use Rattle.table.proofs.WindowLaws.{row-in, block-in}
 use Rattle.recovery.specs.Fill.{freed}
 use borrow.Author.Needs.{needs}
 use native.Mathlib.Omega.{arith}
 use Rattle.recovery.proofs.fill.free_rows.Statement.{statement}
 use Rattle.recovery.proofs.fill.free_rows.Tie as tie
-use Rattle.recovery.proofs.fill.free_rows.Reads as reads
-use Rattle.recovery.proofs.fill.free_rows.Lts as lts
 
 abbrev Inv-loop : tie.InvT-loop
-Inv-loop table₀ count window n i₀ table i = (n ≡ count) × (i ≤ count) × (length table ≡ length table₀) × (freed (drop i (take count window)) table ≡ freed (take count window) table₀)
+Inv-loop table₀ count window n i₀ table i = (n ≡ count) × (i ≤ count) × (length table ≡ length table₀) ×
+    (freed (drop i (take count window)) table ≡ freed (take count window) table₀)
 
 abbrev μ-loop : tie.MeasureT-loop
 μ-loop table₀ count window n i₀ table i = count - i
@@ -40,7 +39,8 @@ slice-write-table c =
     let s = c .before .before .before .before in
     let l = c .before .before .before .loop in
     let all : length (s .args .t3) ≡ 63 = search needs in
-    block-in (s .args .l) (l .table) (s .args .t3) (s .args .count) (l .i) _ (l .inv .2 ∙ s .pre .0) (s .pre .1 .1) (omega arith) (omega (arith, s .pre))
+    block-in (s .args .l) (l .table) (s .args .t3) (s .args .count) (l .i) _ (l .inv .2 ∙ s .pre .0) (s .pre .1 .1) (omega arith)
+    (omega (arith, s .pre))
 
 add-table : tie.Need-add-table Inv-loop μ-loop
 add-table c = search needs
@@ -53,7 +53,8 @@ slice-write-table-2 c =
     let s = c .before .before .before .before in
     let l = c .before .before .before .loop in
     let all : length (s .args .t3) ≡ 63 = search needs in
-    simp length-set (row-in (s .args .l) (l .table) (s .args .t3) (s .args .count) (l .i) _ (l .inv .2 ∙ s .pre .0) (s .pre .1 .1) (omega arith) (omega (arith, s .pre)))
+    simp length-set (row-in (s .args .l) (l .table) (s .args .t3) (s .args .count) (l .i) _ (l .inv .2 ∙ s .pre .0) (s .pre .1 .1)
+    (omega arith) (omega (arith, s .pre)))
 
 add-i : tie.Need-add-i Inv-loop μ-loop
 add-i c = search needs
@@ -65,8 +66,13 @@ loop-again : tie.Need-loop-again Inv-loop μ-loop
 loop-again c =
     let s = c .before .before .before .before in
     let l = c .before .before .before .loop in
-    let all : length (s .args .t3) ≡ 63 = search needs in
-    (l .inv .0, omega arith, simp length-set (l .inv .2), sym (freed-left (s .args .t3) (s .args .count) (l .i) _ (l .table) (omega arith) (omega (arith, s .pre))) ∙ l .inv .3)
+    let all : length (s .args .t3) ≡ 63 = search needs in (
+      l .inv .0,
+      omega arith,
+      simp length-set (l .inv .2),
+      sym
+          (freed-left (s .args .t3) (s .args .count) (l .i) _ (l .table) (omega arith) (omega (arith, s .pre))) ∙ l .inv .3,
+    )
 
 same-length : tie.Need-same-length Inv-loop μ-loop
 same-length c = search needs

@@ -6,19 +6,10 @@ use Rattle.recovery.specs.Stored.{newestAt}
 use Rattle.recovery.specs.Fill.{freed}
 use Rattle.recovery.proofs.StoredLaws.{newest-bounded}
 use Rattle.recovery.proofs.FillLaws.{passed, pending-bounded, recovered-is}
-use Prim.Native.Nat.{ℕ, _+_, _*_, _-_, _≤_, _<_}
-use mathlib.Core.Path.{_≡_, refl, sym, ap, _∙_}
-use native.Mathlib.Omega.{arith}
+use mathlib.Core.Path.{ap, _∙_}
 use borrow.Author.Needs.{needs}
 use Rattle.recovery.proofs.fill.recover.Statement.{statement}
 use Rattle.recovery.proofs.fill.recover.Tie as tie
-use Rattle.recovery.proofs.fill.recover.Reads as reads
-use Rattle.recovery.proofs.fill.recover.Lts as lts
-use Rattle.recovery.proofs.fill.fill.Reads as fill-reads
-use Rattle.recovery.proofs.fill.free_rows.Reads as free-rows-reads
-use Rattle.recovery.proofs.fill.reopened.Reads as reopened-reads
-use Rattle.recovery.proofs.stored.newest.Reads as newest-reads
-use Rattle.recovery.proofs.stored.pending.Reads as pending-reads
 
 fill-requires : tie.Need-fill-requires
 fill-requires c κs = search needs
@@ -36,7 +27,8 @@ free-rows-requires : tie.Need-free-rows-requires
 free-rows-requires c κs =
     let s = c .before .before .before .before .before .before .before .before .before .before in
     let k = passed (s .args .l) (metasOf (s .args .l) (s .args .ssd .now)) (s .pre .1 .1 .1) in
-    let w = newest-bounded (s .args .l) (metasOf (s .args .l) (s .args .ssd .now)) _ (k .legal) (c .before .before .before .newest .ensures .on-page) in
+    let w = newest-bounded (s .args .l) (metasOf (s .args .l) (s .args .ssd .now)) _ (k .legal)
+    (c .before .before .before .newest .ensures .on-page) in
     let z = pending-bounded (s .args .l) _ _ (c .before .before .pending .ensures) w in
     (ap length (c .before .before .before .before .before .before .fill .ensures) ∙ length-rows _ _, (z .0, z .1))
 
@@ -53,9 +45,12 @@ returns c =
     let k = passed (s .args .l) pages (s .pre .1 .1 .1) in
     let n = c .before .before .before .before .before .before .before .newest in
     let w = newest-bounded (s .args .l) pages _ (k .legal) (n .ensures .on-page) in
-    recovered-is (s .args .l) pages (newestAt pages (n .result .at)) (n .result .stamp) (c .before .before .before .before .before .before .pending .result) _ _
-    (n .ensures .newest-is) (n .ensures .stamp-is) (c .before .before .before .before .before .before .pending .ensures) (w .ranged) (rw (n .ensures .newest-is) (k .opened))
-    (c .before .before .before .free-rows .ensures ∙ ap (freed _) (c .before .before .before .before .before .before .before .before .before .before .fill .ensures)) (c .reopened .ensures)
+    recovered-is (s .args .l) pages (newestAt pages (n .result .at)) (n .result .stamp)
+    (c .before .before .before .before .before .before .pending .result) _ _
+    (n .ensures .newest-is) (n .ensures .stamp-is) (c .before .before .before .before .before .before .pending .ensures) (w .ranged)
+    (rw (n .ensures .newest-is) (k .opened))
+    (c .before .before .before .free-rows .ensures ∙ ap (freed _)
+    (c .before .before .before .before .before .before .before .before .before .before .fill .ensures)) (c .reopened .ensures)
 
 pub recover-spec : {M : Type 1} → statement M
 recover-spec =

@@ -1,10 +1,6 @@
-use native.Mathlib.Omega.{arith}
 use borrow.Author.Needs.{needs}
 use Rattle.recovery.proofs.fill.reopened.Statement.{statement}
 use Rattle.recovery.proofs.fill.reopened.Tie as tie
-use Rattle.recovery.proofs.fill.reopened.Reads as reads
-use Rattle.recovery.proofs.fill.reopened.Lts as lts
-use Rattle.recovery.proofs.step.phase_of.Reads as phase-of-reads
 
 phase-of-requires : tie.Need-phase-of-requires
 phase-of-requires c κs = search needs

@@ -1,17 +1,12 @@
-use mathlib.Core.Path.{_≡_, refl, sym, ap, _∙_}
+use mathlib.Core.Path.{_≡_, ap, _∙_}
 use borrow.Author.Tests.{le-leb, lt-leb}
 use Rattle.pages.specs.Pages.{pageAt}
 use Rattle.pages.specs.Parts.{Part, pagePart}
 use Rattle.layout.specs.LabelPage.{decodeLabel}
 use Rattle.recovery.proofs.ReopenLaws.{short-read, page-read}
-use native.Mathlib.Omega.{arith}
 use borrow.Author.Needs.{needs}
 use Rattle.recovery.proofs.reopen.label_of.Statement.{statement}
 use Rattle.recovery.proofs.reopen.label_of.Tie as tie
-use Rattle.recovery.proofs.reopen.label_of.Reads as reads
-use Rattle.recovery.proofs.reopen.label_of.Lts as lts
-use Rattle.layout.proofs.label_page.decode_label.Reads as decode-label-reads
-use Rattle.pages.proofs.page_at.Reads as page-at-reads
 
 returns : tie.Need-returns
 returns c = short-read (c .before .before .args .ssd .now) (lt-leb _ _ (c .if1 .taken))

@@ -1,18 +1,9 @@
-use mathlib.Core.Path.{_≡_, refl, sym, ap, _∙_}
+use mathlib.Core.Path.{sym, _∙_}
 use borrow.Author.Tests.{not-true, not-false}
 use Rattle.recovery.proofs.ReopenLaws.{unlabelled, limits, wrong-length, sizes, bad-pages, taken}
-use native.Mathlib.Omega.{arith}
 use borrow.Author.Needs.{needs}
 use Rattle.recovery.proofs.reopen.reopen.Statement.{statement}
 use Rattle.recovery.proofs.reopen.reopen.Tie as tie
-use Rattle.recovery.proofs.reopen.reopen.Reads as reads
-use Rattle.recovery.proofs.reopen.reopen.Lts as lts
-use Rattle.cache.proofs.answers.answered.Reads as answered-reads
-use Rattle.cache.proofs.answers.refused.Reads as refused-reads
-use Rattle.cache.proofs.judge.lengths_ok.Reads as lengths-ok-reads
-use Rattle.recovery.proofs.fill.recover.Reads as recover-reads
-use Rattle.recovery.proofs.reopen.label_of.Reads as label-of-reads
-use Rattle.recovery.proofs.rules.pages_ok.Reads as pages-ok-reads
 
 label-of-requires : tie.Need-label-of-requires
 label-of-requires c κs = search needs
@@ -29,7 +20,9 @@ refused-requires c κs = search needs
 returns : tie.Need-returns
 returns c =
     let a = c .before .before .before .before .before .before .before .args in
-    rw (c .refused .ensures .0, c .refused .ensures .1) (unlabelled (a .ssd .now) (a .hdd .now) (a .table .now) (a .state) (sym (c .before .before .before .label-of .ensures) ∙ c .before .enum-told .given .1))
+    rw (c .refused .ensures .0, c .refused .ensures .1)
+    (unlabelled (a .ssd .now) (a .hdd .now) (a .table .now) (a .state)
+    (sym (c .before .before .before .label-of .ensures) ∙ c .before .enum-told .given .1))
 
 lengths-ok-requires : tie.Need-lengths-ok-requires
 lengths-ok-requires c κs = search needs
@@ -41,13 +34,19 @@ returns-2 : tie.Need-returns-2
 returns-2 c =
     let a = c .before .before .before .before .before .before .before .before .before .before .args in
     rw (c .refused2 .ensures .0, c .refused2 .ensures .1)
-    (wrong-length (a .ssd .now) (a .hdd .now) (a .table .now) (a .state) _ (sym (c .before .before .before .before .before .before .label-of .ensures) ∙ c .before .before .before .before .l .given .1) (sym (c .before .before .lengths-ok .ensures) ∙ not-true _ (c .before .if1 .taken)))
+    (wrong-length (a .ssd .now) (a .hdd .now) (a .table .now) (a .state) _
+    (sym (c .before .before .before .before .before .before .label-of .ensures) ∙ c .before .before .before .before .l .given .1)
+    (sym (c .before .before .lengths-ok .ensures) ∙ not-true _ (c .before .if1 .taken)))
 
 pages-ok-requires : tie.Need-pages-ok-requires
 pages-ok-requires c κs =
     let a = c .before .before .before .before .before .before .before .before .before .args in
-    let e = (sym (c .before .before .before .before .before .label-of .ensures) ∙ c .before .before .before .l .given .1) in
-    (sizes (a .ssd .now) (a .hdd .now) (a .table .now) (a .state) _ e (sym (c .before .lengths-ok .ensures) ∙ not-false _ (c .if1 .left)) .0, limits (a .ssd .now) (a .hdd .now) (a .table .now) (a .state) _ e)
+    let e = (sym (c .before .before .before .before .before .label-of .ensures) ∙ c .before .before .before .l .given .1) in (
+      sizes (a .ssd .now) (a .hdd .now) (a .table .now) (a .state) _ e
+          (sym (c .before .lengths-ok .ensures) ∙ not-false _ (c .if1 .left)) .0,
+      limits (a .ssd .now) (a .hdd .now) (a .table .now)
+          (a .state) _ e,
+    )
 
 refused-requires-3 : tie.Need-refused-requires-3
 refused-requires-3 c κs = search needs
@@ -56,14 +55,29 @@ returns-3 : tie.Need-returns-3
 returns-3 c =
     let a = c .before .before .before .before .before .before .before .before .before .before .before .before .args in
     rw (c .refused3 .ensures .0, c .refused3 .ensures .1)
-    (bad-pages (a .ssd .now) (a .hdd .now) (a .table .now) (a .state) _ (sym (c .before .before .before .before .before .before .before .before .label-of .ensures) ∙ c .before .before .before .before .before .before .l .given .1) (sym (c .before .before .before .before .lengths-ok .ensures) ∙ not-false _ (c .before .before .before .if1 .left)) (sym (c .before .before .pages-ok .ensures) ∙ not-true _ (c .before .if2 .taken)))
+    (bad-pages (a .ssd .now) (a .hdd .now) (a .table .now) (a .state) _
+    (sym (c .before .before .before .before .before .before .before .before .label-of .ensures)
+    ∙ c .before .before .before .before .before .before .l .given .1)
+    (sym (c .before .before .before .before .lengths-ok .ensures) ∙ not-false _ (c .before .before .before .if1 .left))
+    (sym (c .before .before .pages-ok .ensures) ∙ not-true _ (c .before .if2 .taken)))
 
 recover-requires : tie.Need-recover-requires
 recover-requires c κs =
     let a = c .before .before .before .before .before .before .before .before .before .before .before .before .args in
-    let e = (sym (c .before .before .before .before .before .before .before .before .label-of .ensures) ∙ c .before .before .before .before .before .before .l .given .1) in
-    let z = sizes (a .ssd .now) (a .hdd .now) (a .table .now) (a .state) _ e (sym (c .before .before .before .before .lengths-ok .ensures) ∙ not-false _ (c .before .before .before .if1 .left)) in
-    (z .0, (z .1, (limits (a .ssd .now) (a .hdd .now) (a .table .now) (a .state) _ e, sym (c .before .before .pages-ok .ensures) ∙ not-false _ (c .before .if2 .left))))
+    let e = (sym (c .before .before .before .before .before .before .before .before .label-of .ensures)
+    ∙ c .before .before .before .before .before .before .l .given .1) in
+    let z = sizes (a .ssd .now) (a .hdd .now) (a .table .now) (a .state) _ e
+    (sym (c .before .before .before .before .lengths-ok .ensures) ∙ not-false _ (c .before .before .before .if1 .left)) in (
+      z .0,
+      (
+        z .1,
+        (
+          limits (a .ssd .now) (a .hdd .now) (a .table .now) (a .state) _ e,
+          sym (c .before .before .pages-ok .ensures)
+              ∙ not-false _ (c .before .if2 .left),
+        ),
+      ),
+    )
 
 answered-requires : tie.Need-answered-requires
 answered-requires c κs = search needs
@@ -73,10 +87,16 @@ same-length c = search needs
 
 returns-4 : tie.Need-returns-4
 returns-4 c =
-    let a = c .before .before .before .before .before .before .before .before .before .before .before .before .before .before .before .before .args in
+    let mid = c .before .before .before .before .before .before .before .before .before in
+    let a = mid .before .before .before .before .before .before .before .args in
     rw (c .answered .ensures .0, c .answered .ensures .1)
-    (taken (a .ssd .now) (a .hdd .now) (a .table .now) (a .state) _ (sym (c .before .before .before .before .before .before .before .before .before .before .before .before .label-of .ensures) ∙ c .before .before .before .before .before .before .before .before .before .before .l .given .1) (sym (c .before .before .before .before .before .before .before .before .lengths-ok .ensures) ∙ not-false _ (c .before .before .before .before .before .before .before .if1 .left)) _
-    (sym (c .before .before .before .before .before .before .pages-ok .ensures) ∙ not-false _ (c .before .before .before .before .before .if2 .left)) (c .before .before .before .recover .ensures))
+    (taken (a .ssd .now) (a .hdd .now) (a .table .now) (a .state) _
+    (sym (c .before .before .before .before .before .before .before .before .before .before .before .before .label-of .ensures)
+    ∙ c .before .before .before .before .before .before .before .before .before .before .l .given .1)
+    (sym (c .before .before .before .before .before .before .before .before .lengths-ok .ensures) ∙ not-false _
+    (c .before .before .before .before .before .before .before .if1 .left)) _
+    (sym (c .before .before .before .before .before .before .pages-ok .ensures) ∙ not-false _
+    (c .before .before .before .before .before .if2 .left)) (c .before .before .before .recover .ensures))
 
 pub reopen-spec : {M : Type 1} → statement M
 reopen-spec =

@@ -4,20 +4,15 @@ use Rattle.layout.specs.PageRule.{pageTest}
 use Rattle.layout.proofs.Loops.{go-on, stop}
 use Rattle.recovery.proofs.StoredLaws.{pages-most}
 use Rattle.recovery.proofs.RuleLaws.{legal-left, legal-end}
-use Prim.Native.Nat.{ℕ, _+_, _*_, _-_, _≤_, _<_}
-use mathlib.Core.Path.{_≡_, refl, sym, ap, _∙_}
-use lib.ListN.{length, getD, take, drop}
+use Prim.Native.Nat.{_-_, _≤_, _<_}
+use mathlib.Core.Path.{_≡_, sym, ap, _∙_}
+use lib.ListN.{getD, drop}
 use Rattle.layout.specs.Places.{metaPages}
 use Rattle.protocol.specs.Recovery.{metasOf, eachLegal}
 use borrow.Author.Needs.{needs}
 use native.Mathlib.Omega.{arith}
 use Rattle.recovery.proofs.rules.all_legal.Statement.{statement}
 use Rattle.recovery.proofs.rules.all_legal.Tie as tie
-use Rattle.recovery.proofs.rules.all_legal.Reads as reads
-use Rattle.recovery.proofs.rules.all_legal.Lts as lts
-use Rattle.layout.proofs.places.meta_pages.Reads as meta-pages-reads
-use Rattle.metadata.proofs.judge.legal_page.Reads as legal-page-reads
-use Rattle.recovery.proofs.stored.meta_page.Reads as meta-page-reads
 
 abbrev Inv-loop : tie.InvT-loop
 Inv-loop ssd l m p₀ p = (m ≡ metaPages l) × (p ≤ metaPages l) × (eachLegal l p (drop p (metasOf l ssd)) ≡ eachLegal l 0 (metasOf l ssd))
@@ -44,8 +39,10 @@ returns c =
     let s = c .before .before .before .before .before .before .before in
     let l = c .before .before .before .before .loop in
     let h : l .p < metaPages (s .args .l) = omega (arith, l .inv .0) in
-    stop (pageTest (s .args .l) (l .p) (getD (metasOf (s .args .l) (s .args .ssd .now)) (l .p) [])) _ (l .inv .2) (legal-left (s .args .l) (s .args .ssd .now) (l .p) h)
-    (ap (pageTest (s .args .l) (l .p)) (sym (c .before .before .meta-page .ensures .0)) ∙ sym (c .before .legal-page .ensures) ∙ not-true _ (c .if1 .taken))
+    stop (pageTest (s .args .l) (l .p) (getD (metasOf (s .args .l) (s .args .ssd .now)) (l .p) [])) _ (l .inv .2)
+    (legal-left (s .args .l) (s .args .ssd .now) (l .p) h)
+    (ap (pageTest (s .args .l) (l .p)) (sym (c .before .before .meta-page .ensures .0)) ∙ sym (c .before .legal-page .ensures)
+    ∙ not-true _ (c .if1 .taken))
 
 add-p : tie.Need-add-p Inv-loop μ-loop
 add-p c = search needs
@@ -60,8 +57,10 @@ loop-again c =
     let h : l .p < metaPages (s .args .l) = omega (arith, l .inv .0) in (
       l .inv .0,
       omega arith,
-      go-on (pageTest (s .args .l) (l .p) (getD (metasOf (s .args .l) (s .args .ssd .now)) (l .p) [])) _ (l .inv .2) (legal-left (s .args .l) (s .args .ssd .now) (l .p) h)
-          (ap (pageTest (s .args .l) (l .p)) (sym (c .before .before .meta-page .ensures .0)) ∙ sym (c .before .legal-page .ensures) ∙ not-false _ (c .if1 .left)),
+      go-on (pageTest (s .args .l) (l .p) (getD (metasOf (s .args .l) (s .args .ssd .now)) (l .p) [])) _ (l .inv .2)
+          (legal-left (s .args .l) (s .args .ssd .now) (l .p) h)
+          (ap (pageTest (s .args .l) (l .p)) (sym (c .before .before .meta-page .ensures .0)) ∙ sym (c .before .legal-page .ensures)
+          ∙ not-false _ (c .if1 .left)),
     )
 
 returns-2 : tie.Need-returns-2 Inv-loop μ-loop

@@ -5,21 +5,18 @@ use Rattle.layout.proofs.Loops.{go-on, stop}
 use Rattle.protocol.specs.Rows.{valid, writing}
 use Rattle.table.proofs.WindowLaws.{slot-low}
 use Rattle.recovery.proofs.RuleLaws.{open-left, open-end}
-use Prim.Native.Nat.{ℕ, _+_, _*_, _-_, _≤_, _<_}
-use mathlib.Core.Path.{_≡_, refl, sym, ap, _∙_}
-use lib.ListN.{length, getD, take, drop}
+use Prim.Native.Nat.{_-_, _≤_}
+use mathlib.Core.Path.{_≡_, sym, ap, _∙_}
+use lib.ListN.{length, take, drop}
 use Rattle.protocol.specs.Recovery.{metasOf, allOpenIn}
 use borrow.Author.Needs.{needs}
 use native.Mathlib.Omega.{arith}
 use Rattle.recovery.proofs.rules.all_open.Statement.{statement}
 use Rattle.recovery.proofs.rules.all_open.Tie as tie
-use Rattle.recovery.proofs.rules.all_open.Reads as reads
-use Rattle.recovery.proofs.rules.all_open.Lts as lts
-use Rattle.recovery.proofs.rules.is_open.Reads as is-open-reads
-use Rattle.recovery.proofs.stored.entry_of.Reads as entry-of-reads
 
 abbrev Inv-loop : tie.InvT-loop
-Inv-loop ssd l count window n i₀ i = (n ≡ count) × (i ≤ count) × (allOpenIn (metasOf l ssd) (drop i (take count window)) ≡ allOpenIn (metasOf l ssd) (take count window))
+Inv-loop ssd l count window n i₀ i = (n ≡ count) × (i ≤ count) ×
+    (allOpenIn (metasOf l ssd) (drop i (take count window)) ≡ allOpenIn (metasOf l ssd) (take count window))
 
 abbrev μ-loop : tie.MeasureT-loop
 μ-loop ssd l count window n i₀ i = count - i
@@ -48,8 +45,10 @@ returns c =
     let s = c .before .before .before .before .before .before .before in
     let l = c .before .before .before .before .before .loop in
     let all : length (s .args .t3) ≡ 63 = search needs in
-    let o = open-left (metasOf (s .args .l) (s .args .ssd .now)) (s .args .t3) (s .args .count) (l .i) _ (omega arith) (omega (arith, s .pre)) in
-    let q = ap (λ (e : Entry). valid (e .flags) && writing (e .flags)) (sym (c .before .before .entry-of .ensures)) ∙ sym (c .before .is-open .ensures) in
+    let o = open-left (metasOf (s .args .l) (s .args .ssd .now)) (s .args .t3) (s .args .count) (l .i) _ (omega arith)
+    (omega (arith, s .pre)) in
+    let q = ap (λ (e : Entry). valid (e .flags) && writing (e .flags)) (sym (c .before .before .entry-of .ensures)) ∙ sym
+    (c .before .is-open .ensures) in
     stop _ _ (l .inv .2) o (q ∙ not-true _ (c .if1 .taken))
 
 add-i : tie.Need-add-i Inv-loop μ-loop
@@ -63,8 +62,10 @@ loop-again c =
     let s = c .before .before .before .before .before .before .before in
     let l = c .before .before .before .before .before .loop in
     let all : length (s .args .t3) ≡ 63 = search needs in
-    let o = open-left (metasOf (s .args .l) (s .args .ssd .now)) (s .args .t3) (s .args .count) (l .i) _ (omega arith) (omega (arith, s .pre)) in
-    let q = ap (λ (e : Entry). valid (e .flags) && writing (e .flags)) (sym (c .before .before .entry-of .ensures)) ∙ sym (c .before .is-open .ensures) in
+    let o = open-left (metasOf (s .args .l) (s .args .ssd .now)) (s .args .t3) (s .args .count) (l .i) _ (omega arith)
+    (omega (arith, s .pre)) in
+    let q = ap (λ (e : Entry). valid (e .flags) && writing (e .flags)) (sym (c .before .before .entry-of .ensures)) ∙ sym
+    (c .before .is-open .ensures) in
     (l .inv .0, omega arith, go-on _ _ (l .inv .2) o (q ∙ not-false _ (c .if1 .left)))
 
 returns-2 : tie.Need-returns-2 Inv-loop μ-loop

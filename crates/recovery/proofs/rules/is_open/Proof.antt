@@ -1,10 +1,6 @@
-use borrow.Author.Tests.{eq-eqb, ne-eqb, le-leb, lt-leb, le-ltb, lt-ltb}
-use borrow.Author.Needs.{needs}
-use native.Mathlib.Omega.{arith}
+use borrow.Author.Tests.{eq-eqb, ne-eqb}
 use Rattle.recovery.proofs.rules.is_open.Statement.{statement}
 use Rattle.recovery.proofs.rules.is_open.Tie as tie
-use Rattle.recovery.proofs.rules.is_open.Reads as reads
-use Rattle.recovery.proofs.rules.is_open.Lts as lts
 
 returns : tie.Need-returns
 returns c = rw (ne-eqb _ _ (c .if1 .taken))

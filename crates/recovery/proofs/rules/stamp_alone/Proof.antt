@@ -1,25 +1,22 @@
-use borrow.Author.Tests.{eq-eqb, ne-eqb, le-leb, lt-leb, le-ltb, lt-ltb}
+use borrow.Author.Tests.{eq-eqb, ne-eqb}
 use mathlib.Core.List.{[]}
 use lib.Dec.{eqb}
 use Rattle.layout.specs.MetaPage.{stampOf}
 use Rattle.table.proofs.WindowLaws.{hit, miss}
 use Rattle.recovery.proofs.RuleLaws.{stamp-left, stamp-end}
-use Prim.Native.Nat.{ℕ, _+_, _*_, _-_, _≤_, _<_}
-use mathlib.Core.Path.{_≡_, refl, sym, ap, _∙_}
-use lib.ListN.{length, getD, take, drop}
+use Prim.Native.Nat.{_-_, _≤_, _<_}
+use mathlib.Core.Path.{_≡_, sym, _∙_}
+use lib.ListN.{getD, drop}
 use Rattle.layout.specs.Places.{metaPages}
 use Rattle.protocol.specs.Recovery.{metasOf, stampIn}
 use borrow.Author.Needs.{needs}
 use native.Mathlib.Omega.{arith}
 use Rattle.recovery.proofs.rules.stamp_alone.Statement.{statement}
 use Rattle.recovery.proofs.rules.stamp_alone.Tie as tie
-use Rattle.recovery.proofs.rules.stamp_alone.Reads as reads
-use Rattle.recovery.proofs.rules.stamp_alone.Lts as lts
-use Rattle.layout.proofs.places.meta_pages.Reads as meta-pages-reads
-use Rattle.recovery.proofs.stored.stamp_at.Reads as stamp-at-reads
 
 abbrev Inv-loop : tie.InvT-loop
-Inv-loop ssd l stamp k m q₀ q = (m ≡ metaPages l) × (q ≤ metaPages l) × (stampIn stamp (drop q (metasOf l ssd)) ≡ stampIn stamp (drop k (metasOf l ssd)))
+Inv-loop ssd l stamp k m q₀ q = (m ≡ metaPages l) × (q ≤ metaPages l) ×
+    (stampIn stamp (drop q (metasOf l ssd)) ≡ stampIn stamp (drop k (metasOf l ssd)))
 
 abbrev μ-loop : tie.MeasureT-loop
 μ-loop ssd l stamp k m q₀ q = m - q
@@ -59,7 +56,8 @@ loop-again c =
       l .inv .0,
       omega arith,
       miss (eqb (s .args .stamp) (stampOf (getD (metasOf (s .args .l) (s .args .ssd .now)) (l .q) []))) _ (l .inv .2)
-          (stamp-left (s .args .l) (s .args .ssd .now) (l .q) h (s .args .stamp)) (ne-eqb _ _ (λ z. c .if2 .left (z ∙ sym (c .before .stamp-at .ensures)))),
+          (stamp-left (s .args .l) (s .args .ssd .now) (l .q) h (s .args .stamp))
+          (ne-eqb _ _ (λ z. c .if2 .left (z ∙ sym (c .before .stamp-at .ensures)))),
     )
 
 returns-3 : tie.Need-returns-3 Inv-loop μ-loop

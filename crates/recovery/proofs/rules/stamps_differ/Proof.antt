@@ -4,22 +4,16 @@ use lib.Dec.{eqb}
 use borrow.Author.Tests.{not-true, not-false}
 use Rattle.layout.specs.MetaPage.{stampOf}
 use Rattle.layout.proofs.Loops.{go-on, stop}
-use Rattle.protocol.specs.Recovery.{stampIn}
+use Rattle.protocol.specs.Recovery.{stampIn, metasOf, stampsDiffer}
 use Rattle.recovery.proofs.RuleLaws.{differ-left, differ-end}
-use Prim.Native.Nat.{ℕ, _+_, _*_, _-_, _≤_, _<_}
-use mathlib.Core.Path.{_≡_, refl, sym, ap, _∙_}
-use lib.ListN.{length, getD, take, drop}
+use Prim.Native.Nat.{ℕ, _+_, _-_, _≤_, _<_}
+use mathlib.Core.Path.{_≡_, sym, ap, _∙_}
+use lib.ListN.{getD, drop}
 use Rattle.layout.specs.Places.{metaPages}
-use Rattle.protocol.specs.Recovery.{metasOf, stampsDiffer}
 use borrow.Author.Needs.{needs}
 use native.Mathlib.Omega.{arith}
 use Rattle.recovery.proofs.rules.stamps_differ.Statement.{statement}
 use Rattle.recovery.proofs.rules.stamps_differ.Tie as tie
-use Rattle.recovery.proofs.rules.stamps_differ.Reads as reads
-use Rattle.recovery.proofs.rules.stamps_differ.Lts as lts
-use Rattle.layout.proofs.places.meta_pages.Reads as meta-pages-reads
-use Rattle.recovery.proofs.rules.stamp_alone.Reads as stamp-alone-reads
-use Rattle.recovery.proofs.stored.stamp_at.Reads as stamp-at-reads
 
 abbrev Inv-loop : tie.InvT-loop
 Inv-loop ssd l m p₀ p = (m ≡ metaPages l) × (p ≤ metaPages l) × (stampsDiffer (drop p (metasOf l ssd)) ≡ stampsDiffer (metasOf l ssd))
@@ -47,8 +41,11 @@ returns c =
     let s = c .before .before .before .before .before .before .before in
     let l = c .before .before .before .before .loop in
     let h : l .p < metaPages (s .args .l) = omega (arith, l .inv .0) in
-    stop (eqb (stampOf (getD (metasOf (s .args .l) (s .args .ssd .now)) (l .p) [])) 0 || not (stampIn (stampOf (getD (metasOf (s .args .l) (s .args .ssd .now)) (l .p) [])) (drop (l .p + 1) (metasOf (s .args .l) (s .args .ssd .now))))) _ (l .inv .2) (differ-left (s .args .l) (s .args .ssd .now) (l .p) h)
-    (ap (λ (t : ℕ). eqb t 0 || not (stampIn t (drop (l .p + 1) (metasOf (s .args .l) (s .args .ssd .now))))) (sym (c .before .before .stamp-at .ensures)) ∙ sym (c .before .stamp-alone .ensures) ∙ not-true _ (c .if1 .taken))
+    stop (eqb (stampOf (getD (metasOf (s .args .l) (s .args .ssd .now)) (l .p) [])) 0 || not
+    (stampIn (stampOf (getD (metasOf (s .args .l) (s .args .ssd .now)) (l .p) []))
+    (drop (l .p + 1) (metasOf (s .args .l) (s .args .ssd .now))))) _ (l .inv .2) (differ-left (s .args .l) (s .args .ssd .now) (l .p) h)
+    (ap (λ (t : ℕ). eqb t 0 || not (stampIn t (drop (l .p + 1) (metasOf (s .args .l) (s .args .ssd .now)))))
+    (sym (c .before .before .stamp-at .ensures)) ∙ sym (c .before .stamp-alone .ensures) ∙ not-true _ (c .if1 .taken))
 
 add-p : tie.Need-add-p Inv-loop μ-loop
 add-p c = search needs
@@ -63,8 +60,11 @@ loop-again c =
     let h : l .p < metaPages (s .args .l) = omega (arith, l .inv .0) in (
       l .inv .0,
       omega arith,
-      go-on (eqb (stampOf (getD (metasOf (s .args .l) (s .args .ssd .now)) (l .p) [])) 0 || not (stampIn (stampOf (getD (metasOf (s .args .l) (s .args .ssd .now)) (l .p) [])) (drop (l .p + 1) (metasOf (s .args .l) (s .args .ssd .now))))) _ (l .inv .2) (differ-left (s .args .l) (s .args .ssd .now) (l .p) h)
-          (ap (λ (t : ℕ). eqb t 0 || not (stampIn t (drop (l .p + 1) (metasOf (s .args .l) (s .args .ssd .now))))) (sym (c .before .before .stamp-at .ensures)) ∙ sym (c .before .stamp-alone .ensures) ∙ not-false _ (c .if1 .left)),
+      go-on (eqb (stampOf (getD (metasOf (s .args .l) (s .args .ssd .now)) (l .p) [])) 0 || not
+          (stampIn (stampOf (getD (metasOf (s .args .l) (s .args .ssd .now)) (l .p) []))
+          (drop (l .p + 1) (metasOf (s .args .l) (s .args .ssd .now))))) _ (l .inv .2) (differ-left (s .args .l) (s .args .ssd .now) (l .p) h)
+          (ap (λ (t : ℕ). eqb t 0 || not (stampIn t (drop (l .p + 1) (metasOf (s .args .l) (s .args .ssd .now)))))
+          (sym (c .before .before .stamp-at .ensures)) ∙ sym (c .before .stamp-alone .ensures) ∙ not-false _ (c .if1 .left)),
     )
 
 returns-2 : tie.Need-returns-2 Inv-loop μ-loop

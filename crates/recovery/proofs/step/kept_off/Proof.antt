@@ -1,12 +1,8 @@
 use mathlib.Core.Path.{sym, _∙_}
 use borrow.Author.Tests.{eq-eqb, ne-eqb}
-use native.Mathlib.Omega.{arith}
 use borrow.Author.Needs.{needs}
 use Rattle.recovery.proofs.step.kept_off.Statement.{statement}
 use Rattle.recovery.proofs.step.kept_off.Tie as tie
-use Rattle.recovery.proofs.step.kept_off.Reads as reads
-use Rattle.recovery.proofs.step.kept_off.Lts as lts
-use Rattle.layout.proofs.places.meta_of.Reads as meta-of-reads
 
 meta-of-requires : tie.Need-meta-of-requires
 meta-of-requires c κs = search needs

@@ -1,10 +1,6 @@
 use borrow.Author.Tests.{lt-ltb, le-ltb}
-use borrow.Author.Needs.{needs}
-use native.Mathlib.Omega.{arith}
 use Rattle.recovery.proofs.step.lower_of.Statement.{statement}
 use Rattle.recovery.proofs.step.lower_of.Tie as tie
-use Rattle.recovery.proofs.step.lower_of.Reads as reads
-use Rattle.recovery.proofs.step.lower_of.Lts as lts
 
 returns : tie.Need-returns
 returns c = rw (lt-ltb _ _ (c .if1 .taken))

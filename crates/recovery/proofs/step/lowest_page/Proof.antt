@@ -1,19 +1,16 @@
 use Prim.Native.Nat.{_≤_, _-_}
-use mathlib.Core.Path.{_≡_, sym, ap, _∙_}
-use lib.ListN.{length, getD, take, drop}
+use mathlib.Core.Path.{_≡_, sym, _∙_}
+use lib.ListN.{length, take, drop}
 use Rattle.protocol.specs.Plan.{lowestFrom, lowestPage}
 use Rattle.recovery.proofs.MendLaws.{lowest-left, lowest-first, lowest-end}
 use borrow.Author.Needs.{needs}
 use native.Mathlib.Omega.{arith}
 use Rattle.recovery.proofs.step.lowest_page.Statement.{statement}
 use Rattle.recovery.proofs.step.lowest_page.Tie as tie
-use Rattle.recovery.proofs.step.lowest_page.Reads as reads
-use Rattle.recovery.proofs.step.lowest_page.Lts as lts
-use Rattle.layout.proofs.places.meta_of.Reads as meta-of-reads
-use Rattle.recovery.proofs.step.lower_of.Reads as lower-of-reads
 
 abbrev Inv-loop : tie.InvT-loop
-Inv-loop count window n p₀ i₀ p i = (n ≡ count) × (1 ≤ i) × (i ≤ count) × (lowestFrom p (drop i (take count window)) ≡ lowestPage (take count window))
+Inv-loop count window n p₀ i₀ p i = (n ≡ count) × (1 ≤ i) × (i ≤ count) ×
+    (lowestFrom p (drop i (take count window)) ≡ lowestPage (take count window))
 
 abbrev μ-loop : tie.MeasureT-loop
 μ-loop count window n p₀ i₀ p i = count - i
@@ -27,8 +24,13 @@ meta-of-requires c κs = search needs
 loop-holds : tie.Need-loop-holds Inv-loop μ-loop
 loop-holds c =
     let a = c .before .before .args in
-    let all : length (a .t1) ≡ 63 = search needs in
-    (search needs, search needs, search needs, rw (c .meta-of .ensures) (lowest-first (a .t1) (a .count) _ (c .before .before .pre .0) (omega arith)))
+    let all : length (a .t1) ≡ 63 = search needs in (
+      search needs,
+      search needs,
+      search needs,
+      rw (c .meta-of .ensures)
+          (lowest-first (a .t1) (a .count) _ (c .before .before .pre .0) (omega arith)),
+    )
 
 mul-s : tie.Need-mul-s Inv-loop μ-loop
 mul-s c = search needs

@@ -3,15 +3,9 @@ use Rattle.protocol.specs.Rows.{windowIn}
 use Rattle.protocol.specs.Plan.{lowestPage}
 use Rattle.table.proofs.RecordLaws.{window-is}
 use Rattle.recovery.proofs.MendLaws.{mended-fits, mends-low}
-use native.Mathlib.Omega.{arith}
 use borrow.Author.Needs.{needs}
 use Rattle.recovery.proofs.step.mend.Statement.{statement}
 use Rattle.recovery.proofs.step.mend.Tie as tie
-use Rattle.recovery.proofs.step.mend.Reads as reads
-use Rattle.recovery.proofs.step.mend.Lts as lts
-use Rattle.cache.proofs.moves.confirm.Reads as confirm-reads
-use Rattle.recovery.proofs.step.lowest_page.Reads as lowest-page-reads
-use Rattle.recovery.proofs.step.mended.Reads as mended-reads
 
 lowest-page-requires : tie.Need-lowest-page-requires
 lowest-page-requires c κs = search needs
@@ -22,9 +16,16 @@ mended-requires c κs = search needs
 confirm-requires : tie.Need-confirm-requires
 confirm-requires c κs =
     let s = c .before .before .before .before .before .before in
-    let p : c .before .before .lowest-page .result ≡ lowestPage (windowIn (s .args .state)) = c .before .before .lowest-page .ensures ∙ ap lowestPage (window-is (s .args .state)) in
-    let F = mended-fits _ _ (s .args .state) _ _ (s .pre .0) (s .pre .1 .0) (c .before .mended .ensures) in
-    (F, (rw (c .before .mended .ensures, p) (mends-low (s .args .state) (s .pre .1 .0) (s .pre .1 .1 .0)), rw (c .before .mended .ensures) (s .pre .1 .1 .1)))
+    let p : c .before .before .lowest-page .result ≡ lowestPage (windowIn (s .args .state)) = c .before .before .lowest-page .ensures
+    ∙ ap lowestPage (window-is (s .args .state)) in
+    let F = mended-fits _ _ (s .args .state) _ _ (s .pre .0) (s .pre .1 .0) (c .before .mended .ensures) in (
+      F,
+      (
+        rw (c .before .mended .ensures, p) (mends-low (s .args .state) (s .pre .1 .0) (s .pre .1 .1 .0)),
+        rw
+            (c .before .mended .ensures) (s .pre .1 .1 .1),
+      ),
+    )
 
 same-length : tie.Need-same-length
 same-length c = search needs
@@ -32,7 +33,9 @@ same-length c = search needs
 returns : tie.Need-returns
 returns c =
     let s = c .before .before .before .before .before .before .before .before .before in
-    let p : c .before .before .before .before .before .lowest-page .result ≡ lowestPage (windowIn (s .args .state)) = c .before .before .before .before .before .lowest-page .ensures ∙ ap lowestPage (window-is (s .args .state)) in
+    let p : c .before .before .before .before .before .lowest-page .result ≡ lowestPage
+    (windowIn (s .args .state)) = c .before .before .before .before .before .lowest-page .ensures ∙ ap lowestPage
+    (window-is (s .args .state)) in
     let e = c .before .before .before .before .mended .ensures in
     (rw (c .before .before .confirm .ensures .0, e, p), rw (c .before .before .confirm .ensures .1, e, p))
 

@@ -1,12 +1,7 @@
 use Rattle.recovery.proofs.MendLaws.{mended-is}
-use native.Mathlib.Omega.{arith}
 use borrow.Author.Needs.{needs}
 use Rattle.recovery.proofs.step.mended.Statement.{statement}
 use Rattle.recovery.proofs.step.mended.Tie as tie
-use Rattle.recovery.proofs.step.mended.Reads as reads
-use Rattle.recovery.proofs.step.mended.Lts as lts
-use Rattle.recovery.proofs.step.off_page.Reads as off-page-reads
-use Rattle.recovery.proofs.step.phase_of.Reads as phase-of-reads
 
 off-page-requires : tie.Need-off-page-requires
 off-page-requires c κs = search needs

@@ -1,6 +1,6 @@
 use Prim.Native.Nat.{ℕ, _≤_, _-_}
-use mathlib.Core.Path.{_≡_, sym, ap, _∙_}
-use lib.ListN.{length, getD, take, drop, length-take}
+use mathlib.Core.Path.{_≡_, ap, _∙_}
+use lib.ListN.{length, take, length-take}
 use Rattle.protocol.specs.Recovery.{offPage}
 use Rattle.recovery.specs.Pending.{pendingOf}
 use Rattle.recovery.proofs.MendLaws.{off-most, pending-none, pending-one}
@@ -8,9 +8,6 @@ use borrow.Author.Needs.{needs}
 use native.Mathlib.Omega.{arith}
 use Rattle.recovery.proofs.step.off_page.Statement.{statement}
 use Rattle.recovery.proofs.step.off_page.Tie as tie
-use Rattle.recovery.proofs.step.off_page.Reads as reads
-use Rattle.recovery.proofs.step.off_page.Lts as lts
-use Rattle.recovery.proofs.step.kept_off.Reads as kept-off-reads
 
 abbrev Inv-loop : tie.InvT-loop
 Inv-loop count p window n left₀ i₀ left i = (n ≡ count) × (i ≤ count) × (left ≡ pendingOf (offPage p (take i window)))

@@ -1,10 +1,7 @@
 use Rattle.recovery.proofs.MendLaws.{phase-some}
-use native.Mathlib.Omega.{arith}
 use borrow.Author.Needs.{needs}
 use Rattle.recovery.proofs.step.phase_of.Statement.{statement}
 use Rattle.recovery.proofs.step.phase_of.Tie as tie
-use Rattle.recovery.proofs.step.phase_of.Reads as reads
-use Rattle.recovery.proofs.step.phase_of.Lts as lts
 
 returns : tie.Need-returns
 returns c = search needs

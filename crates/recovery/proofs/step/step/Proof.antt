@@ -2,23 +2,15 @@ use mathlib.Core.Path.{_≡_}
 use lib.ListN.{length}
 use borrow.Author.Tests.{le-leb, lt-leb}
 use Rattle.protocol.specs.Plan.{step}
-use Rattle.protocol.specs.Perform.{confirmed, perform, formatStore}
+use Rattle.protocol.specs.Perform.{confirmed, perform}
 use Rattle.protocol.specs.Calls.{boxOf}
 use Rattle.cache.specs.Judging.{soundThen}
 use Rattle.cache.proofs.JudgingLaws.{found, looked}
 use Rattle.cache.proofs.ServeLaws.{refused-by}
 use Rattle.recovery.proofs.StepLaws.{Sound, sound, step-judges, step-ready, step-formats, step-spent, step-mends, steps-low, some-pending}
-use native.Mathlib.Omega.{arith}
 use borrow.Author.Needs.{needs}
 use Rattle.recovery.proofs.step.step.Statement.{statement}
 use Rattle.recovery.proofs.step.step.Tie as tie
-use Rattle.recovery.proofs.step.step.Reads as reads
-use Rattle.recovery.proofs.step.step.Lts as lts
-use Rattle.cache.proofs.answers.answered.Reads as answered-reads
-use Rattle.cache.proofs.answers.refused.Reads as refused-reads
-use Rattle.cache.proofs.format.format_step.Reads as format-step-reads
-use Rattle.cache.proofs.judge.sound.Reads as sound-reads
-use Rattle.recovery.proofs.step.mend.Reads as mend-reads
 
 -- what is found where 3 to 5 are passed
 abbrev start : tie.Else1 → tie.Start
@@ -43,7 +35,8 @@ returns c =
     let e = c .before .before in
     let a = e .before .before .before .before .args in
     rw (c .refused .ensures .0, c .refused .ensures .1)
-    (refused-by step (boxOf (a .ssd .now) (a .hdd .now) (a .table .now) (a .state)) _ _ (step-judges (a .ssd .now) (a .hdd .now) (a .table .now) (a .state)) (e .sound .result .number)
+    (refused-by step (boxOf (a .ssd .now) (a .hdd .now) (a .table .now) (a .state)) _ _
+    (step-judges (a .ssd .now) (a .hdd .now) (a .table .now) (a .state)) (e .sound .result .number)
     (found _ (a .table .now) (record { 0 = 0 }) (e .sound .ensures)) (c .before .if1 .taken))
 
 enum-told : tie.Need-enum-told
@@ -75,7 +68,8 @@ returns-2 c =
     let e = c .before .before .before .before .before in
     let a = start e .args in
     rw (c .refused3 .ensures .0, c .refused3 .ensures .1)
-    (step-spent (a .ssd .now) (a .hdd .now) (a .table .now) (a .state) (passed e) (c .before .before .before .enum-told2 .given .1) (le-leb _ _ (c .before .if2 .taken)))
+    (step-spent (a .ssd .now) (a .hdd .now) (a .table .now) (a .state) (passed e) (c .before .before .before .enum-told2 .given .1)
+    (le-leb _ _ (c .before .if2 .taken)))
 
 mend-requires : tie.Need-mend-requires
 mend-requires c κs =
@@ -90,7 +84,8 @@ returns-3 : tie.Need-returns-3
 returns-3 c =
     let e = c .before .before .before in
     let a = start e .args in
-    rw (c .refused2 .ensures .0, c .refused2 .ensures .1) (step-ready (a .ssd .now) (a .hdd .now) (a .table .now) (a .state) (passed e) (c .before .enum-told .given .1))
+    rw (c .refused2 .ensures .0, c .refused2 .ensures .1)
+    (step-ready (a .ssd .now) (a .hdd .now) (a .table .now) (a .state) (passed e) (c .before .enum-told .given .1))
 
 same-length : tie.Need-same-length
 same-length c = search needs
@@ -101,7 +96,8 @@ returns-4 c =
     let a = start e .args in
     let z = c .before .before .before .format-step .ensures in
     rw (c .answered .ensures .0, c .answered .ensures .1, z .0, z .1)
-    (step-formats (a .ssd .now) (a .hdd .now) (a .table .now) (a .state) (passed e) _ (c .before .before .before .before .before .before .phase .given .1))
+    (step-formats (a .ssd .now) (a .hdd .now) (a .table .now) (a .state) (passed e) _
+    (c .before .before .before .before .before .before .phase .given .1))
 
 same-length-2 : tie.Need-same-length-2
 same-length-2 c = search needs
@@ -113,7 +109,9 @@ returns-5 c =
     let a = start e .args in
     let z = c .before .before .before .mend .ensures in
     rw (c .answered2 .ensures .0, c .answered2 .ensures .1, z .0, z .1)
-    (step-mends (a .ssd .now) (a .hdd .now) (a .table .now) (a .state) (passed e) (c .before .before .before .before .before .before .before .enum-told2 .given .1) (lt-leb _ _ (c .before .before .before .before .before .if2 .left)))
+    (step-mends (a .ssd .now) (a .hdd .now) (a .table .now) (a .state) (passed e)
+    (c .before .before .before .before .before .before .before .enum-told2 .given .1)
+    (lt-leb _ _ (c .before .before .before .before .before .if2 .left)))
 
 pub step-spec : {M : Type 1} → statement M
 step-spec =

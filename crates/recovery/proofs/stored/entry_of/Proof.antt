@@ -1,15 +1,8 @@
-use mathlib.Core.Path.{_≡_, refl, sym, ap, _∙_}
 use Rattle.protocol.specs.Recovery.{entryIn}
 use Rattle.cache.proofs.MoveLaws.{meta-of-low}
-use native.Mathlib.Omega.{arith}
 use borrow.Author.Needs.{needs}
 use Rattle.recovery.proofs.stored.entry_of.Statement.{statement}
 use Rattle.recovery.proofs.stored.entry_of.Tie as tie
-use Rattle.recovery.proofs.stored.entry_of.Reads as reads
-use Rattle.recovery.proofs.stored.entry_of.Lts as lts
-use Rattle.layout.proofs.places.meta_of.Reads as meta-of-reads
-use Rattle.metadata.proofs.page.entry_at.Reads as entry-at-reads
-use Rattle.recovery.proofs.stored.meta_page.Reads as meta-page-reads
 
 meta-of-requires : tie.Need-meta-of-requires
 meta-of-requires c κs = search needs

@@ -1,15 +1,10 @@
-use mathlib.Core.Path.{_≡_, refl, sym, ap, _∙_}
+use mathlib.Core.Path.{_≡_, ap}
 use Rattle.pages.specs.Pages.{pageAt}
 use Rattle.pages.specs.Parts.{Part, pagePart}
 use Rattle.recovery.proofs.StoredLaws.{page-read}
-use native.Mathlib.Omega.{arith}
 use borrow.Author.Needs.{needs}
 use Rattle.recovery.proofs.stored.meta_page.Statement.{statement}
 use Rattle.recovery.proofs.stored.meta_page.Tie as tie
-use Rattle.recovery.proofs.stored.meta_page.Reads as reads
-use Rattle.recovery.proofs.stored.meta_page.Lts as lts
-use Rattle.layout.proofs.places.meta_place.Reads as meta-place-reads
-use Rattle.pages.proofs.page_at.Reads as page-at-reads
 
 meta-place-requires : tie.Need-meta-place-requires
 meta-place-requires c κs = search needs
@@ -21,7 +16,8 @@ returns : tie.Need-returns
 unfolding pagePart
 returns c =
     let s = c .before .before .before in
-    let e : c .page-at .result .now ≡ pageAt (s .args .ssd .now) (c .before .meta-place .result) = ap (λ (x : Part). x .bytes) (c .page-at .ensures) in
+    let e : c .page-at .result .now ≡ pageAt (s .args .ssd .now) (c .before .meta-place .result) = ap (λ (x : Part). x .bytes)
+    (c .page-at .ensures) in
     page-read (s .args .l) (s .args .ssd .now) _ (s .args .p) _ (s .pre .0) (s .pre .1) (c .before .meta-place .ensures) e
 
 pub meta-page-spec : {M : Type 1} → statement M

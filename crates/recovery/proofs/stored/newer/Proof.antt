@@ -1,10 +1,7 @@
-use borrow.Author.Tests.{eq-eqb, ne-eqb, le-leb, lt-leb, le-ltb, lt-ltb}
-use native.Mathlib.Omega.{arith}
+use borrow.Author.Tests.{le-ltb, lt-ltb}
 use borrow.Author.Needs.{needs}
 use Rattle.recovery.proofs.stored.newer.Statement.{statement}
 use Rattle.recovery.proofs.stored.newer.Tie as tie
-use Rattle.recovery.proofs.stored.newer.Reads as reads
-use Rattle.recovery.proofs.stored.newer.Lts as lts
 
 add-t5 : tie.Need-add-t5
 add-t5 c = search needs

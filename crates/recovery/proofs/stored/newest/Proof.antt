@@ -1,20 +1,13 @@
 use Rattle.protocol.proofs.Metas.{length-metas}
 use Rattle.recovery.proofs.StoredLaws.{pages-most, Seen, seen-none, seen-more, seen-all}
-use Prim.Native.Nat.{ℕ, _+_, _*_, _-_, _≤_, _<_}
-use mathlib.Core.Path.{_≡_, refl, sym, ap, _∙_}
-use lib.ListN.{length, getD, take, drop}
+use Prim.Native.Nat.{_-_, _≤_, _<_}
+use mathlib.Core.Path.{_≡_}
 use Rattle.layout.specs.Places.{metaPages}
-use Rattle.protocol.specs.Recovery.{metasOf, newestFrom, newestOf}
-use Rattle.recovery.specs.Stored.{newestAt}
+use Rattle.protocol.specs.Recovery.{metasOf}
 use borrow.Author.Needs.{needs}
 use native.Mathlib.Omega.{arith}
 use Rattle.recovery.proofs.stored.newest.Statement.{statement}
 use Rattle.recovery.proofs.stored.newest.Tie as tie
-use Rattle.recovery.proofs.stored.newest.Reads as reads
-use Rattle.recovery.proofs.stored.newest.Lts as lts
-use Rattle.layout.proofs.places.meta_pages.Reads as meta-pages-reads
-use Rattle.recovery.proofs.stored.newer.Reads as newer-reads
-use Rattle.recovery.proofs.stored.stamp_at.Reads as stamp-at-reads
 
 abbrev Inv-loop : tie.InvT-loop
 Inv-loop ssd l m n₀ p₀ n p = (m ≡ metaPages l) × (p ≤ metaPages l) × Seen (metasOf l ssd) n p
@@ -60,7 +53,8 @@ returns c =
     let s = c .before .before .before .before in
     let l = c .before .loop in
     let z = length-metas (s .args .l) (s .args .ssd .now) in
-    seen-all (metasOf (s .args .l) (s .args .ssd .now)) (l .n) (l .p) (omega (arith, z, l .inv .0)) (omega (arith, z, l .inv .1)) (l .inv .2)
+    seen-all (metasOf (s .args .l) (s .args .ssd .now)) (l .n) (l .p) (omega (arith, z, l .inv .0)) (omega (arith, z, l .inv .1))
+    (l .inv .2)
 
 pub newest-spec : {M : Type 1} → statement M
 newest-spec =

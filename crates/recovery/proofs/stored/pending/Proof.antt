@@ -2,16 +2,12 @@ use Rattle.protocol.specs.Recovery.{metasOf}
 use Rattle.protocol.proofs.Metas.{length-metas}
 use Rattle.recovery.specs.Pending.{pendingOf}
 use Rattle.recovery.proofs.StoredLaws.{legal-at, count-low, no-window, some-window}
-use Prim.Native.Nat.{ℕ, _+_, _*_, _-_, _≤_, _<_}
-use mathlib.Core.Path.{_≡_, refl, sym, ap, _∙_}
+use Prim.Native.Nat.{_-_}
+use mathlib.Core.Path.{ap}
 use native.Mathlib.Omega.{arith}
 use borrow.Author.Needs.{needs}
 use Rattle.recovery.proofs.stored.pending.Statement.{statement}
 use Rattle.recovery.proofs.stored.pending.Tie as tie
-use Rattle.recovery.proofs.stored.pending.Reads as reads
-use Rattle.recovery.proofs.stored.pending.Lts as lts
-use Rattle.recovery.proofs.stored.meta_page.Reads as meta-page-reads
-use Rattle.recovery.proofs.stored.window_of.Reads as window-of-reads
 
 returns : tie.Need-returns
 returns c = no-window _ _ (c .if1 .taken)
@@ -26,8 +22,11 @@ window-of-requires : tie.Need-window-of-requires
 window-of-requires c κs =
     let s = c .before .before .before in
     let z = length-metas (s .args .l) (s .args .ssd .now) in
-    let e = c .meta-page .ensures in
-    (e .1, rw (e .0) (count-low (s .args .l) (s .args .at - 1) _ (legal-at (s .args .l) (metasOf (s .args .l) (s .args .ssd .now)) (s .pre .1 .0) (s .args .at - 1) (omega arith))))
+    let e = c .meta-page .ensures in (
+      e .1,
+      rw (e .0) (count-low (s .args .l) (s .args .at - 1) _
+          (legal-at (s .args .l) (metasOf (s .args .l) (s .args .ssd .now)) (s .pre .1 .0) (s .args .at - 1) (omega arith))),
+    )
 
 returns-2 : tie.Need-returns-2
 returns-2 c =

@@ -1,11 +1,6 @@
-use native.Mathlib.Omega.{arith}
 use borrow.Author.Needs.{needs}
 use Rattle.recovery.proofs.stored.stamp_at.Statement.{statement}
 use Rattle.recovery.proofs.stored.stamp_at.Tie as tie
-use Rattle.recovery.proofs.stored.stamp_at.Reads as reads
-use Rattle.recovery.proofs.stored.stamp_at.Lts as lts
-use Rattle.metadata.proofs.page.stamp_of.Reads as stamp-of-reads
-use Rattle.recovery.proofs.stored.meta_page.Reads as meta-page-reads
 
 meta-page-requires : tie.Need-meta-page-requires
 meta-page-requires c κs = search needs

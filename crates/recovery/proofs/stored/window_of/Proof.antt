@@ -1,17 +1,12 @@
 use Rattle.recovery.proofs.StoredLaws.{window-none, window-one, window-all}
-use Prim.Native.Nat.{ℕ, _+_, _*_, _-_, _≤_, _<_}
-use mathlib.Core.Path.{_≡_, refl, sym, ap, _∙_}
-use lib.ListN.{length, getD, take, drop}
+use Prim.Native.Nat.{_-_, _≤_}
+use mathlib.Core.Path.{_≡_}
 use Rattle.layout.specs.MetaPage.{countOf, slotAt, firsts}
 use Rattle.protocol.specs.Rows.{arrayOf}
 use borrow.Author.Needs.{needs}
 use native.Mathlib.Omega.{arith}
 use Rattle.recovery.proofs.stored.window_of.Statement.{statement}
 use Rattle.recovery.proofs.stored.window_of.Tie as tie
-use Rattle.recovery.proofs.stored.window_of.Reads as reads
-use Rattle.recovery.proofs.stored.window_of.Lts as lts
-use Rattle.metadata.proofs.page.count_of.Reads as count-of-reads
-use Rattle.metadata.proofs.page.slot_at.Reads as slot-at-reads
 
 abbrev Inv-loop : tie.InvT-loop
 Inv-loop page count window₀ k₀ window k = (count ≡ countOf page) × (k ≤ count) × (window ≡ arrayOf (firsts k (slotAt page)))
@@ -46,8 +41,12 @@ loop-less c = search needs
 loop-again : tie.Need-loop-again Inv-loop μ-loop
 loop-again c =
     let l = c .before .before .loop in
-    let s = c .before .before .before .before .before in
-    (l .inv .0, omega arith, rw (c .slot-at .ensures) (window-one (s .args .page .now) (l .window) (l .k) (omega (arith, s .pre .1)) (l .inv .2)))
+    let s = c .before .before .before .before .before in (
+      l .inv .0,
+      omega arith,
+      rw (c .slot-at .ensures)
+          (window-one (s .args .page .now) (l .window) (l .k) (omega (arith, s .pre .1)) (l .inv .2)),
+    )
 
 returns : tie.Need-returns Inv-loop μ-loop
 returns c =

@@ -1,12 +1,8 @@
-use Prim.Native.Nat.{ℕ, _+_, _*_, _-_, _≤_, _<_}
-use mathlib.Core.Path.{_≡_, refl, sym, ap, _∙_}
+use mathlib.Core.Path.{refl}
 use Rattle.recovery.specs.Twice.{bitOf}
-use native.Mathlib.Omega.{arith}
 use borrow.Author.Needs.{needs}
 use Rattle.recovery.proofs.twice.is_marked.Statement.{statement}
 use Rattle.recovery.proofs.twice.is_marked.Tie as tie
-use Rattle.recovery.proofs.twice.is_marked.Reads as reads
-use Rattle.recovery.proofs.twice.is_marked.Lts as lts
 
 cast-w : tie.Need-cast-w
 cast-w c = search needs

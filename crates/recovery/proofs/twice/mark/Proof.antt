@@ -1,14 +1,10 @@
 use Prim.Native.Nat.{_%_}
 use Rattle.recovery.proofs.BitLaws.{one-shifted}
-use Prim.Native.Nat.{ℕ, _+_, _*_, _-_, _≤_, _<_}
-use mathlib.Core.Path.{_≡_, refl, sym, ap, _∙_}
 use Rattle.recovery.specs.Twice.{marked}
 use native.Mathlib.Omega.{arith}
 use borrow.Author.Needs.{needs}
 use Rattle.recovery.proofs.twice.mark.Statement.{statement}
 use Rattle.recovery.proofs.twice.mark.Tie as tie
-use Rattle.recovery.proofs.twice.mark.Reads as reads
-use Rattle.recovery.proofs.twice.mark.Lts as lts
 
 cast-w : tie.Need-cast-w
 cast-w c = search needs

@@ -1,18 +1,13 @@
 use borrow.Author.Tests.{not-true, not-false}
 use Rattle.protocol.proofs.Metas.{length-metas}
-use Rattle.recovery.proofs.TwiceLaws.{once-none, once-more, found-twice, once-all}
-use Prim.Native.Nat.{ℕ, _+_, _*_, _-_, _≤_, _<_}
-use mathlib.Core.Path.{_≡_, refl, sym, ap, _∙_}
-use mathlib.Core.Bool.{true}
+use Rattle.recovery.proofs.TwiceLaws.{once-none, once-more, found-twice, once-all, OnceBelow}
+use Prim.Native.Nat.{_+_, _-_, _≤_}
+use mathlib.Core.Path.{_≡_, sym, _∙_}
 use Rattle.protocol.specs.Recovery.{metasOf, storedRows}
-use Rattle.recovery.proofs.TwiceLaws.{OnceBelow}
 use borrow.Author.Needs.{needs}
 use native.Mathlib.Omega.{arith}
 use Rattle.recovery.proofs.twice.none_twice.Statement.{statement}
 use Rattle.recovery.proofs.twice.none_twice.Tie as tie
-use Rattle.recovery.proofs.twice.none_twice.Reads as reads
-use Rattle.recovery.proofs.twice.none_twice.Lts as lts
-use Rattle.recovery.proofs.twice.range_once.Reads as range-once-reads
 
 abbrev Inv-loop : tie.InvT-loop
 Inv-loop ssd l blocks start₀ start = (blocks ≡ l .blocks) × (start ≤ l .blocks + 524288) × OnceBelow start (storedRows l (metasOf l ssd))
@@ -37,14 +32,19 @@ loop-less c = search needs
 
 loop-again : tie.Need-loop-again Inv-loop μ-loop
 loop-again c =
-    let l = c .before .before .before .loop in
-    (l .inv .0, omega (arith, l .inv .0), once-more (l .start) _ (l .inv .2) (sym (c .before .range-once .ensures) ∙ not-false _ (c .if1 .left)))
+    let l = c .before .before .before .loop in (
+      l .inv .0,
+      omega (arith, l .inv .0),
+      once-more (l .start) _ (l .inv .2)
+          (sym (c .before .range-once .ensures) ∙ not-false _ (c .if1 .left)),
+    )
 
 returns-2 : tie.Need-returns-2 Inv-loop μ-loop
 returns-2 c =
     let s = c .before .before .before in
     let l = c .before .loop in
-    once-all (s .args .l) (metasOf (s .args .l) (s .args .ssd .now)) (l .start) (length-metas _ _) (s .pre .1 .1) (omega (arith, l .inv .0)) (l .inv .2)
+    once-all (s .args .l) (metasOf (s .args .l) (s .args .ssd .now)) (l .start) (length-metas _ _) (s .pre .1 .1)
+    (omega (arith, l .inv .0)) (l .inv .2)
 
 pub none-twice-spec : {M : Type 1} → statement M
 none-twice-spec =

@@ -1,14 +1,9 @@
-use mathlib.Core.Path.{_≡_, refl, sym, ap, _∙_}
+use mathlib.Core.Path.{sym, _∙_}
 use borrow.Author.Tests.{eq-eqb, ne-eqb, le-leb, lt-leb, le-ltb, lt-ltb}
 use Rattle.recovery.proofs.TwiceLaws.{and-false}
-use native.Mathlib.Omega.{arith}
 use borrow.Author.Needs.{needs}
 use Rattle.recovery.proofs.twice.visit.Statement.{statement}
 use Rattle.recovery.proofs.twice.visit.Tie as tie
-use Rattle.recovery.proofs.twice.visit.Reads as reads
-use Rattle.recovery.proofs.twice.visit.Lts as lts
-use Rattle.recovery.proofs.twice.is_marked.Reads as is-marked-reads
-use Rattle.recovery.proofs.twice.mark.Reads as mark-reads
 
 returns : tie.Need-returns
 returns c = rw (ne-eqb _ _ (c .if1 .taken))
@@ -26,7 +21,14 @@ same-length : tie.Need-same-length
 same-length c = search needs
 
 returns-4 : tie.Need-returns-4
-returns-4 c = rw (eq-eqb _ _ (c .before .before .before .before .before .if1 .left), le-leb _ _ (c .before .before .before .before .if2 .left), lt-ltb _ _ (c .before .before .before .if3 .left), sym (c .before .is-marked .ensures) ∙ c .if4 .taken)
+returns-4 c = rw (
+  eq-eqb _ _ (c .before .before .before .before .before .if1 .left),
+  le-leb _ _
+      (c .before .before .before .before .if2 .left),
+  lt-ltb _ _ (c .before .before .before .if3 .left),
+  sym
+      (c .before .is-marked .ensures) ∙ c .if4 .taken,
+)
 
 mark-requires : tie.Need-mark-requires
 mark-requires c κs = search needs
@@ -35,7 +37,17 @@ same-length-2 : tie.Need-same-length-2
 same-length-2 c = search needs
 
 returns-5 : tie.Need-returns-5
-returns-5 c = rw (eq-eqb _ _ (c .before .before .before .before .before .before .before .before .before .if1 .left), le-leb _ _ (c .before .before .before .before .before .before .before .before .if2 .left), lt-ltb _ _ (c .before .before .before .before .before .before .before .if3 .left), sym (c .before .before .before .before .before .is-marked .ensures) ∙ c .before .before .before .before .if4 .left, c .before .before .mark .ensures)
+returns-5 c = rw (
+  eq-eqb _ _ (c .before .before .before .before .before .before .before .before .before .if1 .left),
+  le-leb _ _
+      (c .before .before .before .before .before .before .before .before .if2 .left),
+  lt-ltb _ _
+      (c .before .before .before .before .before .before .before .if3 .left),
+  sym
+      (c .before .before .before .before .before .is-marked .ensures)
+      ∙ c .before .before .before .before .if4 .left,
+  c .before .before .mark .ensures,
+)
 
 pub visit-spec : {M : Type 1} → statement M
 visit-spec =
