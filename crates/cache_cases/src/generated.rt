@@ -1,4 +1,4 @@
-// A long list of generated calls on a box of 4 slots and 8 blocks: every block is read after each, and the answers are counted.
+// A long list of generated calls on a box of 4 slots and 8 blocks: every block is read after each, and answers are counted.
 use crate::calls::Call;
 use crate::calls::Made;
 use crate::calls::Pair;

@@ -1,4 +1,4 @@
-// Each refusal number, with document 01's example first.
+// Each refusal number with document 01's example, but 2, which is a reopening's, and 11, for which see windows.
 use crate::calls::Call;
 use crate::format;
 use crate::print;

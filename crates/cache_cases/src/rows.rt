@@ -23,8 +23,8 @@ fn word(i: usize, flags: u32, last: u32) -> u32 {
 }
 
 fn fill(table: &mut [u32], flags: u32, last: u32) {
-    print::named(b"flags ", flags);
-    print::named(b" in every row, but in the last 63 ", last);
+    print::named(b"rows with flags ", flags);
+    print::named(b", the last 63 with ", last);
     print::text(b"\n");
     let mut i = 0;
     while i < table.len() {

@@ -26,12 +26,13 @@ fn prepared() -> Small {
     call(b, Call::Offer(7))
 }
 
-// The last stamp at which an offer is announced, and the first at which none is.
+// The last stamp at which an offer is announced, and the first at which none is; a sweep that is refused leaves used flags.
 fn last_offers(before: Small) -> Small {
     let mut b = at_stamp(before, 4294967231);
     b = call(b, Call::Offer(4));
     b = call(b, Call::Offer(1));
     b = call(b, Call::Offer(5));
+    b = call(b, Call::LookUp(1));
     b = call(b, Call::Offer(5));
     b = call(b, Call::Fetch(5));
     b = call(b, Call::Offer(1));
@@ -42,6 +43,7 @@ fn last_offers(before: Small) -> Small {
 // The last stamp that a flush stores, and no stamp left.
 fn last_flush(before: Small) {
     let mut b = at_stamp(before, 4294967294);
+    b = call(b, Call::Offer(5));
     b = call(b, Call::Offer(5));
     b = call(b, Call::Flush);
     b = call(b, Call::Land(6, b'C'));

@@ -6,7 +6,8 @@ use Rattle.cache_cases.proofs.calls.run_all.Statement.{statement}
 use Rattle.cache_cases.proofs.calls.run_all.Tie as tie
 
 abbrev Inv-loop : tie.InvT-loop
-Inv-loop ssd₀ hdd₀ table₀ list pair₀ i₀ ssd hdd table pair i = (i ≤ 8) × (length ssd ≡ length ssd₀) × (length hdd ≡ length hdd₀) × (length table ≡ length table₀)
+Inv-loop ssd₀ hdd₀ table₀ list pair₀ i₀ ssd hdd table pair i =
+    (i ≤ 8) × (length ssd ≡ length ssd₀) × (length hdd ≡ length hdd₀) × (length table ≡ length table₀)
 
 abbrev μ-loop : tie.MeasureT-loop
 μ-loop ssd₀ hdd₀ table₀ list pair₀ i₀ ssd hdd table pair i = 8 - i

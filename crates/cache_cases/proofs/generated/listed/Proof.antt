@@ -6,7 +6,8 @@ use Rattle.cache_cases.proofs.generated.listed.Statement.{statement}
 use Rattle.cache_cases.proofs.generated.listed.Tie as tie
 
 abbrev Inv-loop : tie.InvT-loop
-Inv-loop ssd₀ hdd₀ table₀ pair₀ tally₀ x₀ i₀ ssd hdd table pair tally x i = (i ≤ 2000) × (length ssd ≡ length ssd₀) × (length hdd ≡ length hdd₀) × (length table ≡ length table₀)
+Inv-loop ssd₀ hdd₀ table₀ pair₀ tally₀ x₀ i₀ ssd hdd table pair tally x i =
+    (i ≤ 2000) × (length ssd ≡ length ssd₀) × (length hdd ≡ length hdd₀) × (length table ≡ length table₀)
 
 abbrev μ-loop : tie.MeasureT-loop
 μ-loop ssd₀ hdd₀ table₀ pair₀ tally₀ x₀ i₀ ssd hdd table pair tally x i = 2000 - i

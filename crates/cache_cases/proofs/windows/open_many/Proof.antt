@@ -6,7 +6,8 @@ use Rattle.cache_cases.proofs.windows.open_many.Statement.{statement}
 use Rattle.cache_cases.proofs.windows.open_many.Tie as tie
 
 abbrev Inv-loop : tie.InvT-loop
-Inv-loop ssd₀ hdd₀ table₀ pair₀ good₀ b₀ t10 t11 ssd hdd table pair good b = (b ≤ 62) × (length ssd ≡ length ssd₀) × (length hdd ≡ length hdd₀) × (length table ≡ length table₀)
+Inv-loop ssd₀ hdd₀ table₀ pair₀ good₀ b₀ t10 t11 ssd hdd table pair good b =
+    (b ≤ 62) × (length ssd ≡ length ssd₀) × (length hdd ≡ length hdd₀) × (length table ≡ length table₀)
 
 abbrev μ-loop : tie.MeasureT-loop
 μ-loop ssd₀ hdd₀ table₀ pair₀ good₀ b₀ t10 t11 ssd hdd table pair good b = 62 - b
