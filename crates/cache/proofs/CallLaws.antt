@@ -18,17 +18,18 @@ use Rattle.protocol.specs.Paper.{overwrite, nothingToDo}
 use Rattle.protocol.specs.Rows.{rowFlags, withWriting, labelIn}
 use Rattle.protocol.specs.Box.{Box, Effect, refusing, left}
 use Rattle.protocol.specs.Condition.{conditionOf}
-use Rattle.protocol.specs.Plan.{Call, Move, flush, offer, fetch, landFetch, lookUp, view, writeBack, land, stay, opens, confirms, lookingUp, writingBack, landing, landingFetch, offering, fetching, flushing, sweeps, storesMeta, plan}
+use Rattle.protocol.specs.Plan.{Call, flush, offer, fetch, landFetch, lookUp, view, writeBack, land, stay, opens, confirms, lookingUp, writingBack, landing, landingFetch, offering, fetching, flushing, sweeps, storesMeta, plan}
 use Rattle.protocol.specs.Perform.{perform}
 use Rattle.protocol.specs.Judge.{Reason, slotOpen, wrongState, hasSlot, windowFull, allOpen, stampsSpent, largestStamp, isOpen, isCached, takesWrite, takesFetch, opensAnother, openRows, allWriting, test, firstOf, judged}
 use Rattle.protocol.specs.Calls.{resultOf, boxOf, lookUpOf, writeBackOf, landOf, landFetchOf, offerOf, fetchOf, flushOf, viewed, viewPart, viewOf}
-use Rattle.protocol.proofs.model.Base.{Told, told, told-true, told-false}
-use Rattle.cache.specs.Judging.{refuseIf, readyThen, servesThen}
-use Rattle.cache.specs.Moves.{openingNumber, unlessSpent, sweptFor}
-use Rattle.cache.proofs.ServeLaws.{first-yes, first-no, performs, refused-as, first-judged, judged-on, flush-judges, look-up-judges, view-judges, write-back-judges, land-judges, land-fetch-judges, offer-judges, fetch-judges}
+use Rattle.layout.proofs.Booleans.{Told, told, told-true, told-false}
+use Rattle.serving.specs.Judging.{refuseIf, readyThen, servesThen}
+use Rattle.serving.specs.Moves.{openingNumber, sweptFor}
+use Rattle.serving.proofs.TakeLaws.{spent, unspent}
+use Rattle.serving.proofs.ServeLaws.{first-yes, first-no, performs, refused-as, first-judged, judged-on, flush-judges, look-up-judges, view-judges, write-back-judges, land-judges, land-fetch-judges, offer-judges, fetch-judges}
 
 -- nothing is left to ask
-end : (h : Reason → Bool) → firstOf [] h ≡ none
+pub end : (h : Reason → Bool) → firstOf [] h ≡ none
 unfolding firstOf
 end h = refl
 
@@ -124,14 +125,6 @@ module _ (S H : Part) (t : List ℕ) (r : Record) (b : Block) where
       ap (λ (c : Condition). record { number = 0; handed = viewPart S H (labelIn r) b c }) (sym e)
       ∙ ap (λ (o : Option Reason). viewed o S H (labelIn r) b (conditionOf t b))
       (sym (judged-on (view b) v _ [] (view-judges (S .bytes) (H .bytes) t r b) z ∙ end _))
-
--- 13, or the move
-module _ (m : Move) (x : Box) where
-  pub spent : (storesMeta m && leb (largestStamp - 63) (x .state .newest)) ≡ true → unlessSpent m x ≡ refusing 13 x
-  spent e = ap (λ (a : Bool). elim a [ true ↦ refusing 13 x | false ↦ perform m x ]) e
-
-  pub unspent : (storesMeta m && leb (largestStamp - 63) (x .state .newest)) ≡ false → unlessSpent m x ≡ perform m x
-  unspent e = ap (λ (a : Bool). elim a [ true ↦ refusing 13 x | false ↦ perform m x ]) e
 
 -- a call that sweeps: 11, 12 and 13, or the sweep
 sweeps-so : (c : Call) (x : Box) (b : Block) (flags : ℕ)

@@ -22,10 +22,9 @@ use Rattle.protocol.specs.Paper.{Paper, refusal, done}
 use Rattle.protocol.specs.Rows.{labelIn, windowIn, recordOf}
 use Rattle.protocol.specs.Plan.{format, plan}
 use Rattle.protocol.specs.Perform.{formatStore, perform}
-use Rattle.protocol.specs.Judge.{badLimits, wrongLength, lengthTest, test, firstOf, judged}
+use Rattle.protocol.specs.Judge.{lengthsTest, badLimits, wrongLength, lengthTest, test, firstOf, judged}
 use Rattle.protocol.specs.Calls.{boxOf, effectOf, formatOf}
 use Rattle.protocol.proofs.model.Base.{and-right}
-use Rattle.cache.specs.Judging.{lengthsTest}
 
 -- one word more is zero
 pub cleared-more : (table : List ℕ) (i : ℕ) → i < length table → take i table ≡ replicate i 0

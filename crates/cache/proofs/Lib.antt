@@ -1,10 +1,2 @@
-pub mod JudgingLaws
-pub mod ServeLaws
-pub mod ReadyLaws
-pub mod SlotLaws
-pub mod ServedLaws
-pub mod SweepingLaws
 pub mod CallLaws
-pub mod TakeLaws
-pub mod MoveLaws
 pub mod FormatLaws

@@ -1,11 +1,11 @@
 // "Fetch a block not cached: as an offer by sweep, with flags 5."
-use crate::answers;
-use crate::judge;
-use crate::sweeping;
 use layout::Block;
 use protocol::Condition;
 use protocol::Outcome;
 use protocol::Record;
+use serving::answers;
+use serving::judge;
+use serving::sweeping;
 ghost use mathlib.Core.Path.{_≡_};
 ghost use mathlib.Core.Bool.{Bool, true, false};
 ghost use Prim.Native.Nat.{ℕ, _+_, _*_, _≤_, _<_};

@@ -1,7 +1,4 @@
 // "Format": begun by zeroing the table; then one store a step.
-use crate::answers;
-use crate::judge;
-use crate::moves;
 use layout::Label;
 use layout::Slot;
 use layout::label_page;
@@ -10,6 +7,9 @@ use protocol::Answer;
 use protocol::Outcome;
 use protocol::Phase;
 use protocol::Record;
+use serving::answers;
+use serving::judge;
+use serving::moves;
 ghost use mathlib.Core.Path.{_≡_};
 ghost use mathlib.Core.Bool.{Bool, true, false};
 ghost use Prim.Native.Nat.{ℕ, _+_, _*_, _≤_, _<_};
@@ -23,7 +23,7 @@ ghost use Rattle.protocol.specs.declared.Phase.the-variants.{Formatting};
 ghost use Rattle.protocol.specs.Rows.{labelIn, windowIn, recordOf, withPhase};
 ghost use Rattle.protocol.specs.Perform.{formatStore, formatState};
 ghost use Rattle.protocol.specs.Calls.{formatOf};
-ghost use Rattle.cache.specs.Moves.{Fits};
+ghost use Rattle.serving.specs.Moves.{Fits};
 
 // Zeroes the table.
 fn clear_table(table: &mut [u32])

@@ -1,7 +1,4 @@
 // "Land 4,096 bytes for a block open for writing, or dirty and not open: store its slot's page."
-use crate::answers;
-use crate::judge;
-use crate::moves;
 use layout::Block;
 use layout::Slot;
 use layout::places;
@@ -9,6 +6,9 @@ use protocol::Answer;
 use protocol::Condition;
 use protocol::Outcome;
 use protocol::Record;
+use serving::answers;
+use serving::judge;
+use serving::moves;
 ghost use mathlib.Core.Path.{_≡_};
 ghost use mathlib.Core.Bool.{Bool, true, false};
 ghost use Prim.Native.Nat.{ℕ, _+_, _*_, _≤_, _<_};

@@ -1,7 +1,4 @@
 // "Land a fetch: copies the HDD page into the slot and closes it likewise."
-use crate::answers;
-use crate::judge;
-use crate::moves;
 use layout::Block;
 use layout::Slot;
 use layout::places;
@@ -9,6 +6,9 @@ use protocol::Answer;
 use protocol::Condition;
 use protocol::Outcome;
 use protocol::Record;
+use serving::answers;
+use serving::judge;
+use serving::moves;
 ghost use mathlib.Core.Path.{_≡_};
 ghost use mathlib.Core.Bool.{Bool, true, false};
 ghost use Prim.Native.Nat.{ℕ, _+_, _*_, _≤_, _<_};

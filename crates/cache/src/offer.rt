@@ -1,13 +1,13 @@
 // "Offer a block": dirty and not open "overwrite", clean "announced", not cached swept for.
-use crate::answers;
-use crate::judge;
-use crate::moves;
-use crate::sweeping;
 use layout::Block;
 use protocol::Answer;
 use protocol::Condition;
 use protocol::Outcome;
 use protocol::Record;
+use serving::answers;
+use serving::judge;
+use serving::moves;
+use serving::sweeping;
 ghost use mathlib.Core.Path.{_≡_};
 ghost use mathlib.Core.Bool.{Bool, true, false};
 ghost use Prim.Native.Nat.{ℕ, _+_, _*_, _≤_, _<_};

@@ -1,9 +1,9 @@
 // "View a block: hands back that page of the SSD image itself, if cached and not open; else that page of the HDD image."
-use crate::judge;
 use layout::Block;
 use layout::places;
 use protocol::Condition;
 use protocol::Record;
+use serving::judge;
 ghost use mathlib.Core.Path.{_≡_};
 ghost use mathlib.Core.Bool.{Bool, true, false};
 ghost use Prim.Native.Nat.{ℕ, _+_, _*_, _≤_, _<_};

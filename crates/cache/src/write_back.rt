@@ -1,12 +1,12 @@
 // "Write back a block: if dirty, copy to HDD and mark clean; uncached or clean: "nothing to do"."
-use crate::answers;
-use crate::judge;
-use crate::moves;
 use layout::Block;
 use protocol::Answer;
 use protocol::Condition;
 use protocol::Outcome;
 use protocol::Record;
+use serving::answers;
+use serving::judge;
+use serving::moves;
 ghost use mathlib.Core.Path.{_≡_};
 ghost use mathlib.Core.Bool.{Bool, true, false};
 ghost use Prim.Native.Nat.{ℕ, _+_, _*_, _≤_, _<_};

@@ -3,7 +3,6 @@ use crate::disk;
 use crate::disk::Disk;
 use crate::print;
 use crate::sum;
-use cache::answers;
 use cache::fetch;
 use cache::flush;
 use cache::land;
@@ -17,6 +16,7 @@ use layout::Slot;
 use protocol::Answer;
 use protocol::Outcome;
 use protocol::Record;
+use serving::answers;
 
 // A call and its block; a landed page is filled with one byte, or it is 4,095 bytes.
 pub enum Call {

@@ -1,12 +1,12 @@
 // The table's functions, and the judging of a box, on 57,600 rows.
 use crate::print;
-use cache::judge;
 use layout::Block;
 use layout::Slot;
 use layout::places;
 use protocol::Condition;
 use protocol::Phase;
 use protocol::Record;
+use serving::judge;
 use table::Swept;
 use table::rows;
 use table::sweep;

@@ -12,7 +12,8 @@ use Rattle.protocol.specs.Paper.{Paper, refusal, answer, refused, paperOf}
 use Rattle.protocol.specs.Box.{Result}
 use Rattle.protocol.specs.Plan.{Call}
 use Rattle.protocol.specs.Calls.{resultOf, boxOf}
-use Rattle.protocol.proofs.model.Base.{clash, and-left}
+use Rattle.layout.proofs.Booleans.{clash}
+use Rattle.protocol.proofs.model.Base.{and-left}
 use Rattle.ferjulm.specs.Words.{wordsOf, unpacked, isRecord}
 use Rattle.ferjulm.specs.Codes.{codeOf, slotAfter, closedBy}
 use Rattle.ferjulm.specs.Calls.{kept, leftBy, cCall, cFresh}

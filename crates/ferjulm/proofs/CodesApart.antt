@@ -15,7 +15,7 @@ use Rattle.protocol.specs.Box.{Box, left}
 use Rattle.protocol.specs.Plan.{Call}
 use Rattle.protocol.specs.Judge.{Reason, badLimits, noLabel, badRecord, wrongLength, badRows, wrongPhase, blockTooHigh, slotOpen, wrongState, hasSlot, windowFull, allOpen, stampsSpent, numberOf, judged}
 use Rattle.protocol.specs.Calls.{decided, effectOf, resultOf, boxOf}
-use Rattle.protocol.proofs.model.Base.{clash}
+use Rattle.layout.proofs.Booleans.{clash}
 use Rattle.protocol.proofs.why.Answers.{plan-answers}
 use Rattle.ferjulm.specs.Codes.{codeOf, slotAfter}
 use Rattle.ferjulm.specs.Calls.{kept, leftBy}

@@ -13,7 +13,8 @@ use Rattle.layout.specs.declared.Slot.{Slot}
 use Rattle.protocol.specs.declared.Record.{Record}
 use Rattle.protocol.specs.declared.Phase.{Phase}
 use Rattle.protocol.specs.declared.Phase.the-variants.{Formatting, Recovering, Ready}
-use Rattle.protocol.proofs.model.Base.{clash, and-left, and-right}
+use Rattle.layout.proofs.Booleans.{clash}
+use Rattle.protocol.proofs.model.Base.{and-left, and-right}
 use Rattle.ferjulm.specs.Words.{phaseWord, stepsWord, flagWord, phaseIn, isPhase, numbersOf, slotsOf, wordsOf, unpacked, isRecord, recordIn}
 use Rattle.ferjulm.proofs.WordLaws.{numbers-length}
 

@@ -20,10 +20,10 @@ use Rattle.protocol.specs.Condition.{conditionOf}
 use Rattle.protocol.specs.Plan.{view}
 use Rattle.protocol.specs.Judge.{Reason, firstOf, judged}
 use Rattle.protocol.specs.Calls.{boxOf, View, viewPart, viewed, viewOf}
-use Rattle.cache.specs.declared.Judged.{Judged}
-use Rattle.cache.specs.Judging.{servesThen, judgedBy}
-use Rattle.cache.proofs.JudgingLaws.{found, looked}
-use Rattle.cache.proofs.ServeLaws.{view-judges, first-judged, judged-on}
+use Rattle.serving.specs.declared.Judged.{Judged}
+use Rattle.serving.specs.Judging.{servesThen, judgedBy}
+use Rattle.serving.proofs.JudgingLaws.{found, looked}
+use Rattle.serving.proofs.ServeLaws.{view-judges, first-judged, judged-on}
 use Rattle.ferjulm.specs.declared.Place.{Place}
 use Rattle.ferjulm.specs.Words.{unpacked, isRecord}
 use Rattle.ferjulm.specs.View.{placeFor, ViewLeft, placed, viewPlaceOf, cView}

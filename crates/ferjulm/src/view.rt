@@ -1,12 +1,12 @@
 // A view: where a block's page lies.
 use crate::Place;
 use crate::record;
-use cache::judge;
 use layout::Block;
 use layout::Label;
 use layout::Slot;
 use layout::places;
 use protocol::Condition;
+use serving::judge;
 ghost use mathlib.Core.Path.{_≡_};
 ghost use Rattle.layout.specs.Places.{dataPlace, blockPlace};
 ghost use Rattle.ferjulm.specs.View.{pageOf, placeFor, cView};

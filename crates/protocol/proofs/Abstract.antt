@@ -24,7 +24,7 @@ use Rattle.protocol.specs.Box.{Images, Box}
 use Rattle.protocol.specs.Recovery.{metasOf, entryIn, newestOf}
 use Rattle.protocol.specs.ReferenceDisk.{Disk}
 use Rattle.protocol.specs.Events.{World}
-use Rattle.protocol.proofs.model.Base.{Told, told, told-true, told-false, clash}
+use Rattle.layout.proofs.Booleans.{Told, told, told-true, told-false, clash}
 use Rattle.protocol.proofs.model.Model as model
 use Rattle.protocol.proofs.model.Model.{Row, Model, Plain, Stored, Mending}
 use Rattle.protocol.proofs.Windows.{nums}

@@ -1,25 +1,20 @@
 -- A box that passes 3, 4 and 5, whatever it is: what its record and its table are.
-use Prim.Native.Nat.{ℕ, zero, suc, _+_, _-_, _*_, _/_, _%_, _^_, _≤_, _<_}
-use mathlib.Core.Path.{_≡_, refl, sym, ap, subst, _∙_}
-use mathlib.Core.Logic.{_≢_}
-use mathlib.Core.Bool.{Bool, true, false, cond, not, _&&_, _||_}
+use Prim.Native.Nat.{ℕ, zero, _+_, _-_, _≤_, _<_}
+use mathlib.Core.Path.{_≡_, refl, sym, ap, _∙_}
+use mathlib.Core.Bool.{Bool, true, false, not, _&&_}
 use mathlib.Core.List.{List, [], _∷_, _++_}
-use mathlib.Core.Option.{Option, some, none}
 use native.Mathlib.Omega.{arith}
-use native.Mathlib.Nat.{zero-add}
-use lib.ListN.{length, getD, take, drop, replicate, length-take, length-drop, take-append-drop}
+use lib.ListN.{length, take, drop, replicate, length-take, length-drop, take-append-drop}
 use lib.Dec.{eqb, ltb, leb}
 use borrow.Author.Tests.{leb-true, ltb-true, eqb-true, not-false}
 use Rattle.layout.specs.declared.Slot.{Slot}
-use Rattle.layout.specs.declared.Label.{Label}
 use Rattle.layout.specs.Places.{Limits, withinLimits, ssdLength, hddLength, tableLength}
-use Rattle.layout.specs.PageRule.{listed, distinct, inRange}
+use Rattle.layout.specs.PageRule.{distinct, inRange}
 use Rattle.layout.proofs.PlaceLaws.{within}
 use Rattle.protocol.specs.declared.Record.{Record}
-use Rattle.protocol.specs.declared.Phase.{Phase}
-use Rattle.protocol.specs.Rows.{labelIn, windowIn, arrayOf, recordOf}
-use Rattle.protocol.specs.Box.{Images, Box}
-use Rattle.protocol.specs.Judge.{stepsTest, zeroSlots, recordTest, lengthTest, rowTest, eachRow, agreeTest, rowsTest}
+use Rattle.protocol.specs.Rows.{labelIn, windowIn, arrayOf}
+use Rattle.protocol.specs.Box.{Box}
+use Rattle.protocol.specs.Judge.{stepsTest, zeroSlots, recordTest, lengthsTest, lengthTest, rowTest, eachRow, agreeTest, rowsTest}
 use Rattle.protocol.proofs.model.Base.{Window, and-left, and-right}
 use Rattle.protocol.proofs.Windows.{nums, window-of}
 use Rattle.protocol.proofs.Flags.{legal-row}
@@ -48,20 +43,20 @@ pub record Legal (x : Box) : Type 0 where
   pub agree : agreeTest (x .state .phase) (x .table) (windowIn (x .state)) ≡ true
 
 -- the parts of 3
-record Parts (r : Record) : Type 0 where
-  in-limits : withinLimits (labelIn r) ≡ true
-  hand : ltb (r .hand .0) (r .slots) ≡ true
-  steps : stepsTest (labelIn r) (r .phase) ≡ true
-  count : leb (r .count) 63 ≡ true
-  array : eqb (length (r .window)) 63 ≡ true
-  ranged : inRange (labelIn r) (windowIn r) ≡ true
-  apart : distinct (windowIn r) ≡ true
-  past : zeroSlots (drop (r .count) (r .window)) ≡ true
+pub record Parts (r : Record) : Type 0 where
+  pub in-limits : withinLimits (labelIn r) ≡ true
+  pub hand : ltb (r .hand .0) (r .slots) ≡ true
+  pub steps : stepsTest (labelIn r) (r .phase) ≡ true
+  pub count : leb (r .count) 63 ≡ true
+  pub array : eqb (length (r .window)) 63 ≡ true
+  pub ranged : inRange (labelIn r) (windowIn r) ≡ true
+  pub apart : distinct (windowIn r) ≡ true
+  pub past : zeroSlots (drop (r .count) (r .window)) ≡ true
 
 both : (a b : Bool) → (a && b) ≡ true → (a ≡ true) × (b ≡ true)
 both a b e = (and-left a b e, and-right a b e)
 
-parts : (r : Record) → recordTest r ≡ true → Parts r
+pub parts : (r : Record) → recordTest r ≡ true → Parts r
 unfolding recordTest
 parts r e =
     let p1 = both _ _ e in
@@ -73,28 +68,28 @@ parts r e =
     let p7 = both _ _ (p6 .1) in
     record { in-limits = p1 .0; hand = p2 .0; steps = p3 .0; count = p4 .0; array = p5 .0; ranged = p6 .0; apart = p7 .0; past = p7 .1 }
 
-module _ (r : Record) (P : Parts r) where
-  window-length : length (windowIn r) ≡ r .count
+-- a record's window, from its array
+module _ (r : Record) (most : r .count ≤ 63) (size : length (r .window) ≡ 63) where
+  pub window-length : length (windowIn r) ≡ r .count
   unfolding windowIn
-  window-length = length-take (r .count) (r .window)
-      ∙ (let a : r .count ≤ 63 = leb-true _ _ (P .count) in let b : length (r .window) ≡ 63 = eqb-true _ _ (P .array) in omega arith)
+  window-length = length-take (r .count) (r .window) ∙ omega arith
 
-  window-array : r .window ≡ arrayOf (windowIn r)
+  pub window-array : zeroSlots (drop (r .count) (r .window)) ≡ true → r .window ≡ arrayOf (windowIn r)
   unfolding arrayOf windowIn
-  window-array =
-      let a : r .count ≤ 63 = leb-true _ _ (P .count) in
-      let b : length (r .window) ≡ 63 = eqb-true _ _ (P .array) in
-      let n : length (drop (r .count) (r .window)) ≡ 63 - length (take (r .count) (r .window)) = length-drop (r .count) (r .window)
-      ∙ (let c = length-take (r .count) (r .window) in omega arith) in
+  window-array past =
+      let n : length (drop (r .count) (r .window)) ≡ 63 - length (take (r .count) (r .window)) =
+      omega (arith, length-drop (r .count) (r .window), length-take (r .count) (r .window)) in
       sym (take-append-drop (r .count) (r .window))
-      ∙ ap (λ (z : List Slot). take (r .count) (r .window) ++ z) (zero-all (drop (r .count) (r .window)) (P .past))
+      ∙ ap (λ (z : List Slot). take (r .count) (r .window) ++ z) (zero-all (drop (r .count) (r .window)) past)
       ∙ ap (λ (m : ℕ). take (r .count) (r .window) ++ replicate m (record { 0 = 0 })) n
 
 pub legal : (x : Box) → recordTest (x .state) ≡ true → lengthTest (labelIn (x .state)) (x .images) (x .table) ≡ true
     → rowsTest (x .state) (x .table) ≡ true → Legal x
-unfolding lengthTest rowsTest
+unfolding lengthTest lengthsTest rowsTest
 legal x e f g =
     let P = parts (x .state) e in
+    let most : x .state .count ≤ 63 = leb-true _ _ (P .count) in
+    let whole : length (x .state .window) ≡ 63 = eqb-true _ _ (P .array) in
     let q1 = both _ _ f in
     let q2 = both _ _ (q1 .1) in
     let r1 = both (eachRow (λ s block flags. rowTest (labelIn (x .state)) block flags) 0 (x .table)) _ g in
@@ -103,9 +98,9 @@ legal x e f g =
       limits = within (labelIn (x .state)) .0 (P .in-limits);
       hand-low = ltb-true _ _ (P .hand);
       steps = P .steps;
-      count-is = sym (window-length (x .state) P);
-      array-is = window-array (x .state) P;
-      window-rule = window-of (labelIn (x .state)) (windowIn (x .state)) (rw (window-length (x .state) P) (leb-true _ _ (P .count)))
+      count-is = sym (window-length (x .state) most whole);
+      array-is = window-array (x .state) most whole (P .past);
+      window-rule = window-of (labelIn (x .state)) (windowIn (x .state)) (rw (window-length (x .state) most whole) most)
           (P .apart) (P .ranged);
       ssd-size = eqb-true _ _ (q1 .0);
       hdd-size = eqb-true _ _ (q2 .0);

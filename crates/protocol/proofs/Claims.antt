@@ -22,7 +22,8 @@ use Rattle.protocol.specs.Calls.{decided, effectOf, resultOf, viewOf}
 use Rattle.protocol.specs.ReferenceDisk.{Disk, MayBe}
 use Rattle.protocol.specs.Events.{World, Junk, Event, call, reopens, cut, called, lent, readOf, mayFinish, finished, handed, takenIf, reopened, struck, steps, apply, CallFits, Fits}
 use Rattle.protocol.specs.Demand3.{Reopening, own, whole, broken, before, reopenedBox, finishes, Mends}
-use Rattle.protocol.proofs.model.Base.{Told, told, told-true, told-false, clash, and-left, and-right}
+use Rattle.layout.proofs.Booleans.{Told, told, told-true, told-false, clash}
+use Rattle.protocol.proofs.model.Base.{and-left, and-right}
 use Rattle.protocol.proofs.model.Model as model
 use Rattle.protocol.proofs.model.Model.{Model, Plain, Stored, Mending}
 use Rattle.protocol.proofs.model.View as seen

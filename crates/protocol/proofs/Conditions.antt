@@ -17,7 +17,8 @@ use Rattle.protocol.specs.declared.Condition.{Condition}
 use Rattle.protocol.specs.declared.Condition.the-variants.{NotCached, Clean, Dirty, Writing, Fetching}
 use Rattle.protocol.specs.Rows.{rowFlags, valid, dirty, writing}
 use Rattle.protocol.specs.Condition.{slotFrom, slotOf, openAs, closedAs, conditionAt, conditionOf}
-use Rattle.protocol.proofs.model.Base.{Told, told, told-true, told-false, clash, and-left, and-right, eqb-same, eqb-is}
+use Rattle.layout.proofs.Booleans.{Told, told, told-true, told-false, clash}
+use Rattle.protocol.proofs.model.Base.{and-left, and-right, eqb-same, eqb-is}
 
 -- what a search among rows from slot k on finds
 pub data Located (k : ℕ) (t : List ℕ) (b : ℕ) : Option Slot → Type 0 where

@@ -24,7 +24,8 @@ use Rattle.protocol.specs.Perform.{confirmed, perform}
 use Rattle.protocol.specs.Judge.{Reason, test, judged}
 use Rattle.protocol.specs.Calls.{decided, effectOf, resultOf}
 use Rattle.protocol.specs.Beside.{CopiesOnce}
-use Rattle.protocol.proofs.model.Base.{Told, told, told-true, told-false, clash, and-left}
+use Rattle.layout.proofs.Booleans.{Told, told, told-true, told-false, clash}
+use Rattle.protocol.proofs.model.Base.{and-left}
 use Rattle.protocol.proofs.Flags.{Flags, f0, f1, f3, f5, f7, f9, f11, f13, f15}
 use Rattle.protocol.proofs.Sweeps.{Alike, alike-same, Swept, took, stuck, swept}
 use Rattle.protocol.proofs.Reachable.{facts}

@@ -10,7 +10,8 @@ use lib.Seq.{getD-set-same, getD-set-other}
 use lib.Dec.{eqb}
 use Rattle.protocol.specs.Rows.{writing}
 use Rattle.protocol.specs.Judge.{openRows}
-use Rattle.protocol.proofs.model.Base.{has, distinct, Told, told, told-true, told-false, clash, and-left, and-right, not-true, eqb-same, eqb-is}
+use Rattle.layout.proofs.Booleans.{Told, told, told-true, told-false, clash}
+use Rattle.protocol.proofs.model.Base.{has, distinct, and-left, and-right, not-true, eqb-same, eqb-is}
 
 -- an open row that is closed is one less
 pub open-less : (t : List ℕ) (s : ℕ) → 2 * s + 1 < length t → writing (getD t (2 * s + 1) 0) ≡ true

@@ -30,7 +30,8 @@ use Rattle.protocol.specs.ReferenceDisk.{Disk, settled}
 use Rattle.protocol.specs.Events.{World, Event, run, formatted, startOf, AllFit}
 use Rattle.protocol.specs.Demand3.{Safe, Demand3}
 use Rattle.protocol.specs.Beside.{UpdateBeforeData}
-use Rattle.protocol.proofs.model.Base.{Window, nil-window, has, has-nil, clash}
+use Rattle.layout.proofs.Booleans.{clash}
+use Rattle.protocol.proofs.model.Base.{Window, nil-window, has, has-nil}
 use Rattle.protocol.proofs.model.Model as model
 use Rattle.protocol.proofs.model.Model.{Row, Model, Plain}
 use Rattle.protocol.proofs.Windows.{nums}

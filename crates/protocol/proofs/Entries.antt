@@ -18,7 +18,8 @@ use Rattle.layout.specs.PageRule.{pageTest, PageRule, LegalFlags, PairRule, lis
 use Rattle.layout.proofs.RuleLaws.{page-rule}
 use Rattle.protocol.specs.Rows.{valid, dirty, writing}
 use Rattle.protocol.specs.Recovery.{entryIn, Newest, newestOf, eachLegal, stampIn, stampsDiffer, blockIn, noneTwice, allOpenIn, storedRows, pagesTest, freeEntry, recovered}
-use Rattle.protocol.proofs.model.Base.{has, Told, told, told-true, told-false, clash, and-left, and-right, eqb-same, eqb-is, eqb-other}
+use Rattle.layout.proofs.Booleans.{Told, told, told-true, told-false, clash}
+use Rattle.protocol.proofs.model.Base.{has, and-left, and-right, eqb-same, eqb-is, eqb-other}
 use Rattle.protocol.proofs.model.Model as model
 use Rattle.protocol.proofs.model.Model.{Row, dty, opn, blk, shut, revived}
 use Rattle.protocol.proofs.Windows.{nums, has-nums}

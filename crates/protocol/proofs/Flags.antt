@@ -11,7 +11,8 @@ use Rattle.layout.specs.declared.Label.{Label}
 use Rattle.layout.specs.PageRule.{pairTest, legalFlags}
 use Rattle.protocol.specs.Rows.{valid, dirty, writing, used, withoutDirty, withoutWriting, withoutUsed, withUsed, withWriting}
 use Rattle.protocol.specs.Judge.{rowTest}
-use Rattle.protocol.proofs.model.Base.{Told, told, told-true, told-false, clash, and-left, and-right}
+use Rattle.layout.proofs.Booleans.{Told, told, told-true, told-false, clash}
+use Rattle.protocol.proofs.model.Base.{and-left, and-right}
 use Rattle.protocol.proofs.model.Model as model
 use Rattle.protocol.proofs.model.Model.{Row, dty, opn, blk, shut, cleaned}
 

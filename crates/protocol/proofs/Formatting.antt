@@ -19,7 +19,7 @@ use Rattle.layout.specs.LabelPage.{encodeLabel}
 use Rattle.layout.specs.MetaPage.{encodeMeta, rowsOn}
 use Rattle.layout.specs.PageRule.{inRange, distinct, pairTest, legalFlags}
 use Rattle.layout.proofs.PlaceLaws.{within}
-use Rattle.layout.proofs.Booleans.{and-parts}
+use Rattle.layout.proofs.Booleans.{clash, and-parts}
 use Rattle.layout.proofs.LabelLaws as label
 use Rattle.layout.proofs.MetaLaws as meta
 use Rattle.protocol.specs.declared.Phase.{Phase}
@@ -29,11 +29,10 @@ use Rattle.protocol.specs.Rows.{windowIn, recordOf}
 use Rattle.protocol.specs.Box.{Box, ssdImage, Store, Effect, left, boxAfter}
 use Rattle.protocol.specs.Plan.{format, step, plan}
 use Rattle.protocol.specs.Perform.{begun, formatStore, formatState, perform}
-use Rattle.protocol.specs.Judge.{Reason, recordTest, lengthTest, rowTest, eachRow, rowsTest, test, chain, judged}
+use Rattle.protocol.specs.Judge.{Reason, recordTest, lengthsTest, lengthTest, rowTest, eachRow, rowsTest, test, chain, judged}
 use Rattle.protocol.specs.Calls.{decided, effectOf, resultOf}
 use Rattle.protocol.specs.Events.{steps, formatted}
 use Rattle.protocol.specs.Beside.{WholeFormat}
-use Rattle.protocol.proofs.model.Base.{clash}
 use Rattle.protocol.proofs.Windows.{length-array, zero-past}
 use Rattle.protocol.proofs.Tables.{each-of}
 use Rattle.protocol.proofs.Judged.{none-hold, first-none}
@@ -112,7 +111,7 @@ module _ (l : Label) (ssd hdd : List ℕ) (d : ℕ) (L : Limits l) (hs : length 
   )
 
   length-pass : lengthTest l (record { ssd = ssd; hdd = hdd }) (freeTable l) ≡ true
-  unfolding lengthTest
+  unfolding lengthTest lengthsTest
   length-pass = rw (eq-eqb _ _ hs, eq-eqb _ _ hh, eq-eqb _ _ (length-replicate {A = ℕ} (tableLength l) 0))
 
   rows-pass : rowsTest (recordOf l (record { 0 = 0 }) 0 (Formatting d) false []) (freeTable l) ≡ true
@@ -263,7 +262,7 @@ pub record Begun (l : Label) (x : Box) (e : Effect) : Type 0 where
 
 pub format-begun : (slots blocks : ℕ) (x : Box) → refused (resultOf (format slots blocks) x .said) ≡ false
     → Begun (labelOf slots blocks) x (effectOf (format slots blocks) x)
-unfolding effectOf judged test plan perform lengthTest
+unfolding effectOf judged test plan perform lengthTest lengthsTest
 format-begun slots blocks x = go (judged (format slots blocks) x) refl
   where
     l : Label

@@ -22,7 +22,8 @@ use Rattle.protocol.specs.Calls.{decided, effectOf, resultOf}
 use Rattle.protocol.specs.ReferenceDisk.{Disk}
 use Rattle.protocol.specs.Events.{World, Junk, Arrival, Event, call, reopens, cut, called, handed, takenIf, reopened, struck, apply, run, CallFits, Fits, AllFit}
 use Rattle.protocol.specs.Demand3.{Outside, Place, place, Reopening, own, whole, broken, before, NotYet, Back, BackAfter, AllBack, Kept}
-use Rattle.protocol.proofs.model.Base.{has, Told, told, told-true, told-false, clash}
+use Rattle.layout.proofs.Booleans.{Told, told, told-true, told-false, clash}
+use Rattle.protocol.proofs.model.Base.{has}
 use Rattle.protocol.proofs.model.Model as model
 use Rattle.protocol.proofs.model.Model.{Row, Model, Plain, Stored, Mending, dty, opn, blk, shut, revived, mended}
 use Rattle.protocol.proofs.model.Model as model

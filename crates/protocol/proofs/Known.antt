@@ -19,7 +19,7 @@ use Rattle.protocol.specs.Box.{Images, Box, Image, ssdImage, hddImage, S
 use Rattle.protocol.specs.Condition.{conditionOf, slotFrom}
 use Rattle.protocol.specs.Plan.{Call, reopen, view, lowestFrom, plan}
 use Rattle.protocol.specs.Rows.{labelIn, arrayOf, windowIn, without}
-use Rattle.protocol.specs.Judge.{Reason, badLimits, noLabel, badRecord, wrongLength, badRows, wrongPhase, blockTooHigh, slotOpen, wrongState, hasSlot, windowFull, allOpen, stampsSpent, isLabel, labelFor, lengthTest, pageLengthTest, test, chain, firstOf, judged, eachRow, eachSlot, labelTest, openRows, recordTest, rowTest, rowsTest, zeroSlots}
+use Rattle.protocol.specs.Judge.{Reason, badLimits, noLabel, badRecord, wrongLength, badRows, wrongPhase, blockTooHigh, slotOpen, wrongState, hasSlot, windowFull, allOpen, stampsSpent, isLabel, labelFor, lengthsTest, lengthTest, pageLengthTest, test, chain, firstOf, judged, eachRow, eachSlot, labelTest, openRows, recordTest, rowTest, rowsTest, zeroSlots}
 use Rattle.protocol.specs.Calls.{decided, effectOf, viewed, viewOf}
 use Rattle.protocol.specs.Events.{World, Junk, Arrival, old, new, Event, call, reopens, cut, lent, readOf, handed, survived, made}
 use Rattle.protocol.proofs.Report.{Line, lineOf, readsOf, Report, reported, report, diskFrom, labelPage, metaPage, pages, unformatted}
@@ -104,7 +104,7 @@ testKnown l c x allOpen = test allOpen c x
 testKnown l c x stampsSpent = test stampsSpent c x
 
 length-known : (l : Label) (im : Images) (table : List ℕ) → Sized l im → lengthTest l im table ≡ eqb (length table) (tableLength l)
-unfolding lengthTest
+unfolding lengthTest lengthsTest
 length-known l im table z =
     ap (λ (b : Bool). b && (eqb (length (im .hdd)) (hddLength l) && eqb (length table) (tableLength l)))
     (eq-eqb (length (im .ssd)) (ssdLength l) (z .ssd-size))

@@ -22,7 +22,8 @@ use Rattle.protocol.specs.Judge.{Reason, isEmpty, isReady, judged}
 use Rattle.protocol.specs.Calls.{decided}
 use Rattle.protocol.specs.ReferenceDisk.{Disk, settled, fedCall, fed}
 use Rattle.protocol.specs.Events.{World, mayFinish, readsIf, readOf, called}
-use Rattle.protocol.proofs.model.Base.{has, metaNo, Told, told, told-true, told-false, clash, eqb-same, length-keep-lt}
+use Rattle.layout.proofs.Booleans.{Told, told, told-true, told-false, clash}
+use Rattle.protocol.proofs.model.Base.{has, metaNo, eqb-same, length-keep-lt}
 use Rattle.protocol.proofs.model.Model as model
 use Rattle.protocol.proofs.model.Model.{Row, Model, Plain, Stored, Mending, mended, reopened, empty}
 use Rattle.protocol.proofs.model.Rows.{opn-valid}

@@ -20,7 +20,8 @@ use Rattle.protocol.specs.Judge.{Reason, isEmpty, agreeTest, test, judge
 use Rattle.protocol.specs.Calls.{decided, effectOf, resultOf}
 use Rattle.protocol.specs.Events.{steps}
 use Rattle.protocol.specs.Beside.{MendsSoon}
-use Rattle.protocol.proofs.model.Base.{Window, and-left, clash}
+use Rattle.layout.proofs.Booleans.{clash}
+use Rattle.protocol.proofs.model.Base.{Window, and-left}
 use Rattle.protocol.proofs.Windows.{nums, length-nums, take-array}
 use Rattle.protocol.proofs.MendingCalls.{fewer}
 use Rattle.protocol.proofs.Reachable.{facts}

@@ -18,7 +18,7 @@ use Rattle.layout.specs.declared.Entry.{Entry}
 use Rattle.layout.specs.Places.{metaPages, metaPlace, metaOf, entryOf, ssdLength}
 use Rattle.layout.specs.MetaPage.{stampOf, windowOf, entryAt, firsts}
 use Rattle.protocol.specs.Recovery.{metasOf, entryIn, Newest, newer, newestFrom, newestOf}
-use Rattle.protocol.proofs.model.Base.{Told, told, told-true, told-false, clash}
+use Rattle.layout.proofs.Booleans.{Told, told, told-true, told-false, clash}
 
 pub length-firsts : {A : Type 0} (n : ℕ) (f : ℕ → A) → length (firsts n f) ≡ n
 unfolding firsts

@@ -21,9 +21,10 @@ use Rattle.protocol.specs.declared.Phase.the-variants.{Formatting, Recov
 use Rattle.protocol.specs.Rows.{rowBlock, rowFlags, valid, dirty, writing, windowIn, recordOf}
 use Rattle.protocol.specs.Box.{Images, Box}
 use Rattle.protocol.specs.Plan.{Call, format, step, flush, reopen, offer, fetch, landFetch, lookUp, view, writeBack, land, lowestPage, flushing, plan, storesMeta}
-use Rattle.protocol.specs.Judge.{largestStamp, stepsTest, recordTest, lengthTest, rowTest, eachRow, eachSlot, isEmpty, agreeTest, rowsTest, isReady, test, chain, firstOf, judged}
+use Rattle.protocol.specs.Judge.{largestStamp, stepsTest, recordTest, lengthsTest, lengthTest, rowTest, eachRow, eachSlot, isEmpty, agreeTest, rowsTest, isReady, test, chain, firstOf, judged}
 use Rattle.protocol.proofs.model.Base as base
-use Rattle.protocol.proofs.model.Base.{has, Window, Told, told, told-true, told-false, clash, eqb-same}
+use Rattle.layout.proofs.Booleans.{Told, told, told-true, told-false, clash}
+use Rattle.protocol.proofs.model.Base.{has, Window, eqb-same}
 use Rattle.protocol.proofs.model.Model as model
 use Rattle.protocol.proofs.model.Model.{Row, Model, Plain, Stored, Mending, dty, opn, blk, revived, count}
 use Rattle.protocol.proofs.model.Rows.{opn-valid, shut-opn}
@@ -85,7 +86,7 @@ module _ (l : Label) (k : Core) (S : Shape l k) (W : Window (l .slots) (nums (k 
       )
 
   length-pass : lengthTest l (record { ssd = k .ssd; hdd = k .hdd }) (k .table) ≡ true
-  unfolding lengthTest
+  unfolding lengthTest lengthsTest
   length-pass = rw (eq-eqb _ _ (S .images .ssd-size), eq-eqb _ _ (S .images .hdd-size), eq-eqb _ _ (S .table-size))
 
   each-pass : eachRow (λ s block flags. rowTest l block flags) 0 (k .table) ≡ true

@@ -27,7 +27,8 @@ use Rattle.protocol.specs.Plan.{Move, stay, uses, opens, lands, copies, 
 use Rattle.protocol.specs.Perform.{confirmed, landedAs, perform}
 use Rattle.protocol.specs.Judge.{largestStamp, isEmpty}
 use Rattle.protocol.proofs.model.Base as base
-use Rattle.protocol.proofs.model.Base.{upd, upd-same, upd-other, Window, metaNo, Told, told, told-true, told-false, clash}
+use Rattle.layout.proofs.Booleans.{Told, told, told-true, told-false, clash}
+use Rattle.protocol.proofs.model.Base.{upd, upd-same, upd-other, Window, metaNo}
 use Rattle.protocol.proofs.model.Model as model
 use Rattle.protocol.proofs.model.Model.{Row, Model, Plain, dty, opn, blk, shut, cleaned, stored, opened, flushed, landed, copied, mended, Same, same-path}
 use Rattle.protocol.proofs.Windows.{keep-all, nums, nums-append, nums-one, nums-off, nums-without, take-array, empty-nums}

@@ -23,7 +23,8 @@ use Rattle.protocol.specs.Condition.{slotFrom}
 use Rattle.protocol.specs.Recovery.{metasOf, entryIn, newestOf, storedRows}
 use Rattle.protocol.specs.Judge.{isReady}
 use Rattle.protocol.specs.Demand3.{storedWindow, Outside, inWindow, Place, entryPlace, storedSlot, placeIf, place}
-use Rattle.protocol.proofs.model.Base.{has, Told, told, told-true, told-false, clash, eqb-same, eqb-is}
+use Rattle.layout.proofs.Booleans.{Told, told, told-true, told-false, clash}
+use Rattle.protocol.proofs.model.Base.{has, eqb-same, eqb-is}
 use Rattle.protocol.proofs.model.Model as model
 use Rattle.protocol.proofs.model.Model.{Row, Model, Plain, Stored, Mending, opn, blk}
 use Rattle.protocol.proofs.model.View as seen

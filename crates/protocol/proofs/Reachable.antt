@@ -19,11 +19,12 @@ use Rattle.protocol.specs.Box.{Images, Box, Store, Effect, Result, left,
 use Rattle.protocol.specs.Condition.{conditionOf}
 use Rattle.protocol.specs.Plan.{Call, format, step, flush, reopen, offer, fetch, landFetch, lookUp, view, writeBack, land, plan}
 use Rattle.protocol.specs.Perform.{perform}
-use Rattle.protocol.specs.Judge.{Reason, wrongPhase, test, lengthTest, chain, judged, isReady}
+use Rattle.protocol.specs.Judge.{Reason, wrongPhase, test, lengthsTest, lengthTest, chain, judged, isReady}
 use Rattle.protocol.specs.Calls.{decided, effectOf, resultOf}
 use Rattle.protocol.specs.ReferenceDisk.{Disk}
 use Rattle.protocol.specs.Events.{World, Junk, Arrival, old, new, Event, call, reopens, cut, called, handed, takenIf, reopened, survived, made, struck, apply, run, CallFits, Fits, AllFit}
-use Rattle.protocol.proofs.model.Base.{Told, told, told-true, told-false, clash, and-left, and-right}
+use Rattle.layout.proofs.Booleans.{Told, told, told-true, told-false, clash}
+use Rattle.protocol.proofs.model.Base.{and-left, and-right}
 use Rattle.protocol.proofs.model.Model as model
 use Rattle.protocol.proofs.model.Model.{Model, Plain, Stored, Mending}
 use Rattle.protocol.proofs.Judged.{NoneHold, none-hold}
@@ -158,7 +159,7 @@ module _ (l : Label) (k : Core) (p : Plain) (K : ImagesKept l (k .ssd) (k .hdd))
   label-there = ap (λ (i : Images). labelAt (i .ssd)) im ∙ label-is l k p K St
 
   table-judged : judged reopen x ≡ none → length (x .table) ≡ tableLength l
-  unfolding judged test lengthTest
+  unfolding judged test lengthTest lengthsTest
   table-judged e =
       let q = none-hold (chain reopen) (λ r. test r reopen x) e .1 .0 in
       let a = labelAt (x .images .ssd) in

@@ -30,7 +30,8 @@ use Rattle.protocol.specs.Calls.{decided, effectOf}
 use Rattle.protocol.specs.ReferenceDisk.{Disk, settled, written, fedCall, fed}
 use Rattle.protocol.specs.Events.{World, mayFinish, readsIf, called}
 use Rattle.protocol.proofs.model.Base as base
-use Rattle.protocol.proofs.model.Base.{upd, upd-same, upd-other, Window, metaNo, snoc-window, Told, told, told-true, told-false, clash, and-left, and-right, eqb-same, eqb-other}
+use Rattle.layout.proofs.Booleans.{Told, told, told-true, told-false, clash}
+use Rattle.protocol.proofs.model.Base.{upd, upd-same, upd-other, Window, metaNo, snoc-window, and-left, and-right, eqb-same, eqb-other}
 use Rattle.protocol.proofs.model.Model as model
 use Rattle.protocol.proofs.model.Model.{Row, Model, Plain, dty, opn, blk, settle, stored, opened, flushed, landed, copied}
 use Rattle.protocol.proofs.model.Rows.{dty-valid, opn-valid}

@@ -29,8 +29,9 @@ use Rattle.protocol.specs.Box.{Images, Box, left, boxAfter}
 use Rattle.protocol.specs.Recovery.{labelRead, labelAt, metasOf, entryIn, Newest, newestOf, storedRows, pagesTest, recovered, phaseOf, Recovered, recover}
 use Rattle.protocol.specs.Plan.{reopen, recovers}
 use Rattle.protocol.specs.Perform.{perform}
-use Rattle.protocol.specs.Judge.{Reason, labelTest, isLabel, lengthTest, test, chain, firstOf, judged, isEmpty}
-use Rattle.protocol.proofs.model.Base.{has, Window, Told, told, told-true, told-false, clash}
+use Rattle.protocol.specs.Judge.{Reason, labelTest, isLabel, lengthsTest, lengthTest, test, chain, firstOf, judged, isEmpty}
+use Rattle.layout.proofs.Booleans.{Told, told, told-true, told-false, clash}
+use Rattle.protocol.proofs.model.Base.{has, Window}
 use Rattle.protocol.proofs.model.Model as model
 use Rattle.protocol.proofs.model.Model.{Row, Model, Plain, Stored, dty, opn, blk, revived, reopened, Same, same-path}
 use Rattle.protocol.proofs.model.Rows.{opn-valid}
@@ -182,7 +183,7 @@ module _ (l : Label) (k : Core) (p : Plain) (K : ImagesKept l (k .ssd) (k .hdd))
       rw (d, le-leb 4096 (length (k .ssd)) (omega (arith, K .ssd-size)))
 
   length-pass : (table : List ℕ) → length table ≡ tableLength l → lengthTest l (record { ssd = k .ssd; hdd = k .hdd }) table ≡ true
-  unfolding lengthTest
+  unfolding lengthTest lengthsTest
   length-pass table h = rw (eq-eqb _ _ (K .ssd-size), eq-eqb _ _ (K .hdd-size), eq-eqb _ _ h)
 
   pub reopen-judged : (x : Box) → x .images ≡ record { ssd = k .ssd; hdd = k .hdd } → length (x .table) ≡ tableLength l

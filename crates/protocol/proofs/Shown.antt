@@ -20,7 +20,7 @@ use Rattle.protocol.specs.Box.{Images, Box, Image, ssdImage, hddImage, S
 use Rattle.protocol.specs.Plan.{Call, format, step, flush, reopen, offer, land, fetch, landFetch, lookUp, view, writeBack, plan}
 use Rattle.protocol.specs.Recovery.{Recovered, recoverFrom}
 use Rattle.protocol.specs.Perform.{perform}
-use Rattle.protocol.specs.Judge.{Reason, windowFull, allOpen, labelFor, lengthTest, test, judged}
+use Rattle.protocol.specs.Judge.{Reason, windowFull, allOpen, labelFor, lengthsTest, lengthTest, test, judged}
 use Rattle.protocol.specs.Calls.{effectOf}
 use Rattle.protocol.specs.Events.{World, Event, call}
 use Rattle.protocol.proofs.Report.{nothing, label, meta, slot, block, line, Report, report, diskOf, lost, unformatted, start, filled, metaPage, labelPage, pages}
@@ -378,7 +378,7 @@ counted : (c : Call) (table : List ℕ) (state : Record) (wanted : Effect)
 counted c table state wanted e h = effect-known one c (boxed table state) sized-one e ∙ h
 
 Refusals : AllHold refusals
-unfolding known textOf effectOf judged lengthTest
+unfolding known textOf effectOf judged lengthTest lengthsTest
 Refusals = (refl, (refl, (refl, (refl, (refl, (refl, (refl, (refl, (refl, (refl, tt))))))))))
 
 Row-refusals : AllHold row-refusals

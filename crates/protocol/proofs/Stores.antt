@@ -24,7 +24,8 @@ use Rattle.layout.proofs.MetaLaws.{length-encode, encode-stamp, encode-window, 
 use Rattle.protocol.specs.Recovery.{metasOf, entryIn, Newest, newestOf}
 use Rattle.protocol.specs.Rows.{valid}
 use Rattle.protocol.specs.Judge.{rowTest}
-use Rattle.protocol.proofs.model.Base.{Window, Told, told, told-true, told-false, clash, eqb-same, eqb-other, eqb-is, and-left, and-right}
+use Rattle.layout.proofs.Booleans.{Told, told, told-true, told-false, clash}
+use Rattle.protocol.proofs.model.Base.{Window, eqb-same, eqb-other, eqb-is, and-left, and-right}
 use Rattle.protocol.proofs.model.Base as base
 use Rattle.protocol.proofs.model.Model.{Row}
 use Rattle.protocol.proofs.Windows.{nums, length-nums, distinct-nums, below-nums}

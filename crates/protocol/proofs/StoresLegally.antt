@@ -33,7 +33,8 @@ use Rattle.protocol.specs.Perform.{confirmed, joined, landedAs, mendedAt
 use Rattle.protocol.specs.Judge.{largestStamp, Reason, eachSlot, isEmpty, agreeTest, openRows, test, judged, isReady}
 use Rattle.protocol.specs.Calls.{decided, effectOf, resultOf}
 use Rattle.protocol.specs.Beside.{stampStored, MetaStored, StoresLegally}
-use Rattle.protocol.proofs.model.Base.{Window, keep-window, snoc-window, has, Told, told, told-true, told-false, clash, and-left, and-right}
+use Rattle.layout.proofs.Booleans.{Told, told, told-true, told-false, clash}
+use Rattle.protocol.proofs.model.Base.{Window, keep-window, snoc-window, has, and-left, and-right}
 use Rattle.protocol.proofs.Windows.{nums, length-nums, nums-append, nums-one, nums-off, has-nums, take-array}
 use Rattle.protocol.proofs.Flags.{Flags, f5, f7, LegalRow, Changed, changed-open, changed-row}
 use Rattle.protocol.proofs.Tables.{rowAt, Rows, set-rows, length-row, at-open, at-dirty}

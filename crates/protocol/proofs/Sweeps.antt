@@ -15,7 +15,8 @@ use Rattle.layout.specs.declared.Label.{Label}
 use Rattle.layout.specs.Places.{tableLength}
 use Rattle.protocol.specs.Rows.{rowFlags, setFlags, writing, used, withoutUsed}
 use Rattle.protocol.specs.Sweep.{nextSlot, Victim, sweepFrom}
-use Rattle.protocol.proofs.model.Base.{upd, upd-same, upd-other, Told, told, told-true, told-false}
+use Rattle.layout.proofs.Booleans.{Told, told, told-true, told-false}
+use Rattle.protocol.proofs.model.Base.{upd, upd-same, upd-other}
 use Rattle.protocol.proofs.model.Model.{Row}
 use Rattle.protocol.proofs.Flags.{rowOf, LegalRow, Changed, changed-row, changed-unused}
 use Rattle.protocol.proofs.Tables.{rowAt, Rows, flags-at, flags-rows}

@@ -21,7 +21,8 @@ use Rattle.protocol.specs.declared.Condition.the-variants.{NotCached, Cl
 use Rattle.protocol.specs.Rows.{rowBlock, rowFlags, setFlags, setRow, valid, dirty, writing, used, withoutDirty, withoutWriting, withoutUsed, withUsed, withWriting}
 use Rattle.protocol.specs.Judge.{rowTest, eachRow}
 use Rattle.protocol.specs.Condition.{slotFrom, slotOf, conditionAt, conditionOf}
-use Rattle.protocol.proofs.model.Base.{upd, upd-same, upd-other, Told, told, told-true, told-false, clash, and-left, and-right, eqb-same, eqb-is, eqb-other}
+use Rattle.layout.proofs.Booleans.{Told, told, told-true, told-false, clash}
+use Rattle.protocol.proofs.model.Base.{upd, upd-same, upd-other, and-left, and-right, eqb-same, eqb-is, eqb-other}
 use Rattle.protocol.proofs.model.Model as model
 use Rattle.protocol.proofs.model.Model.{Row, dty, opn, blk, shut, cleaned}
 use Rattle.protocol.proofs.Flags.{rowOf, Flags, LegalRow, legal-row, row-legal, Same, same, Changed, changed-row}

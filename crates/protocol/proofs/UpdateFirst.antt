@@ -22,7 +22,8 @@ use Rattle.protocol.specs.Judge.{Reason, judged}
 use Rattle.protocol.specs.Calls.{decided, effectOf, resultOf}
 use Rattle.protocol.specs.Events.{World, mayFinish, CallFits}
 use Rattle.protocol.specs.Beside.{Announced, StoredDirty, UpdateFirst}
-use Rattle.protocol.proofs.model.Base.{has, clash}
+use Rattle.layout.proofs.Booleans.{clash}
+use Rattle.protocol.proofs.model.Base.{has}
 use Rattle.protocol.proofs.model.Model as model
 use Rattle.protocol.proofs.model.Model.{Row, Model, Plain, dty, opn, blk}
 use Rattle.protocol.proofs.model.Rows.{opn-valid}

@@ -25,7 +25,7 @@ use Rattle.protocol.specs.Judge.{Reason, judged}
 use Rattle.protocol.specs.Calls.{decided, effectOf, resultOf, boxOf, viewPart, viewed, viewOf, View}
 use Rattle.protocol.specs.Events.{lent, readOf}
 use Rattle.protocol.specs.Demand3.{slotSaid}
-use Rattle.protocol.proofs.model.Base.{Told, told, told-true, told-false, clash}
+use Rattle.layout.proofs.Booleans.{Told, told, told-true, told-false, clash}
 use Rattle.protocol.proofs.model.Model as model
 use Rattle.protocol.proofs.model.Model.{Row, Model, Plain, opn, blk}
 use Rattle.protocol.proofs.model.View as seen

@@ -18,7 +18,8 @@ use Rattle.protocol.specs.Rows.{windowIn, arrayOf, recordOf, withWindow,
 use Rattle.protocol.specs.Recovery.{offPage}
 use Rattle.protocol.specs.Judge.{zeroSlots, isEmpty}
 use Rattle.protocol.proofs.model.Base as base
-use Rattle.protocol.proofs.model.Base.{has, keep, off, metaNo, Window, Told, told, told-true, told-false, clash, eqb-same, eqb-is, eqb-other, and-left, and-right, not-true, keep-window}
+use Rattle.layout.proofs.Booleans.{Told, told, told-true, told-false, clash}
+use Rattle.protocol.proofs.model.Base.{has, keep, off, metaNo, Window, eqb-same, eqb-is, eqb-other, and-left, and-right, not-true, keep-window}
 
 -- the numbers of a window
 unfoldable pub nums : List Slot → List ℕ

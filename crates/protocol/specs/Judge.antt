@@ -118,8 +118,11 @@ pageLengthTest (view b) = true
 pageLengthTest (writeBack b) = true
 pageLengthTest (land b page) = eqb (length page) 4096
 
+unfoldable pub lengthsTest : Label → ℕ → ℕ → ℕ → Bool
+lengthsTest l ssd hdd table = eqb ssd (ssdLength l) && (eqb hdd (hddLength l) && eqb table (tableLength l))
+
 unfoldable pub lengthTest : Label → Images → List ℕ → Bool
-lengthTest l im table = eqb (length (im .ssd)) (ssdLength l) && (eqb (length (im .hdd)) (hddLength l) && eqb (length table) (tableLength l))
+lengthTest l im table = lengthsTest l (length (im .ssd)) (length (im .hdd)) (length table)
 
 -- 5, of a table: "table row .. breaks its rule": the entry rules, and 8 for used "(only with valid)"
 unfoldable pub rowTest : Label → ℕ → ℕ → Bool

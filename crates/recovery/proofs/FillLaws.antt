@@ -17,7 +17,8 @@ use Rattle.layout.specs.PageRule.{listed, inRange}
 use Rattle.protocol.specs.declared.Record.{Record}
 use Rattle.protocol.specs.Rows.{valid, writing, setRow}
 use Rattle.protocol.specs.Recovery.{entryIn, Newest, newestOf, eachLegal, stampsDiffer, noneTwice, allOpenIn, storedRows, pagesTest, freeEntry, recovered, recover}
-use Rattle.protocol.proofs.model.Base.{Told, told, told-true, told-false, clash, and-left, and-right, eqb-is}
+use Rattle.layout.proofs.Booleans.{Told, told, told-true, told-false, clash}
+use Rattle.protocol.proofs.model.Base.{and-left, and-right, eqb-is}
 use Rattle.protocol.proofs.Windows.{take-array}
 use Rattle.table.proofs.WindowLaws.{window-left, window-end}
 use Rattle.recovery.specs.declared.Pending.{Pending}

@@ -25,8 +25,8 @@ use Rattle.protocol.specs.Judge.{recordTest}
 use Rattle.protocol.proofs.model.Base.{and-left, and-right}
 use Rattle.table.proofs.RecordLaws.{array-more, kept, window-is, window-length}
 use Rattle.table.proofs.WindowLaws.{window-left, window-end}
-use Rattle.cache.specs.Moves.{Fits}
-use Rattle.cache.proofs.MoveLaws.{meta-of-low}
+use Rattle.serving.specs.Moves.{Fits}
+use Rattle.serving.proofs.MoveLaws.{meta-of-low}
 use Rattle.table.specs.Scan.{orElse}
 use Rattle.recovery.specs.declared.Pending.{Pending}
 use Rattle.recovery.specs.Pending.{pendingOf, keptIf, keptOff, lower, phaseAt}

@@ -22,11 +22,11 @@ use Rattle.protocol.specs.Box.{Box, Result, refusing, left}
 use Rattle.protocol.specs.Recovery.{labelRead, labelAt, metasOf, newestOf, eachLegal, stampsDiffer, noneTwice, storedRows, allOpenIn, pagesTest, Recovered, recover}
 use Rattle.protocol.specs.Plan.{reopen, recovers, plan}
 use Rattle.protocol.specs.Perform.{perform}
-use Rattle.protocol.specs.Judge.{noLabel, wrongLength, badRows, isLabel, labelTest, lengthTest, test, firstOf, judged}
+use Rattle.protocol.specs.Judge.{lengthsTest, noLabel, wrongLength, badRows, isLabel, labelTest, lengthTest, test, firstOf, judged}
 use Rattle.protocol.specs.Calls.{boxOf, reopenOf}
-use Rattle.protocol.proofs.model.Base.{Told, told, told-true, told-false, clash, and-left, and-right}
-use Rattle.cache.specs.Judging.{lengthsTest}
-use Rattle.cache.proofs.ServeLaws.{first-yes, first-no, performs, refused-as}
+use Rattle.layout.proofs.Booleans.{Told, told, told-true, told-false, clash}
+use Rattle.protocol.proofs.model.Base.{and-left, and-right}
+use Rattle.serving.proofs.ServeLaws.{first-yes, first-no, performs, refused-as}
 use Rattle.recovery.specs.Stored.{readIf, labelIf}
 
 -- 5, rule by rule

@@ -3,14 +3,13 @@ use Prim.Native.Nat.{ℕ, zero, suc, _+_, _≤_}
 use mathlib.Core.Path.{_≡_, refl, sym, ap, _∙_}
 use mathlib.Core.Bool.{Bool, true, false, not, _&&_}
 use mathlib.Core.List.{List, [], _∷_}
-use mathlib.Core.Option.{none}
 use native.Mathlib.Omega.{arith}
 use lib.ListN.{length}
-use lib.Dec.{eqb, leb}
-use borrow.Author.Tests.{leb-true, not-false}
+use lib.Dec.{leb}
+use borrow.Author.Tests.{leb-true}
 use Rattle.pages.specs.Pages.{putPage}
 use Rattle.layout.specs.declared.Slot.{Slot}
-use Rattle.layout.specs.Places.{metaPages, withinLimits}
+use Rattle.layout.specs.Places.{metaPages}
 use Rattle.protocol.specs.declared.Record.{Record}
 use Rattle.protocol.specs.declared.Phase.{Phase}
 use Rattle.protocol.specs.declared.Phase.the-variants.{Formatting, Recovering, Ready}
@@ -19,18 +18,14 @@ use Rattle.protocol.specs.Rows.{labelIn, windowIn}
 use Rattle.protocol.specs.Box.{Box, Result, refusing, left}
 use Rattle.protocol.specs.Plan.{step, formats, mends, lowestPage, stepping, storesMeta, plan}
 use Rattle.protocol.specs.Perform.{formatStore, formatState, perform}
-use Rattle.protocol.specs.Judge.{Reason, badRecord, wrongLength, badRows, wrongPhase, stampsSpent, largestStamp, isReady, isEmpty, stepsTest, agreeTest, recordTest, lengthTest, rowsTest, test, firstOf, judged}
+use Rattle.protocol.specs.Judge.{badRecord, wrongLength, badRows, wrongPhase, stampsSpent, largestStamp, isReady, isEmpty, stepsTest, agreeTest, lengthTest, test, firstOf, judged}
 use Rattle.protocol.specs.Calls.{boxOf, stepOf}
-use Rattle.protocol.proofs.model.Base.{Told, told, told-true, told-false, and-left, clash}
-use Rattle.protocol.proofs.Accepted.{Legal, legal}
-use Rattle.table.proofs.RecordLaws.{kept}
-use Rattle.cache.specs.Judging.{refuseIf, lengthsTest, soundThen}
-use Rattle.cache.specs.Moves.{Fits}
-use Rattle.cache.proofs.ServeLaws.{Judges, numbers, first-yes, first-no, performs, refused-as, judged-on}
-
-end : (h : Reason → Bool) → firstOf [] h ≡ none
-unfolding firstOf
-end h = refl
+use Rattle.layout.proofs.Booleans.{Told, told, told-true, told-false, clash}
+use Rattle.protocol.proofs.model.Base.{and-left}
+use Rattle.serving.specs.Judging.{soundThen}
+use Rattle.serving.proofs.ServeLaws.{Judges, numbers, first-yes, first-no, performs, refused-as, judged-on}
+use Rattle.serving.proofs.ReadyLaws.{SoundBox}
+use Rattle.cache.proofs.CallLaws.{end}
 
 -- what a step of a format leaves: its store is one of the SSD image
 abbrev formatted : List ℕ → List ℕ → List ℕ → Record → ℕ → Result
@@ -60,7 +55,7 @@ module _ (ssd hdd t : List ℕ) (r : Record) where
   x = boxOf ssd hdd t r
 
   pub step-judges : Judges step x (soundThen (length ssd) (length hdd) 4096 t r 0) (wrongPhase ∷ stampsSpent ∷ [])
-  unfolding numbers test soundThen lengthTest lengthsTest
+  unfolding numbers test soundThen lengthTest
   step-judges = record { begins = badRecord ∷ wrongLength ∷ badRows ∷ []; chain-is = refl; number-is = refl }
 
   module _ (z : soundThen (length ssd) (length hdd) 4096 t r 0 ≡ 0) where
@@ -98,52 +93,19 @@ module _ (ssd hdd t : List ℕ) (r : Record) where
           ∙ first-no _ stampsSpent [] (ap (λ (p : Phase). storesMeta (stepping r p) && leb largestStamp (r .newest)) e ∙ s) ∙ end _)
           (ap (stepping r) e)
 
--- what 3 to 5 leave of a box
-pass : (a : Bool) (n rest : ℕ) → refuseIf a (suc n) rest ≡ 0 → (a ≡ false) × (rest ≡ 0)
-pass true n rest h = absurd (omega arith)
-pass false n rest h = (refl, h)
+module _ (ssd hdd t : List ℕ) (r : Record) (S : SoundBox ssd hdd 4096 t r) where
+  -- so many steps of a format are done
+  pub steps-low : (d : ℕ) → r .phase ≡ Formatting d → d ≤ metaPages (labelIn r) + 1
+  steps-low d e = leb-true _ _ (ap (stepsTest (labelIn r)) (sym e) ∙ S .sound .steps)
 
-pub record Sound (ssd hdd t : List ℕ) (r : Record) : Type 0 where
-  pub record-kept : recordTest r ≡ true
-  pub within : withinLimits (labelIn r) ≡ true
-  pub legal-box : Legal (boxOf ssd hdd t r)
-  pub fits : Fits (length ssd) (length t) r
+  -- while mending a slot is pending
+  some-slot : (w : List Slot) → not (isEmpty w) ≡ true → 1 ≤ length w
+  some-slot [] h = clash h refl
+  some-slot (s ∷ w) h = omega arith
 
-module _ (ssd hdd t : List ℕ) (r : Record) where
-  pub sound : soundThen (length ssd) (length hdd) 4096 t r 0 ≡ 0 → Sound ssd hdd t r
-  unfolding soundThen lengthsTest lengthTest recordTest
-  sound z =
-      let p3 = pass (not (recordTest r)) 2 _ z in
-      let p4 = pass (not (lengthsTest (labelIn r) (length ssd) (length hdd) (length t) && eqb 4096 4096)) 3 _ (p3 .1) in
-      let p5 = pass (not (rowsTest r t)) 4 _ (p4 .1) in
-      let k = not-false _ (p3 .0) in
-      let n = and-left (lengthsTest (labelIn r) (length ssd) (length hdd) (length t)) _ (not-false _ (p4 .0)) in
-      let L : Legal (boxOf ssd hdd t r) = legal (boxOf ssd hdd t r) k n (not-false _ (p5 .0)) in
-      record {
-        record-kept = k;
-        within = and-left (withinLimits (labelIn r)) _ k;
-        legal-box = L;
-        fits = record {
-          ssd-size = L .ssd-size;
-          table-size = L .table-size;
-          slots-most = L .limits .slots-most;
-          window-most = kept r k .most;
-        };
-      }
-
-  module _ (S : Sound ssd hdd t r) where
-    -- so many steps of a format are done
-    pub steps-low : (d : ℕ) → r .phase ≡ Formatting d → d ≤ metaPages (labelIn r) + 1
-    steps-low d e = leb-true _ _ (ap (stepsTest (labelIn r)) (sym e) ∙ S .legal-box .steps)
-
-    -- while mending a slot is pending
-    some-slot : (w : List Slot) → not (isEmpty w) ≡ true → 1 ≤ length w
-    some-slot [] h = clash h refl
-    some-slot (s ∷ w) h = omega arith
-
-    pub some-pending : r .phase ≡ Recovering → 1 ≤ r .count
-    some-pending e =
-        let a : agreeTest Recovering t (windowIn r) ≡ true =
-        ap (λ (p : Phase). agreeTest p t (windowIn r)) (sym e) ∙ S .legal-box .agree in
-        let n = some-slot (windowIn r) (and-left (not (isEmpty (windowIn r))) _ a) in
-        omega (arith, S .legal-box .count-is)
+  pub some-pending : r .phase ≡ Recovering → 1 ≤ r .count
+  some-pending e =
+      let a : agreeTest Recovering t (windowIn r) ≡ true =
+      ap (λ (p : Phase). agreeTest p t (windowIn r)) (sym e) ∙ S .sound .agree in
+      let n = some-slot (windowIn r) (and-left (not (isEmpty (windowIn r))) _ a) in
+      omega (arith, S .sound .count-is)

@@ -18,9 +18,11 @@ use Rattle.layout.specs.MetaPage.{stampOf, countOf, slotAt, windowOf, firsts}
 use Rattle.layout.specs.PageRule.{pageTest, inRange, windowTest}
 use Rattle.layout.proofs.Loops.{left}
 use Rattle.layout.proofs.RuleLaws.{count-rule, page-rows}
+use Rattle.layout.proofs.JudgeLaws.{length-window}
 use Rattle.protocol.specs.Rows.{arrayOf}
 use Rattle.protocol.specs.Recovery.{metasOf, Newest, newer, newestFrom, newestOf, eachLegal}
-use Rattle.protocol.proofs.model.Base.{and-left, and-right}
+use Rattle.protocol.proofs.model.Base.{and-left}
+use Rattle.protocol.proofs.why.PagesRules.{legal-get}
 use Rattle.protocol.proofs.Metas.{length-firsts, length-metas, metas-at}
 use Rattle.table.proofs.RecordLaws.{array-more}
 use Rattle.recovery.specs.declared.Newest.{Newest as Numbered}
@@ -122,20 +124,9 @@ some-window pages zero h = absurd (h refl)
 some-window pages (suc p) h = let e : suc p - 1 ≡ p = omega arith in rw e
 
 -- a page of legal pages
-legal-from : (l : Label) (p : ℕ) (pages : List (List ℕ)) → eachLegal l p pages ≡ true → (q : ℕ) → q < length pages
-    → pageTest l (p + q) (getD pages q []) ≡ true
-unfolding eachLegal
-legal-from l p [] e q h = absurd (omega arith)
-legal-from l p (page ∷ pages) e zero h =
-    let z : p + 0 ≡ p = omega arith in
-    rw z (and-left (pageTest l p page) (eachLegal l (suc p) pages) e)
-legal-from l p (page ∷ pages) e (suc q) h =
-    let z : p + suc q ≡ suc p + q = omega arith in
-    rw z (legal-from l (suc p) pages (and-right (pageTest l p page) (eachLegal l (suc p) pages) e) q (omega arith))
-
 pub legal-at : (l : Label) (pages : List (List ℕ)) → eachLegal l 0 pages ≡ true → (q : ℕ) → q < length pages
     → pageTest l q (getD pages q []) ≡ true
-legal-at l pages e q h = rw zero-add at (legal-from l 0 pages e q h)
+legal-at l pages e q h = rw zero-add at (legal-get l 0 pages e q h)
 
 pub count-low : (l : Label) (p : ℕ) (page : List ℕ) → pageTest l p page ≡ true → countOf page ≤ 63
 count-low l p page e = count-rule page .0 (page-rows l p page .0 e .count) .most
@@ -143,10 +134,6 @@ count-low l p page e = count-rule page .0 (page-rows l p page .0 e .count) .most
 window-range : (l : Label) (page : List ℕ) → windowTest l page ≡ true → inRange l (windowOf page) ≡ true
 unfolding windowTest
 window-range l page e = and-left (inRange l (windowOf page)) _ e
-
-window-length : (page : List ℕ) → length (windowOf page) ≡ countOf page
-unfolding windowOf
-window-length page = length-firsts (countOf page) (slotAt page)
 
 -- the newest window of legal pages
 pub record Bounded (l : Label) (w : List Slot) : Type 0 where
@@ -160,6 +147,6 @@ newest-bounded l pages zero e h = record { most = omega arith; ranged = refl }
 newest-bounded l pages (suc p) e h =
     let t = legal-at l pages e p (omega arith) in
     record {
-      most = rw (window-length (getD pages p [])) (count-low l p (getD pages p []) t);
+      most = rw (length-window (getD pages p [])) (count-low l p (getD pages p []) t);
       ranged = window-range l (getD pages p []) (page-rows l p (getD pages p []) .0 t .window);
     }

@@ -1,13 +1,13 @@
 // "Reopen: fill the table from the pages." Everything is judged before anything is changed.
 use crate::fill;
 use crate::rules;
-use cache::answers;
-use cache::judge;
 use layout::LabelRead;
 use layout::label_page;
 use protocol::Answer;
 use protocol::Outcome;
 use protocol::Record;
+use serving::answers;
+use serving::judge;
 ghost use mathlib.Core.Path.{_≡_};
 ghost use mathlib.Core.Bool.{Bool, true, false};
 ghost use Prim.Native.Nat.{ℕ, _+_, _*_, _≤_, _<_};

@@ -1,9 +1,6 @@
 // A step: of a format, or of mending.
 use crate::Pending;
-use cache::answers;
 use cache::format;
-use cache::judge;
-use cache::moves;
 use layout::Block;
 use layout::Slot;
 use layout::places;
@@ -11,6 +8,9 @@ use protocol::Answer;
 use protocol::Outcome;
 use protocol::Phase;
 use protocol::Record;
+use serving::answers;
+use serving::judge;
+use serving::moves;
 ghost use mathlib.Core.Path.{_≡_};
 ghost use mathlib.Core.Bool.{Bool, true, false};
 ghost use mathlib.Core.List.{List};
@@ -26,7 +26,7 @@ ghost use Rattle.protocol.specs.Plan.{lowestPage};
 ghost use Rattle.protocol.specs.Perform.{mendedAt};
 ghost use Rattle.protocol.specs.Judge.{recordTest};
 ghost use Rattle.protocol.specs.Calls.{stepOf};
-ghost use Rattle.cache.specs.Moves.{Fits};
+ghost use Rattle.serving.specs.Moves.{Fits};
 ghost use Rattle.recovery.specs.Pending.{pendingOf, keptOff, lower, phaseAt};
 
 // The lower of two page numbers.

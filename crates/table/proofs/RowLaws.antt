@@ -18,7 +18,7 @@ use Rattle.protocol.specs.Rows.{valid, writing}
 use Rattle.protocol.specs.Condition.{slotFrom}
 use Rattle.protocol.specs.Judge.{rowTest, eachRow, openRows}
 use Rattle.table.specs.Scan.{busyRows, numberOr, orElse, busyOf, holdsIn, lowestOf}
-use Rattle.protocol.proofs.model.Base.{Told, told, told-true, told-false, clash}
+use Rattle.layout.proofs.Booleans.{Told, told, told-true, told-false, clash}
 use Rattle.protocol.proofs.Flags.{Flags, f0, f1, f3, f5, f7, f9, f11, f13, f15, LegalRow, legal-row, row-legal}
 
 pub ruleset tests = (eq-eqb, ne-eqb, le-leb, lt-leb, le-ltb, lt-ltb)

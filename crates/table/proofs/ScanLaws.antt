@@ -11,7 +11,7 @@ use Rattle.layout.specs.declared.Block.{Block}
 use Rattle.layout.specs.declared.Label.{Label}
 use Rattle.protocol.specs.Condition.{slotFrom, slotOf}
 use Rattle.protocol.specs.Judge.{rowTest, eachRow, openRows}
-use Rattle.protocol.proofs.model.Base.{Told, told, told-true, told-false, clash}
+use Rattle.layout.proofs.Booleans.{Told, told, told-true, told-false, clash}
 use Rattle.table.specs.declared.Scan.{Scan}
 use Rattle.table.specs.Scan.{busyRows, numberOr, orElse, busyOf, holdsIn, lowestOf, legalRows, scanIf, scanOf}
 use Rattle.table.proofs.RowLaws.{each-step, open-step, busy-step, found-step, lowest-step, lowest-most, busy-one}

@@ -1,27 +1,14 @@
 -- Functions changed at one place, tests of windows, and the five legal rows.
-use Prim.Native.Nat.{ℕ, zero, suc, _+_, _≤_, _<_, _/_}
-use mathlib.Core.Path.{_≡_, refl, sym, ap, subst, _∙_}
+use Prim.Native.Nat.{ℕ, suc, _+_, _≤_, _<_, _/_}
+use mathlib.Core.Path.{_≡_, refl, sym, subst, _∙_}
 use mathlib.Core.Logic.{_≢_}
 use mathlib.Core.Bool.{Bool, true, false, cond, not, _&&_, _||_}
-use mathlib.Core.List.{List, [], _∷_, _++_, List·Memᴰ, List·Memᴰ·head, List·Memᴰ·tail}
-use mathlib.Core.Option.{Option, some, none}
+use mathlib.Core.List.{List, [], _∷_, _++_}
 use native.Mathlib.Omega.{arith}
-use native.Mathlib.Decide.{ℕ-discrete}
 use lib.ListN.{length, length-append}
 use lib.Dec.{eqb, ltb, lt→ltb, eqb→eq, eqb-refl, T}
+use Rattle.layout.proofs.Booleans.{Told, told, told-true, told-false, clash}
 use Rattle.protocol.proofs.Shown as computed-first
-
--- a Boolean is true or false, with the equation kept
-pub data Told (b : Bool) : Type 0 where
-  told-true : b ≡ true → Told b
-  told-false : b ≡ false → Told b
-
-pub told : (b : Bool) → Told b
-told true = told-true refl
-told false = told-false refl
-
-pub clash {ℓ} : {X : Type ℓ} {b : Bool} → b ≡ true → b ≡ false → X
-clash p q = let z : _≡_ {A = ℕ} 0 1 = cc in absurd (omega arith)
 
 pub eqb-same : (n : ℕ) → eqb n n ≡ true
 eqb-same n = go (eqb n n) (eqb-refl n)

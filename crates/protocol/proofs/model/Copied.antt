@@ -8,7 +8,8 @@ use native.Mathlib.Omega.{arith}
 use native.Mathlib.Decide.{ℕ-discrete}
 use lib.ListN.{length, length-append}
 use lib.Dec.{eqb}
-use Rattle.protocol.proofs.model.Base.{upd, has, upd-same, upd-other, Told, told, told-true, told-false, clash}
+use Rattle.layout.proofs.Booleans.{Told, told, told-true, told-false, clash}
+use Rattle.protocol.proofs.model.Base.{upd, has, upd-same, upd-other}
 use Rattle.protocol.proofs.model.Model.{Row, valid, dty, opn, blk, cleaned, Model, Plain, copied, Ready}
 use Rattle.protocol.proofs.model.Rows.{cleaned-valid, cleaned-blk, cleaned-opn, cleaned-dty, dty-valid}
 

@@ -8,7 +8,8 @@ use mathlib.Core.Option.{Option, some, none}
 use native.Mathlib.Omega.{arith}
 use lib.ListN.{length}
 use lib.Dec.{eqb, ltb}
-use Rattle.protocol.proofs.model.Base.{has, has-nil, metaNo, Told, told, told-true, told-false, clash, eqb-same}
+use Rattle.layout.proofs.Booleans.{Told, told, told-true, told-false, clash}
+use Rattle.protocol.proofs.model.Base.{has, has-nil, metaNo, eqb-same}
 use Rattle.protocol.proofs.model.Model.{Row, valid, dty, opn, blk, shut, revived, Model, Plain, Ready, Stored, Mending, reopened, mended, empty}
 use Rattle.protocol.proofs.model.Rows.{opn-valid, shut-valid, shut-blk, shut-opn}
 use Rattle.protocol.proofs.model.View.{holds, holds-is, holds-of, find, Found, found, at, nowhere, view, viewAt}

@@ -8,7 +8,8 @@ use native.Mathlib.Omega.{arith}
 use native.Mathlib.Decide.{ℕ-discrete}
 use lib.ListN.{length, length-append}
 use lib.Dec.{eqb}
-use Rattle.protocol.proofs.model.Base.{has, metaNo, Told, told, told-true, told-false, clash}
+use Rattle.layout.proofs.Booleans.{Told, told, told-true, told-false, clash}
+use Rattle.protocol.proofs.model.Base.{has, metaNo}
 use Rattle.protocol.proofs.model.Model.{Row, valid, dty, opn, blk, Model, Plain, stored, flushed, Ready, count, settle}
 use Rattle.protocol.proofs.model.Rows.{dty-valid}
 

@@ -11,7 +11,8 @@ use lib.ListN.{length, length-append}
 use lib.Dec.{T, eqb, ltb, ltb→lt, nltb→le}
 use Rattle.protocol.specs.Judge.{largestStamp}
 use Rattle.protocol.proofs.model.Reopened.{fixed}
-use Rattle.protocol.proofs.model.Base.{upd, has, metaNo, upd-same, upd-other, Told, told, told-true, told-false, clash, eqb-is}
+use Rattle.layout.proofs.Booleans.{Told, told, told-true, told-false, clash}
+use Rattle.protocol.proofs.model.Base.{upd, has, metaNo, upd-same, upd-other, eqb-is}
 use Rattle.protocol.proofs.model.Model.{Page, Row, clean, dirty, fetching, writing, free, valid, dty, opn, blk, Model, Plain, Ready, settle, landed, copied, stored, opened}
 use Rattle.protocol.proofs.model.Rows.{dty-valid}
 use Rattle.protocol.proofs.model.View.{find, Found, found, at, nowhere, view, viewAt}

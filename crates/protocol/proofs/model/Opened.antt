@@ -9,7 +9,8 @@ use native.Mathlib.Decide.{ℕ-discrete}
 use lib.ListN.{length, length-append}
 use lib.Dec.{eqb}
 use Rattle.protocol.specs.Judge.{largestStamp}
-use Rattle.protocol.proofs.model.Base.{upd, has, keep, metaNo, without, off, upd-same, upd-other, has-snoc, has-snoc-other, Told, told, told-true, told-false, clash, eqb-same, eqb-is, Window, snoc-window}
+use Rattle.layout.proofs.Booleans.{Told, told, told-true, told-false, clash}
+use Rattle.protocol.proofs.model.Base.{upd, has, keep, metaNo, without, off, upd-same, upd-other, has-snoc, has-snoc-other, eqb-same, eqb-is, Window, snoc-window}
 use Rattle.protocol.proofs.model.Rows.{dty-valid}
 use Rattle.protocol.proofs.model.Model.{Row, valid, dty, opn, blk, Model, Plain, stored, opened, Ready}
 

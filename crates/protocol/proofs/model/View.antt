@@ -9,7 +9,8 @@ use native.Mathlib.Omega.{arith}
 use native.Mathlib.Decide.{ℕ-discrete}
 use lib.ListN.{length, length-append}
 use lib.Dec.{eqb}
-use Rattle.protocol.proofs.model.Base.{has, Told, told, told-true, told-false, clash, eqb-same, eqb-is}
+use Rattle.layout.proofs.Booleans.{Told, told, told-true, told-false, clash}
+use Rattle.protocol.proofs.model.Base.{has, eqb-same, eqb-is}
 use Rattle.protocol.proofs.model.Model.{Row, valid, dty, opn, blk, Model, Plain, Page, Ready}
 use Rattle.protocol.proofs.model.Rows.{dty-valid}
 

@@ -26,7 +26,7 @@ use Rattle.protocol.proofs.why.Basics.{or-neither}
 use Rattle.protocol.proofs.why.Each.{at, place-get, place-of}
 
 -- each page
-legal-get : (l : Label) (p : ℕ) (pages : List (List ℕ)) → eachLegal l p pages ≡ true → (q : ℕ) → q < length pages
+pub legal-get : (l : Label) (p : ℕ) (pages : List (List ℕ)) → eachLegal l p pages ≡ true → (q : ℕ) → q < length pages
     → pageTest l (p + q) (getD pages q []) ≡ true
 unfolding eachLegal
 legal-get l p [] e q h = absurd (omega arith)

@@ -28,7 +28,7 @@ use Rattle.protocol.specs.declared.Phase.the-variants.{Formatting, Recov
 use Rattle.protocol.specs.Rows.{labelIn, windowIn}
 use Rattle.protocol.specs.Box.{Images}
 use Rattle.protocol.specs.Plan.{Call, format, step, flush, reopen, offer, fetch, landFetch, lookUp, view, writeBack, land}
-use Rattle.protocol.specs.Judge.{isLabel, labelTest, stepsTest, zeroSlots, recordTest, pageLengthTest, lengthTest}
+use Rattle.protocol.specs.Judge.{isLabel, labelTest, stepsTest, zeroSlots, recordTest, pageLengthTest, lengthsTest, lengthTest}
 use Rattle.protocol.specs.Why.{HasLabel, RecordRule, PageLength, Lengths}
 use Rattle.protocol.proofs.why.Basics.{unit-same}
 use Rattle.protocol.proofs.why.Each.{at, place-get, place-of, range-each, zero-get, zero-of, distinct-get, distinct-of}
@@ -147,7 +147,7 @@ page-same (land b page) = (eqb-true _ _, eq-eqb _ _)
 
 pub lengths-same : (l : Label) (c : Call) (im : Images) (table : List ℕ)
     → (lengthTest l im table && pageLengthTest c) ⇔ Lengths l c im table
-unfolding lengthTest
+unfolding lengthTest lengthsTest
 lengths-same l c im table = (
   λ h.
       let p = and-parts (lengthTest l im table) (pageLengthTest c) h in

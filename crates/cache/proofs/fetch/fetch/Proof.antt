@@ -5,10 +5,10 @@ use Rattle.protocol.specs.Box.{left, refusing}
 use Rattle.protocol.specs.Plan.{fetch}
 use Rattle.protocol.specs.Judge.{isOpen}
 use Rattle.protocol.specs.Calls.{boxOf, fetchOf}
-use Rattle.cache.proofs.JudgingLaws.{found}
-use Rattle.cache.proofs.ServeLaws.{refused-by, fetch-judges}
-use Rattle.cache.proofs.ReadyLaws.{fits, open-count}
-use Rattle.cache.proofs.ServedLaws.{Served, served}
+use Rattle.serving.proofs.JudgingLaws.{found}
+use Rattle.serving.proofs.ServeLaws.{refused-by, fetch-judges}
+use Rattle.serving.proofs.ReadyLaws.{open-count}
+use Rattle.serving.proofs.ServedLaws.{Served, served}
 use Rattle.cache.proofs.CallLaws.{fetch-open, fetch-has, fetch-swept}
 use borrow.Author.Needs.{needs}
 use Rattle.cache.proofs.fetch.fetch.Statement.{statement}
@@ -54,7 +54,7 @@ sweep-for-requires c κs =
     let e = c .before .before .before .before .before in
     let B = known e .box in
     let n = open-count _ _ _ _ _ B in
-    (fits _ _ _ _ _ B, (B .sound .hdd-size, (B .record-kept, (B .rows, (n, known e .writing-is)))))
+    (B .box .fits, (B .box .sound .hdd-size, (B .box .record-kept, (B .box .rows, (n, known e .writing-is)))))
 
 enum-told-2 : tie.Need-enum-told-2
 enum-told-2 c = search needs

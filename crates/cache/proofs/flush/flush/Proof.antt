@@ -5,11 +5,11 @@ use Rattle.protocol.specs.Rows.{labelIn}
 use Rattle.protocol.specs.Plan.{flush}
 use Rattle.protocol.specs.Perform.{confirmed, perform}
 use Rattle.protocol.specs.Calls.{boxOf}
-use Rattle.cache.specs.Judging.{readyThen}
-use Rattle.cache.proofs.JudgingLaws.{found, looked}
-use Rattle.cache.proofs.ServeLaws.{refused-by, flush-judges}
-use Rattle.cache.proofs.ReadyLaws.{ready, fits}
-use Rattle.cache.proofs.MoveLaws.{meta-of-low}
+use Rattle.serving.specs.Judging.{readyThen}
+use Rattle.serving.proofs.JudgingLaws.{found, looked}
+use Rattle.serving.proofs.ServeLaws.{refused-by, flush-judges}
+use Rattle.serving.proofs.ReadyLaws.{ready}
+use Rattle.serving.proofs.MoveLaws.{meta-of-low}
 use Rattle.cache.proofs.CallLaws.{flush-idle, flush-spent, flush-done}
 use borrow.Author.Needs.{needs}
 use Rattle.cache.proofs.flush.flush.Statement.{statement}
@@ -63,7 +63,7 @@ confirm-requires c κs =
     let e = c .before .before .before .before .before in
     let a = start e .args in
     let B = ready (a .ssd .now) (a .hdd .now) 4096 (a .table .now) (a .state) (passed e) in
-    (fits _ _ _ _ _ B, (meta-of-low (labelIn (a .state)) (record { 0 = 0 }) (B .sound .limits .some-slot), c .before .if3 .left))
+    (B .box .fits, (meta-of-low (labelIn (a .state)) (record { 0 = 0 }) (B .box .sound .limits .some-slot), c .before .if3 .left))
 
 answered-requires-2 : tie.Need-answered-requires-2
 answered-requires-2 c κs = search needs

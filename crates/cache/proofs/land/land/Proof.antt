@@ -7,10 +7,10 @@ use Rattle.protocol.specs.Plan.{land, landing}
 use Rattle.protocol.specs.Perform.{perform}
 use Rattle.protocol.specs.Judge.{takesWrite}
 use Rattle.protocol.specs.Calls.{boxOf, landOf}
-use Rattle.cache.proofs.JudgingLaws.{found}
-use Rattle.cache.proofs.ServeLaws.{refused-by, land-judges}
-use Rattle.cache.proofs.ReadyLaws.{open-listed}
-use Rattle.cache.proofs.ServedLaws.{Served, served}
+use Rattle.serving.proofs.JudgingLaws.{found}
+use Rattle.serving.proofs.ServeLaws.{refused-by, land-judges}
+use Rattle.serving.proofs.ReadyLaws.{open-listed}
+use Rattle.serving.proofs.ServedLaws.{Served, served}
 use Rattle.cache.proofs.CallLaws.{land-wrong, land-is}
 use borrow.Author.Needs.{needs}
 use Rattle.cache.proofs.land.land.Statement.{statement}
@@ -73,7 +73,7 @@ store-page-requires : tie.Need-store-page-requires
 store-page-requires c κs =
     let e = c .before .before .before .before in
     let R = known e .row _ (c .before .before .condition .given .1) in
-    (known e .box .sound .ssd-size, (known e .box .page-size, R .low))
+    (known e .box .box .sound .ssd-size, (known e .box .box .page-size, R .low))
 
 answered-requires : tie.Need-answered-requires
 answered-requires c κs = search needs
@@ -85,13 +85,13 @@ store-page-requires-2 : tie.Need-store-page-requires-2
 store-page-requires-2 c κs =
     let e = c .before .before .before .before in
     let R = known e .row _ (c .before .before .condition2 .given .1) in
-    (known e .box .sound .ssd-size, (known e .box .page-size, R .low))
+    (known e .box .box .sound .ssd-size, (known e .box .box .page-size, R .low))
 
 close-slot-requires : tie.Need-close-slot-requires
 close-slot-requires c κs =
     let e = c .before .before .before .before .before .before .before .before in
     let R = known e .row _ (c .before .before .before .before .before .before .condition2 .given .1) in
-    (known e .box .record-kept, (open-listed _ _ _ _ _ (known e .box) _ (R .low) (R .writing-is), (R .within, R .writing-is)))
+    (known e .box .box .record-kept, (open-listed _ _ _ _ _ (known e .box) _ (R .low) (R .writing-is), (R .within, R .writing-is)))
 
 answered-requires-2 : tie.Need-answered-requires-2
 answered-requires-2 c κs = search needs

@@ -1,6 +1,6 @@
 use mathlib.Core.Path.{_∙_}
 use borrow.Author.Needs.{needs}
-use Rattle.cache.proofs.MoveLaws.{data-holds}
+use Rattle.serving.proofs.MoveLaws.{data-holds}
 use Rattle.cache.proofs.land.store_page.Statement.{statement}
 use Rattle.cache.proofs.land.store_page.Tie as tie
 

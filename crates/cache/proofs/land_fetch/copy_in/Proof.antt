@@ -1,6 +1,6 @@
 use mathlib.Core.Path.{_∙_}
 use borrow.Author.Needs.{needs}
-use Rattle.cache.proofs.MoveLaws.{data-holds, block-holds}
+use Rattle.serving.proofs.MoveLaws.{data-holds, block-holds}
 use Rattle.cache.proofs.land_fetch.copy_in.Statement.{statement}
 use Rattle.cache.proofs.land_fetch.copy_in.Tie as tie
 

@@ -6,10 +6,10 @@ use Rattle.protocol.specs.Plan.{landFetch, landingFetch}
 use Rattle.protocol.specs.Perform.{perform}
 use Rattle.protocol.specs.Judge.{takesFetch}
 use Rattle.protocol.specs.Calls.{boxOf, landFetchOf}
-use Rattle.cache.proofs.JudgingLaws.{found}
-use Rattle.cache.proofs.ServeLaws.{refused-by, land-fetch-judges}
-use Rattle.cache.proofs.ReadyLaws.{open-listed}
-use Rattle.cache.proofs.ServedLaws.{Served, served}
+use Rattle.serving.proofs.JudgingLaws.{found}
+use Rattle.serving.proofs.ServeLaws.{refused-by, land-fetch-judges}
+use Rattle.serving.proofs.ReadyLaws.{open-listed}
+use Rattle.serving.proofs.ServedLaws.{Served, served}
 use Rattle.cache.proofs.CallLaws.{land-fetch-wrong, land-fetch-is}
 use borrow.Author.Needs.{needs}
 use Rattle.cache.proofs.land_fetch.land_fetch.Statement.{statement}
@@ -84,13 +84,13 @@ copy-in-requires : tie.Need-copy-in-requires
 copy-in-requires c κs =
     let e = c .before .before .before .before in
     let R = known e .row _ (c .before .before .condition .given .1) in
-    (known e .box .sound .ssd-size, (known e .box .sound .hdd-size, (R .low, known e .low)))
+    (known e .box .box .sound .ssd-size, (known e .box .box .sound .hdd-size, (R .low, known e .low)))
 
 close-slot-requires : tie.Need-close-slot-requires
 close-slot-requires c κs =
     let e = c .before .before .before .before .before .before .before .before in
     let R = known e .row _ (c .before .before .before .before .before .before .condition .given .1) in
-    (known e .box .record-kept, (open-listed _ _ _ _ _ (known e .box) _ (R .low) (R .writing-is), (R .within, R .writing-is)))
+    (known e .box .box .record-kept, (open-listed _ _ _ _ _ (known e .box) _ (R .low) (R .writing-is), (R .within, R .writing-is)))
 
 answered-requires : tie.Need-answered-requires
 answered-requires c κs = search needs

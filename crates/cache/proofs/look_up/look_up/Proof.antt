@@ -5,10 +5,10 @@ use Rattle.protocol.specs.Box.{left}
 use Rattle.protocol.specs.Plan.{lookUp, lookingUp}
 use Rattle.protocol.specs.Perform.{perform}
 use Rattle.protocol.specs.Calls.{boxOf, lookUpOf}
-use Rattle.cache.proofs.JudgingLaws.{found}
-use Rattle.cache.proofs.ServeLaws.{refused-by, look-up-judges}
-use Rattle.cache.proofs.SlotLaws.{flags-low}
-use Rattle.cache.proofs.ServedLaws.{Served, served}
+use Rattle.serving.proofs.JudgingLaws.{found}
+use Rattle.serving.proofs.ServeLaws.{refused-by, look-up-judges}
+use Rattle.serving.proofs.SlotLaws.{flags-low}
+use Rattle.serving.proofs.ServedLaws.{Served, served}
 use Rattle.cache.proofs.CallLaws.{look-up-is}
 use Rattle.cache.proofs.look_up.look_up.Statement.{statement}
 use Rattle.cache.proofs.look_up.look_up.Tie as tie
@@ -61,7 +61,7 @@ use-slot-requires c κs =
     let e = c .before .before .before .before in
     let a = start e .args in
     let R = known e .row _ (c .before .before .condition .given .1) in
-    (R .within, flags-low (a .state) (a .table .now) (a .block) (known e .box .sound .table-size) (known e .box .rows) _ (R .low))
+    (R .within, flags-low (a .state) (a .table .now) (a .block) (known e .box .box .sound .table-size) (known e .box .box .rows) _ (R .low))
 
 answered-requires-2 : tie.Need-answered-requires-2
 answered-requires-2 c κs = search needs
@@ -74,7 +74,7 @@ use-slot-requires-2 c κs =
     let e = c .before .before .before .before in
     let a = start e .args in
     let R = known e .row _ (c .before .before .condition2 .given .1) in
-    (R .within, flags-low (a .state) (a .table .now) (a .block) (known e .box .sound .table-size) (known e .box .rows) _ (R .low))
+    (R .within, flags-low (a .state) (a .table .now) (a .block) (known e .box .box .sound .table-size) (known e .box .box .rows) _ (R .low))
 
 answered-requires-3 : tie.Need-answered-requires-3
 answered-requires-3 c κs = search needs

@@ -12,12 +12,12 @@ use Rattle.protocol.specs.Plan.{offer}
 use Rattle.protocol.specs.Perform.{confirmed, perform}
 use Rattle.protocol.specs.Judge.{isOpen, openRows}
 use Rattle.protocol.specs.Calls.{boxOf, offerOf}
-use Rattle.cache.specs.Moves.{openingNumber}
-use Rattle.cache.proofs.JudgingLaws.{found}
-use Rattle.cache.proofs.ServeLaws.{refused-by, offer-judges}
-use Rattle.cache.proofs.ReadyLaws.{fits, open-count}
-use Rattle.cache.proofs.SlotLaws.{flags-low}
-use Rattle.cache.proofs.ServedLaws.{Served, served}
+use Rattle.serving.specs.Moves.{openingNumber}
+use Rattle.serving.proofs.JudgingLaws.{found}
+use Rattle.serving.proofs.ServeLaws.{refused-by, offer-judges}
+use Rattle.serving.proofs.ReadyLaws.{open-count}
+use Rattle.serving.proofs.SlotLaws.{flags-low}
+use Rattle.serving.proofs.ServedLaws.{Served, served}
 use Rattle.cache.proofs.CallLaws.{offer-open, offer-swept, offer-dirty, may-open, offer-number, offer-clean}
 use borrow.Author.Needs.{needs}
 use Rattle.cache.proofs.offer.offer.Statement.{statement}
@@ -79,7 +79,7 @@ sweep-for-requires c κs =
     let e = c .before .before .before .before .before in
     let B = known e .box in
     let n = open-count _ _ _ _ _ B in
-    (fits _ _ _ _ _ B, (B .sound .hdd-size, (B .record-kept, (B .rows, (n, known e .writing-is)))))
+    (B .box .fits, (B .box .sound .hdd-size, (B .box .record-kept, (B .box .rows, (n, known e .writing-is)))))
 
 enum-known-condition : tie.Need-enum-known-condition
 enum-known-condition c = search needs
@@ -124,7 +124,7 @@ add-flags-2 c =
     let a = start e .args in
     let R = known e .row _ (c .before .before .before .before .before .condition .given .1) in
     let B = known e .box in
-    let f = flags-low (a .state) (a .table .now) (a .block) (B .sound .table-size) (B .rows) _ (R .low) in
+    let f = flags-low (a .state) (a .table .now) (a .block) (B .box .sound .table-size) (B .box .rows) _ (R .low) in
     omega (arith, f)
 
 open-slot-requires : tie.Need-open-slot-requires
@@ -136,7 +136,7 @@ open-slot-requires c κs =
     let a = start e .args in
     let m : a .state .count < 63 = rw (open-count (a .ssd .now) (a .hdd .now) 4096 (a .table .now) (a .state) B) (leb-false 63 (openRows (a .table .now)) (room n .0)) in
     let s = leb-false 4294967232 (a .state .newest) (room n .1) in
-    (fits _ _ _ _ _ B, (B .record-kept, (m, (omega (arith, s), R .low))))
+    (B .box .fits, (B .box .record-kept, (m, (omega (arith, s), R .low))))
 
 answered-requires : tie.Need-answered-requires
 answered-requires c κs = search needs

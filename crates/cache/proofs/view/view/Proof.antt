@@ -4,9 +4,9 @@ use Rattle.pages.specs.Parts.{part}
 use Rattle.protocol.specs.declared.Condition.{Condition}
 use Rattle.protocol.specs.Rows.{labelIn}
 use Rattle.protocol.specs.Calls.{viewPart, viewOf}
-use Rattle.cache.proofs.JudgingLaws.{found}
-use Rattle.cache.proofs.ServedLaws.{Served, served}
-use Rattle.cache.proofs.MoveLaws.{data-holds, block-holds}
+use Rattle.serving.proofs.JudgingLaws.{found}
+use Rattle.serving.proofs.ServedLaws.{Served, served}
+use Rattle.serving.proofs.MoveLaws.{data-holds, block-holds}
 use Rattle.cache.proofs.CallLaws.{view-refused, view-is}
 use borrow.Author.Needs.{needs}
 use Rattle.cache.proofs.view.view.Statement.{statement}
@@ -61,7 +61,7 @@ page-at-requires : tie.Need-page-at-requires
 page-at-requires c κs =
     let e = c .before .before .before .before in
     let a = start e .args in
-    block-holds (a .hdd .now) (a .state) (labelIn (a .state)) (a .block) _ (known e .box .sound .hdd-size) (known e .low) (c .block-place .ensures)
+    block-holds (a .hdd .now) (a .state) (labelIn (a .state)) (a .block) _ (known e .box .box .sound .hdd-size) (known e .low) (c .block-place .ensures)
 
 enum-known-condition : tie.Need-enum-known-condition
 enum-known-condition c = search needs
@@ -74,7 +74,7 @@ page-at-requires-2 c κs =
     let e = c .before .before .before .before .before in
     let a = start e .args in
     let R = known e .row _ (c .before .before .condition .given .1) in
-    data-holds (a .ssd .now) (a .state) _ _ _ (known e .box .sound .ssd-size) (R .low) (c .before .before .before .before .label .ensures) (c .data-place .ensures)
+    data-holds (a .ssd .now) (a .state) _ _ _ (known e .box .box .sound .ssd-size) (R .low) (c .before .before .before .before .label .ensures) (c .data-place .ensures)
 
 enum-known-condition-2 : tie.Need-enum-known-condition-2
 enum-known-condition-2 c = search needs
@@ -87,7 +87,7 @@ page-at-requires-3 c κs =
     let e = c .before .before .before .before .before in
     let a = start e .args in
     let R = known e .row _ (c .before .before .condition2 .given .1) in
-    data-holds (a .ssd .now) (a .state) _ _ _ (known e .box .sound .ssd-size) (R .low) (c .before .before .before .before .label .ensures) (c .data-place2 .ensures)
+    data-holds (a .ssd .now) (a .state) _ _ _ (known e .box .box .sound .ssd-size) (R .low) (c .before .before .before .before .label .ensures) (c .data-place2 .ensures)
 
 enum-told-2 : tie.Need-enum-told-2
 enum-told-2 c = search needs
@@ -99,7 +99,7 @@ page-at-requires-4 : tie.Need-page-at-requires-4
 page-at-requires-4 c κs =
     let e = c .before .before .before .before in
     let a = start e .args in
-    block-holds (a .hdd .now) (a .state) (labelIn (a .state)) (a .block) _ (known e .box .sound .hdd-size) (known e .low) (c .block-place2 .ensures)
+    block-holds (a .hdd .now) (a .state) (labelIn (a .state)) (a .block) _ (known e .box .box .sound .hdd-size) (known e .low) (c .block-place2 .ensures)
 
 enum-told-3 : tie.Need-enum-told-3
 enum-told-3 c = search needs
@@ -111,7 +111,7 @@ page-at-requires-5 : tie.Need-page-at-requires-5
 page-at-requires-5 c κs =
     let e = c .before .before .before .before in
     let a = start e .args in
-    block-holds (a .hdd .now) (a .state) (labelIn (a .state)) (a .block) _ (known e .box .sound .hdd-size) (known e .low) (c .block-place3 .ensures)
+    block-holds (a .hdd .now) (a .state) (labelIn (a .state)) (a .block) _ (known e .box .box .sound .hdd-size) (known e .low) (c .block-place3 .ensures)
 
 returns-2 : tie.Need-returns-2
 returns-2 c =

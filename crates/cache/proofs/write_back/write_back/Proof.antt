@@ -6,10 +6,9 @@ use Rattle.protocol.specs.Plan.{writeBack, writingBack}
 use Rattle.protocol.specs.Perform.{perform}
 use Rattle.protocol.specs.Judge.{isOpen}
 use Rattle.protocol.specs.Calls.{boxOf, writeBackOf}
-use Rattle.cache.proofs.JudgingLaws.{found}
-use Rattle.cache.proofs.ServeLaws.{refused-by, write-back-judges}
-use Rattle.cache.proofs.ReadyLaws.{fits}
-use Rattle.cache.proofs.ServedLaws.{Served, served}
+use Rattle.serving.proofs.JudgingLaws.{found}
+use Rattle.serving.proofs.ServeLaws.{refused-by, write-back-judges}
+use Rattle.serving.proofs.ServedLaws.{Served, served}
 use Rattle.cache.proofs.CallLaws.{write-back-open, write-back-is}
 use borrow.Author.Needs.{needs}
 use Rattle.cache.proofs.write_back.write_back.Statement.{statement}
@@ -72,8 +71,8 @@ copy-out-requires : tie.Need-copy-out-requires
 copy-out-requires c κs =
     let e = c .before .before .before .before .before in
     let R = known e .row _ (c .before .before .before .condition .given .1) in
-    let L = known e .box .sound in
-    (fits _ _ _ _ _ (known e .box), (L .hdd-size, (L .limits .blocks-most, (R .low, (rw (R .block-is) (known e .low), R .dirty-is)))))
+    let L = known e .box .box .sound in
+    (known e .box .box .fits, (L .hdd-size, (L .limits .blocks-most, (R .low, (rw (R .block-is) (known e .low), R .dirty-is)))))
 
 answered-requires-3 : tie.Need-answered-requires-3
 answered-requires-3 c κs = search needs

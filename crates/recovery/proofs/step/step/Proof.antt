@@ -1,13 +1,15 @@
 use mathlib.Core.Path.{_≡_}
 use lib.ListN.{length}
 use borrow.Author.Tests.{le-leb, lt-leb}
+use Rattle.layout.proofs.PlaceLaws.{within}
 use Rattle.protocol.specs.Plan.{step}
 use Rattle.protocol.specs.Perform.{confirmed, perform}
 use Rattle.protocol.specs.Calls.{boxOf}
-use Rattle.cache.specs.Judging.{soundThen}
-use Rattle.cache.proofs.JudgingLaws.{found, looked}
-use Rattle.cache.proofs.ServeLaws.{refused-by}
-use Rattle.recovery.proofs.StepLaws.{Sound, sound, step-judges, step-ready, step-formats, step-spent, step-mends, steps-low, some-pending}
+use Rattle.serving.specs.Judging.{soundThen}
+use Rattle.serving.proofs.JudgingLaws.{found, looked}
+use Rattle.serving.proofs.ServeLaws.{refused-by}
+use Rattle.serving.proofs.ReadyLaws.{SoundBox, sound}
+use Rattle.recovery.proofs.StepLaws.{step-judges, step-ready, step-formats, step-spent, step-mends, steps-low, some-pending}
 use borrow.Author.Needs.{needs}
 use Rattle.recovery.proofs.step.step.Statement.{statement}
 use Rattle.recovery.proofs.step.step.Tie as tie
@@ -21,8 +23,8 @@ passed : (c : tie.Else1) → let a = start c .args in
 passed c = let a = start c .args in
     looked _ (a .table .now) (record { 0 = 0 }) (c .before .sound .ensures) (c .if1 .left) .none
 
-box : (c : tie.Else1) → let a = start c .args in Sound (a .ssd .now) (a .hdd .now) (a .table .now) (a .state)
-box c = let a = start c .args in sound (a .ssd .now) (a .hdd .now) (a .table .now) (a .state) (passed c)
+box : (c : tie.Else1) → let a = start c .args in SoundBox (a .ssd .now) (a .hdd .now) 4096 (a .table .now) (a .state)
+box c = let a = start c .args in sound (a .ssd .now) (a .hdd .now) 4096 (a .table .now) (a .state) (passed c)
 
 sound-requires : tie.Need-sound-requires
 sound-requires c κs = search needs
@@ -52,7 +54,7 @@ format-step-requires : tie.Need-format-step-requires
 format-step-requires c κs =
     let e = c .before .before .before .before in
     let S = box e in
-    (S .fits, (S .within, steps-low _ _ _ _ S _ (c .before .before .phase .given .1)))
+    (S .fits, (within _ .1 (S .sound .limits), steps-low _ _ _ _ S _ (c .before .before .phase .given .1)))
 
 answered-requires : tie.Need-answered-requires
 answered-requires c κs = search needs

@@ -1,5 +1,5 @@
 use Rattle.protocol.specs.Recovery.{entryIn}
-use Rattle.cache.proofs.MoveLaws.{meta-of-low}
+use Rattle.serving.proofs.MoveLaws.{meta-of-low}
 use borrow.Author.Needs.{needs}
 use Rattle.recovery.proofs.stored.entry_of.Statement.{statement}
 use Rattle.recovery.proofs.stored.entry_of.Tie as tie

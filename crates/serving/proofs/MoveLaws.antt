@@ -1,0 +1,77 @@
+-- The moves: the rows of a metadata page as a part of the table, places within the images, and a record whose window grew.
+use Prim.Native.Nat.{ℕ, _-_, _*_, _≤_, _<_}
+use mathlib.Core.Path.{_≡_, sym, ap, _∙_}
+use mathlib.Core.Bool.{true}
+use mathlib.Core.List.{List}
+use native.Mathlib.Omega.{arith}
+use native.Mathlib.Nat.{add-sub-cancel-left}
+use lib.ListN.{length, take, drop, length-drop, length-append, length-set}
+use lib.Seq.{take-all}
+use lib.Dec.{ltb}
+use borrow.Author.Tests.{ltb-true}
+use Rattle.pages.specs.Pages.{putPage, Holds}
+use Rattle.layout.specs.declared.Slot.{Slot}
+use Rattle.layout.specs.declared.Block.{Block}
+use Rattle.layout.specs.declared.Label.{Label}
+use Rattle.layout.specs.Places.{metaPages, metaPlace, dataPlace, blockPlace, metaOf, ssdLength, hddLength}
+use Rattle.layout.specs.MetaPage.{encodeMeta, rowsOn}
+use Rattle.protocol.specs.declared.Record.{Record}
+use Rattle.protocol.specs.Rows.{labelIn, windowIn, setRow}
+use Rattle.protocol.specs.Judge.{recordTest}
+use Rattle.protocol.specs.Perform.{joined}
+use Rattle.layout.proofs.Booleans.{Told, told, told-true, told-false}
+use Rattle.table.proofs.RecordLaws.{kept, window-is, window-length}
+use Rattle.serving.specs.Moves.{Fits, rowsEnd}
+
+-- the rows of a metadata page, the last of which may be cut short by the table's end
+rows-part : (table : List ℕ) (start : ℕ) → start ≤ length table
+    → take (rowsEnd (length table) start - start) (drop start table) ≡ take 480 (drop start table)
+rows-part table start h = go (told (ltb (length table - start) 480))
+  where
+    go : Told (ltb (length table - start) 480)
+        → take (rowsEnd (length table) start - start) (drop start table) ≡ take 480 (drop start table)
+    go (told-true e) =
+        let l : length table - start < 480 = ltb-true _ _ e in
+        rw (e, rowsEnd) (take-all (length table - start) (drop start table) (simp length-drop (omega arith))
+        ∙ sym (take-all 480 (drop start table) (simp length-drop (omega arith))))
+    go (told-false e) = rw (e, rowsEnd) (ap (λ (n : ℕ). take n (drop start table)) (add-sub-cancel-left start 480))
+
+-- a metadata page that was stored
+pub meta-stored : (ssd table after page : List ℕ) (state : Record) (stamp p place end : ℕ) → 480 * p ≤ length table
+    → end ≡ rowsEnd (length table) (480 * p) → place ≡ metaPlace (labelIn state) p
+    → page ≡ encodeMeta stamp (take (state .count) (state .window)) (take (end - 480 * p) (drop (480 * p) table))
+    → after ≡ putPage ssd place page
+    → after ≡ putPage ssd (metaPlace (labelIn state) p) (encodeMeta stamp (windowIn state) (rowsOn p table))
+meta-stored ssd table after page state stamp p place end h e f g k =
+    rw (k, g, f, e, rows-part table (480 * p) h, window-is state)
+
+-- a metadata page holds a slot of the table
+pub meta-low : (l : Label) (p : ℕ) → p < metaPages l → 240 * p < l .slots
+unfolding metaPages
+meta-low l p h = omega arith
+
+pub meta-of-low : (l : Label) (s : Slot) → s .0 < l .slots → metaOf s < metaPages l
+unfolding metaPages
+meta-of-low l s h = omega arith
+
+-- a slot's page lies within the SSD image, a block's within the HDD image
+pub data-holds : (ssd : List ℕ) (state : Record) (l : Label) (s : Slot) (place : ℕ) → length ssd ≡ ssdLength (labelIn state)
+    → s .0 < state .slots → l ≡ labelIn state → place ≡ dataPlace l s → Holds ssd place
+data-holds ssd state l s place size h e f = rw (f, e) (omega arith)
+
+pub block-holds : (hdd : List ℕ) (state : Record) (l : Label) (b : Block) (place : ℕ) → length hdd ≡ hddLength (labelIn state)
+    → b .0 < state .blocks → place ≡ blockPlace l b → Holds hdd place
+block-holds hdd state l b place size h e = omega arith
+
+-- a row is set and its slot joins the window: the lengths still fit
+pub joined-fits : (ssd : ℕ) (table after : List ℕ) (state next : Record) (s hand : Slot) (b : Block) (flags : ℕ)
+    → Fits ssd (length table) state → recordTest state ≡ true → state .count < 63 → after ≡ setRow table s b flags
+    → next ≡ joined s hand state → Fits ssd (length after) next
+joined-fits ssd table after state next s hand b flags F t h e f =
+    let n : length (windowIn state) ≡ state .count = window-length state (kept state t) in
+    rw (f, e) (record {
+      ssd-size = F .ssd-size;
+      table-size = simp length-set (F .table-size);
+      slots-most = F .slots-most;
+      window-most = rw length-append (omega arith);
+    })

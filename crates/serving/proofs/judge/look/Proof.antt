@@ -1,0 +1,86 @@
+use mathlib.Core.Path.{_≡_, sym, ap, _∙_}
+use mathlib.Core.Bool.{true, false}
+use borrow.Author.Tests.{not-true, not-false}
+use Rattle.layout.specs.declared.Label.{Label}
+use Rattle.protocol.specs.Judge.{rowsTest}
+use Rattle.protocol.specs.Rows.{labelIn}
+use Rattle.table.specs.Scan.{scanOf, legalRows}
+use Rattle.table.proofs.ScanLaws.{Scanned, scanned, scan-judges}
+use Rattle.table.proofs.ConditionLaws.{condition-is}
+use Rattle.serving.proofs.JudgingLaws.{rows-bad, rows-agree}
+use borrow.Author.Needs.{needs}
+use Rattle.serving.proofs.judge.look.Statement.{statement}
+use Rattle.serving.proofs.judge.look.Tie as tie
+
+label-requires : tie.Need-label-requires
+label-requires c κs = search needs
+
+scan-requires : tie.Need-scan-requires
+scan-requires c κs = rw (c .label .ensures) (c .before .before .pre .1)
+
+-- what the scan found, by the record's own label
+scan-is : (c : tie.After-scan) → let s = c .before .before .before in
+    c .scan .result ≡ scanOf (labelIn (s .args .state)) (s .args .table .now) (s .args .b)
+scan-is c =
+    let s = c .before .before .before in
+    c .scan .ensures ∙ ap (λ (l : Label). scanOf l (s .args .table .now) (s .args .b)) (c .before .label .ensures)
+
+seen : (c : tie.Else1) → let s = c .before .before .before .before .before in
+    Scanned (labelIn (s .args .state)) (s .args .table .now) (s .args .b) (c .before .before .scan .result)
+seen c = scanned _ _ _ _ (scan-is (c .before .before)) (not-false _ (c .if1 .left))
+
+refused-requires : tie.Need-refused-requires
+refused-requires c κs = search needs
+
+returns : tie.Need-returns
+returns c =
+    let s = c .before .before .before .before .before .before in
+    let q : legalRows (labelIn (s .args .state)) (s .args .table .now) ≡ false =
+    sym (scan-judges _ _ _ _ (scan-is (c .before .before .before))) ∙ not-true _ (c .before .if1 .taken) in
+    rw (rows-bad (s .args .state) (s .args .table .now) q) (c .refused .ensures)
+
+agrees-requires : tie.Need-agrees-requires
+agrees-requires c κs =
+    let s = c .before .before .before .before .before in
+    let k = seen c in
+    (s .pre .0, (s .pre .1, (k .rows, (k .open-are, k .busy-are))))
+
+refused-requires-2 : tie.Need-refused-requires-2
+refused-requires-2 c κs = search needs
+
+returns-2 : tie.Need-returns-2
+returns-2 c =
+    let s = c .before .before .before .before .before .before .before .before in
+    let e = c .before .before in
+    let q : rowsTest (s .args .state) (s .args .table .now) ≡ false =
+    sym (rows-agree _ _ (seen (e .before) .rows)) ∙ sym (e .agrees .ensures) ∙ not-true _ (c .before .if2 .taken) in
+    rw q (c .refused2 .ensures)
+
+condition-requires : tie.Need-condition-requires
+condition-requires c κs =
+    let e = c .before .before .before .before in
+    rw (e .before .label .ensures) (e .before .before .before .pre .1)
+
+returns-3 : tie.Need-returns-3
+returns-3 c =
+    let s = c .before .before .before .before .before .before .before .before in
+    let e = c .before .before in
+    let k = seen (e .before) in
+    let q : rowsTest (s .args .state) (s .args .table .now) ≡ true =
+    sym (rows-agree _ _ (k .rows)) ∙ sym (e .agrees .ensures) ∙ not-false _ (c .before .if2 .left) in
+    let n = condition-is (s .args .table .now) (s .args .b) (s .args .state .slots) (s .pre .1) in
+    rw (q, c .condition .ensures, k .open-are, k .found-at, e .before .before .before .before .label .ensures, n)
+
+pub look-spec : {M : Type 1} → statement M
+look-spec =
+    tie.close
+    (tie.spec
+    label-requires
+    scan-requires
+    refused-requires
+    returns
+    agrees-requires
+    refused-requires-2
+    returns-2
+    condition-requires
+    returns-3)
