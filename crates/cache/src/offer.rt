@@ -1,4 +1,4 @@
-// "Offer a block": dirty and not open "overwrite", clean "announced", not cached swept for.
+// "Offer a write of a block": dirty and not open "overwrite", clean "announced", not cached swept for.
 use layout::Block;
 use protocol::Answer;
 use protocol::Condition;

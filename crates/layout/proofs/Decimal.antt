@@ -56,25 +56,28 @@ length-least k n = go (decLt n 10)
         let m : 10 ≤ n = omega arith in
         rw (digits-large k n m, length-append) (omega arith)
 
--- a number of a label has 1 to 8 digits
-pub decimal-size : (n : ℕ) → (1 ≤ length (decimal n)) × (length (decimal n) ≤ 8)
-decimal-size n = (length-least 7 n, length-most 8 n)
+-- a number has 1 to 10 digits
+pub decimal-size : (n : ℕ) → (1 ≤ length (decimal n)) × (length (decimal n) ≤ 10)
+decimal-size n = (length-least 9 n, length-most 10 n)
+
+pub decimal-long : (n : ℕ) → 10 ≤ n → 2 ≤ length (decimal n)
+decimal-long n h = rw (digits-large 9 n h, length-append) (omega (arith, length-least 8 (n / 10)))
 
 pub decimal-one : (n : ℕ) → n < 10 → decimal n ≡ (48 + n) ∷ []
-decimal-one n h = digits-small 7 n h
+decimal-one n h = digits-small 9 n h
 
 -- a number's digits: those of its tenth, and the last
-pub decimal-more : (n : ℕ) → 10 ≤ n → n < 100000000 → decimal n ≡ decimal (n / 10) ++ ((48 + n % 10) ∷ [])
-decimal-more n h l = digits-large 7 n h ∙ ap (λ (t : List ℕ). t ++ ((48 + n % 10) ∷ [])) (sym (spare 6 (n / 10) (omega arith)))
+pub decimal-more : (n : ℕ) → 10 ≤ n → n < 10000000000 → decimal n ≡ decimal (n / 10) ++ ((48 + n % 10) ∷ [])
+decimal-more n h l = digits-large 9 n h ∙ ap (λ (t : List ℕ). t ++ ((48 + n % 10) ∷ [])) (sym (spare 8 (n / 10) (omega arith)))
 
-pub length-more : (n : ℕ) → 10 ≤ n → n < 100000000 → length (decimal n) ≡ length (decimal (n / 10)) + 1
+pub length-more : (n : ℕ) → 10 ≤ n → n < 10000000000 → length (decimal n) ≡ length (decimal (n / 10)) + 1
 length-more n h l = ap length (decimal-more n h l) ∙ length-append (decimal (n / 10)) ((48 + n % 10) ∷ [])
 
 pub decimal-push : (a d : ℕ) → 0 < a → d < 10 → 10 * a + d < 100000000 → decimal (10 * a + d) ≡ decimal a ++ ((48 + d) ∷ [])
 decimal-push a d p l h =
     let q : (10 * a + d) / 10 ≡ a = omega arith in
     let r : (10 * a + d) % 10 ≡ d = omega arith in
-    decimal-more (10 * a + d) (omega arith) h ∙ rw (q, r)
+    decimal-more (10 * a + d) (omega arith) (omega arith) ∙ rw (q, r)
 
 -- Read, a byte at a time.
 
@@ -152,7 +155,11 @@ read-digits (suc k) n t m p h =
 
 -- a number that was written is read again
 pub number-back : (n : ℕ) (rest : List ℕ) → 0 < n → n < 100000000 → number (decimal n ++ (10 ∷ rest)) ≡ some (record { value = n; rest = rest })
-number-back n rest p h = read-digits 8 n (10 ∷ rest) (omega arith) p h ∙ from-line (8 - length (decimal n)) n rest
+number-back n rest p h =
+    let e : decimal n ≡ digits 8 n = spare 8 n (omega arith) ∙ spare 7 n h in
+    ap (λ (t : List ℕ). number (t ++ (10 ∷ rest))) e
+    ∙ read-digits 8 n (10 ∷ rest) (omega arith) p h
+    ∙ from-line (8 - length (digits 8 n)) n rest
 
 -- Read, then written.
 

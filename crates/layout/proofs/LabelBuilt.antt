@@ -21,9 +21,10 @@ lineOf n = decimal n ++ (10 ∷ [])
 pub length-line : (n : ℕ) → length (lineOf n) ≡ length (decimal n) + 1
 length-line n = length-append (decimal n) (10 ∷ [])
 
--- byte 10 stored after digits that were stored
-pub line-put : (page d : List ℕ) (at k : ℕ) → length d ≡ k → at + k < length page → set (putMid at k page d) (at + k) 10 ≡ putMid at (k + 1) page (d ++ (10 ∷ []))
-line-put page d at k e h =
+-- a byte stored after digits that were stored
+pub line-put : (page d : List ℕ) (at k b : ℕ) → length d ≡ k → at + k < length page
+    → set (putMid at k page d) (at + k) b ≡ putMid at (k + 1) page (d ++ (b ∷ []))
+line-put page d at k b e h =
     let x : ℕ = getD page (at + k) 0 in
     let r : List ℕ = drop (k + 1) (drop at page) in
     let n : at + k + 1 ≡ at + (k + 1) = omega arith in
@@ -31,9 +32,9 @@ line-put page d at k e h =
     drop-drop k at page ∙ left page (at + k) 0 h ∙ ap (λ (j : ℕ). x ∷ drop j page) n ∙ ap (λ (t : List ℕ). x ∷ t) (sym (drop-drop (k + 1) at page))
     in
     let l : length (take at page ++ d) ≡ at + k = simp (length-append, length-take, e) (omega arith) in
-    ap (λ (t : List ℕ). set (take at page ++ (d ++ t)) (at + k) 10) q
-    ∙ ap (λ (t : List ℕ). set t (at + k) 10) (sym (append-assoc (take at page) d (x ∷ r)))
-    ∙ set-at (take at page ++ d) x r 10 (at + k) l
+    ap (λ (t : List ℕ). set (take at page ++ (d ++ t)) (at + k) b) q
+    ∙ ap (λ (t : List ℕ). set t (at + k) b) (sym (append-assoc (take at page) d (x ∷ r)))
+    ∙ set-at (take at page ++ d) x r b (at + k) l
     ∙ simp append-assoc
 
 -- a text stored after the text of a padded page

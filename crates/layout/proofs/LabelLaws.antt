@@ -29,7 +29,7 @@ text-then : (l : Label) (rest : List ℕ) → labelText l ++ rest ≡ textThen l
 unfolding labelText
 text-then l rest = simp append-assoc
 
-text-size : (l : Label) → length (labelText l) ≤ 52
+text-size : (l : Label) → length (labelText l) ≤ 56
 unfolding labelText
 text-size l =
     let s = decimal-size (l .slots) in

@@ -28,9 +28,9 @@ unfoldable pub digits : ℕ → ℕ → List ℕ
 digits zero n = []
 digits (suc k) n = elim (ltb n 10) [ true ↦ (48 + n) ∷ [] | false ↦ digits k (n / 10) ++ ((48 + n % 10) ∷ []) ]
 
--- a number of a label, which has at most 8 digits
+-- a 32-bit number, which has at most 10 digits
 abbrev pub decimal : ℕ → List ℕ
-decimal n = digits 8 n
+decimal n = digits 10 n
 
 -- the label page: its lines, "then zero bytes to the page's end"
 unfoldable pub labelText : Label → List ℕ

@@ -2,16 +2,16 @@
 use crate::Label;
 use crate::LabelRead;
 use crate::places;
+use crate::text;
 use crate::zeros;
 ghost use mathlib.Core.Path.{_≡_};
 ghost use mathlib.Core.Bool.{true, _&&_};
 ghost use mathlib.Core.List.{[], _∷_, _++_};
 ghost use Prim.Native.Nat.{_+_, _≤_, _<_};
 ghost use lib.ListN.{length, drop};
-ghost use borrow.Rule.Slice.PartMut.{putMid};
 ghost use Rattle.pages.specs.Pages.{padded};
 ghost use Rattle.layout.specs.Places.{labelOf, withinLimits};
-ghost use Rattle.layout.specs.LabelPage.{decimal, encodeLabel, decodeLabel, after, number, allZero, legalIf};
+ghost use Rattle.layout.specs.LabelPage.{encodeLabel, decodeLabel, after, number, allZero, legalIf};
 ghost use Rattle.layout.specs.LabelScan.{found, scanOf, blocksRead};
 
 // A number that was read, with the offset of the bytes after its line.
@@ -20,65 +20,16 @@ pub enum Scan {
     Nothing,
 }
 
-// How many digits a number has.
-fn decimal_len(n: u32) -> usize
-    requires { ⌜ n < 100000000 ⌝ }
-    ensures { λ r. ⌜ r ≡ length (decimal n) ⌝ }
-{
-    let mut rest = n;
-    let mut count: usize = 1;
-    while 10 <= rest {
-        rest = rest / 10;
-        count += 1;
-    }
-    count
-}
-
-// Writes a number's digits over a part that is as long, the last digit first.
-fn put_decimal(part: &mut [u8], n: u32)
-    requires { ⌜ (n < 100000000) × (length (now part) ≡ length (decimal n)) ⌝ }
-    ensures { λ _. ⌜ now (part .exit) ≡ decimal n ⌝ }
-{
-    let mut rest = n;
-    let mut i = part.len() - 1;
-    while 10 <= rest {
-        part[i] = (48 + rest % 10) as u8;
-        rest = rest / 10;
-        i -= 1;
-    }
-    part[i] = (48 + rest) as u8;
-}
-
-// Writes a text over the bytes from `at` on.
-fn put_text(page: &mut [u8], at: usize, text: &[u8])
-    requires { ⌜ at + length (now text) ≤ length (now page) ⌝ }
-    ensures { λ _. ⌜ now (page .exit) ≡ putMid at (length (now (text .entry))) (now (page .entry)) (now (text .entry)) ⌝ }
-{
-    let end = at + text.len();
-    pages::copy(&mut page[at..end], text);
-}
-
-// Writes a number and byte 10 over the bytes from `at` on, and gives the offset after them.
-fn put_number(page: &mut [u8], at: usize, n: u32) -> usize
-    requires { ⌜ (n < 100000000) × (at + length (decimal n) < length (now page)) ⌝ }
-    ensures { λ r. ⌜ (r ≡ at + (length (decimal n) + 1)) × (now (page .exit) ≡ putMid at (length (decimal n) + 1) (now (page .entry)) (decimal n ++ (10 ∷ []))) ⌝ }
-{
-    let end = at + decimal_len(n);
-    put_decimal(&mut page[at..end], n);
-    page[end] = 10;
-    end + 1
-}
-
 // Writes a label over a zero page.
 fn fill_label(page: &mut [u8], l: Label)
     requires { ⌜ (now page ≡ padded 4096 []) × (length (now page) ≡ 4096) ⌝ }
     requires { ⌜ withinLimits l ≡ true ⌝ }
     ensures { λ _. ⌜ now (page .exit) ≡ encodeLabel l ⌝ }
 {
-    put_text(page, 0, b"cache=lufuw\nlayout=1\nslots=");
-    let end = put_number(page, 27, l.slots);
-    put_text(page, end, b"blocks=");
-    put_number(page, end + 7, l.blocks);
+    text::put_text(page, 0, b"cache=lufuw\nlayout=1\nslots=");
+    let end = text::put_number(page, 27, l.slots, 10);
+    text::put_text(page, end, b"blocks=");
+    text::put_number(page, end + 7, l.blocks, 10);
 }
 
 // The page of a label.

@@ -1,7 +1,8 @@
 // What is stored: slot and block numbers, the label, and where each page of the two images lies; the label page, written
-// and read; what a metadata page is (crate metadata has its code).
+// and read; text and decimal numbers; what a metadata page is (crate metadata has its code).
 pub mod label_page;
 pub mod places;
+pub mod text;
 pub mod zeros;
 
 // The number of a slot: a place in the SSD, counted from 0.

@@ -79,7 +79,7 @@ fn legal_window(l: Label, page: &[u8]) -> bool
     zeros::all_zero(page, 16 + 4 * (count as usize), 268)
 }
 
-// The rule of a block and stored flags, in an entry or a table row: "legal sums 0, 1, 3, 5, 7".
+// The rule of a stored entry's block and flags: "legal sums 0, 1, 3, 5, 7".
 pub fn legal_pair(l: Label, block: u32, flags: u32) -> bool
     ensures { λ r. ⌜ r ≡ pairTest l block flags ⌝ }
 {

@@ -94,7 +94,7 @@ fn is_ready(phase: Phase) -> bool
     }
 }
 
-// And 6.
+// Numbers 3 to 6.
 pub fn ready(ssd: usize, hdd: usize, page: usize, table: &[u32], state: Record, b: Block) -> Judged
     ensures { λ r. ⌜ r ≡ judgedBy (readyThen ssd hdd page (now (table .entry)) state 0) (now (table .entry)) b ⌝ }
 {
@@ -109,7 +109,7 @@ pub fn ready(ssd: usize, hdd: usize, page: usize, table: &[u32], state: Record, 
     judged
 }
 
-// And 7.
+// Numbers 3 to 7.
 pub fn serves(ssd: usize, hdd: usize, page: usize, table: &[u32], state: Record, b: Block) -> Judged
     ensures { λ r. ⌜ r ≡ judgedBy (servesThen ssd hdd page (now (table .entry)) state b 0) (now (table .entry)) b ⌝ }
 {

@@ -1,8 +1,8 @@
 use native.Mathlib.Nat.{add-sub-cancel-left}
 use native.Mathlib.Omega.{arith}
 use borrow.Author.Needs.{needs}
-use Rattle.layout.proofs.label_page.put_text.Statement.{statement}
-use Rattle.layout.proofs.label_page.put_text.Tie as tie
+use Rattle.layout.proofs.text.put_text.Statement.{statement}
+use Rattle.layout.proofs.text.put_text.Tie as tie
 
 add-end : tie.Need-add-end
 add-end c = search needs

@@ -7,12 +7,12 @@ use Rattle.layout.proofs.Decimal.{decimal-size, decimal-one, decimal-mo
 use Rattle.layout.proofs.LabelSteps.{drop-put}
 use borrow.Author.Needs.{needs}
 use native.Mathlib.Omega.{arith}
-use Rattle.layout.proofs.label_page.put_decimal.Statement.{statement}
-use Rattle.layout.proofs.label_page.put_decimal.Tie as tie
+use Rattle.layout.proofs.text.put_decimal.Statement.{statement}
+use Rattle.layout.proofs.text.put_decimal.Tie as tie
 
 abbrev Inv-loop : tie.InvT-loop
 Inv-loop part₀ n rest₀ i₀ part rest i =
-    (rest < 100000000) × (length part ≡ length part₀) × (i < length part) × (length (decimal rest) ≡ i + 1) × (decimal rest ++ drop (i + 1) part ≡ decimal n)
+    (rest < 10000000000) × (length part ≡ length part₀) × (i < length part) × (length (decimal rest) ≡ i + 1) × (decimal rest ++ drop (i + 1) part ≡ decimal n)
 
 abbrev μ-loop : tie.MeasureT-loop
 μ-loop part₀ n rest₀ i₀ part rest i = rest

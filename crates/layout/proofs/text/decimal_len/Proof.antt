@@ -5,11 +5,11 @@ use Rattle.layout.specs.LabelPage.{decimal}
 use Rattle.layout.proofs.Decimal.{decimal-size, decimal-one, length-more}
 use borrow.Author.Needs.{needs}
 use native.Mathlib.Omega.{arith}
-use Rattle.layout.proofs.label_page.decimal_len.Statement.{statement}
-use Rattle.layout.proofs.label_page.decimal_len.Tie as tie
+use Rattle.layout.proofs.text.decimal_len.Statement.{statement}
+use Rattle.layout.proofs.text.decimal_len.Tie as tie
 
 abbrev Inv-loop : tie.InvT-loop
-Inv-loop n rest₀ count₀ rest count = (rest < 100000000) × (count + length (decimal rest) ≡ length (decimal n) + 1)
+Inv-loop n rest₀ count₀ rest count = (rest < 10000000000) × (count + length (decimal rest) ≡ length (decimal n) + 1)
 
 abbrev μ-loop : tie.MeasureT-loop
 μ-loop n rest₀ count₀ rest count = rest

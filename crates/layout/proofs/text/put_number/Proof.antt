@@ -8,8 +8,8 @@ use Rattle.layout.specs.LabelPage.{decimal}
 use Rattle.layout.proofs.LabelBuilt.{line-put}
 use native.Mathlib.Omega.{arith}
 use borrow.Author.Needs.{needs}
-use Rattle.layout.proofs.label_page.put_number.Statement.{statement}
-use Rattle.layout.proofs.label_page.put_number.Tie as tie
+use Rattle.layout.proofs.text.put_number.Statement.{statement}
+use Rattle.layout.proofs.text.put_number.Tie as tie
 
 decimal-len-requires : tie.Need-decimal-len-requires
 decimal-len-requires c κs = search needs
@@ -46,8 +46,8 @@ returns c =
     let e : d .decimal-len .result ≡ n = d .decimal-len .ensures in
     let k : a .at + d .decimal-len .result - a .at ≡ n = add-sub-cancel-left _ _ ∙ e in (
       omega arith,
-      (λ i. set (putMid (a .at) (k i) (a .page .now) (c .before .before .put-decimal .ensures i)) (a .at + e i) 10)
-          ∙ line-put (a .page .now) (decimal (a .n)) (a .at) n refl (d .before .before .pre .1),
+      (λ i. set (putMid (a .at) (k i) (a .page .now) (c .before .before .put-decimal .ensures i)) (a .at + e i) (a .last))
+          ∙ line-put (a .page .now) (decimal (a .n)) (a .at) n (a .last) refl (d .before .before .pre),
     )
 
 pub put-number-spec : {M : Type 1} → statement M

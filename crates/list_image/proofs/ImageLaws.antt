@@ -1,0 +1,72 @@
+-- The text of an image, case by case.
+use Prim.Native.Nat.{ℕ, _+_, _≤_}
+use mathlib.Core.Path.{_≡_, sym, ap, _∙_}
+use mathlib.Core.Bool.{true, false}
+use mathlib.Core.List.{List, [], _++_}
+use native.Mathlib.Omega.{arith}
+use native.Mathlib.Numerals.{add-one}
+use lib.ListN.{length, take}
+use lib.Dec.{eqb, leb}
+use Rattle.layout.specs.declared.Slot.{Slot}
+use Rattle.layout.specs.declared.Label.{Label}
+use Rattle.layout.specs.declared.LabelRead.{LabelRead}
+use Rattle.layout.specs.declared.LabelRead.the-variants.{Legal, Illegal}
+use Rattle.layout.specs.Places.{Limits, ssdLength}
+use Rattle.protocol.specs.declared.Phase.the-variants.{Ready}
+use Rattle.protocol.specs.Rows.{recordOf}
+use Rattle.protocol.specs.Recovery.{metasOf, entryIn, Newest, newestOf, pagesTest}
+use Rattle.protocol.proofs.Windows.{take-array}
+use Rattle.recovery.specs.declared.Pending.{Pending}
+use Rattle.recovery.specs.Pending.{pendingOf}
+use Rattle.recovery.specs.Stored.{labelIf, newestAt}
+use Rattle.recovery.proofs.ReopenLaws.{limits}
+use Rattle.list_image.specs.Listing.{headText, lineOf, linesOf, imageText, refusalText, textIf, judgedText, listingOf}
+
+-- a slot's line after those of the slots before it
+pub lines-more : (w : List Slot) (pages : List (List ℕ)) (n : ℕ)
+    → linesOf w pages n ++ lineOf w (record { 0 = n }) (entryIn pages (record { 0 = n })) ≡ linesOf w pages (n + 1)
+unfolding linesOf
+lines-more w pages n = rw add-one
+
+-- the newest page as it was found
+pub image-is : (l : Label) (pages : List (List ℕ)) (n : Newest) (stamp : ℕ) (left : Pending) → n ≡ newestOf pages
+    → stamp ≡ newestOf pages .stamp → left ≡ pendingOf (n .window)
+    → headText l stamp (left .count) ++ linesOf (take (left .count) (left .window)) pages (l .slots) ≡ imageText l pages (newestOf pages)
+image-is l pages n stamp left N S L =
+    let t : take (left .count) (left .window) ≡ n .window =
+    ap (λ (v : Pending). take (v .count) (v .window)) L ∙ take-array (n .window) in
+    rw (t, L, S, N)
+
+-- at most 15 data pages
+pub few-slots : (l : Label) (n : ℕ) → n ≡ ssdLength l → n ≤ 65536 → l .slots ≤ 15
+few-slots l n e h = omega arith
+
+-- 2
+module _ (ssd : List ℕ) where
+  pub unlabelled : labelIf ssd ≡ Illegal → refusalText 2 ≡ listingOf ssd
+  unfolding listingOf
+  unlabelled e = ap (λ (r : LabelRead). judgedText r ssd) (sym e)
+
+  module _ (l : Label) (e : labelIf ssd ≡ Legal l) where
+    pub label-limits : Limits l
+    label-limits = limits ssd [] [] (recordOf l (record { 0 = 0 }) 0 Ready false []) l e
+
+    labelled : judgedText (Legal l) ssd ≡ listingOf ssd
+    unfolding listingOf
+    labelled = ap (λ (r : LabelRead). judgedText r ssd) (sym e)
+
+    -- 4
+    pub wrong-length : eqb (length ssd) (ssdLength l) ≡ false → refusalText 4 ≡ listingOf ssd
+    wrong-length h = rw (h, textIf) at labelled
+
+    module _ (h : eqb (length ssd) (ssdLength l) ≡ true) where
+      pub too-long : leb (length ssd) 65536 ≡ false → refusalText 4 ≡ listingOf ssd
+      too-long k = rw (h, k, textIf) at labelled
+
+      module _ (k : leb (length ssd) 65536 ≡ true) where
+        -- 5
+        pub bad-pages : pagesTest l (metasOf l ssd) ≡ false → refusalText 5 ≡ listingOf ssd
+        bad-pages p = rw (h, k, p, textIf) at labelled
+
+        pub listed-as : pagesTest l (metasOf l ssd) ≡ true → imageText l (metasOf l ssd) (newestOf (metasOf l ssd)) ≡ listingOf ssd
+        listed-as p = rw (h, k, p, textIf) at labelled

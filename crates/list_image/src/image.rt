@@ -1,0 +1,89 @@
+// The listing of an image: judged as a reopening judges it, without HDD and table; then written.
+use crate::Text;
+use crate::lines;
+use layout::Label;
+use layout::LabelRead;
+use layout::Slot;
+use layout::places;
+use recovery::reopen;
+use recovery::rules;
+use recovery::stored;
+ghost use mathlib.Core.Path.{_≡_};
+ghost use mathlib.Core.Bool.{Bool, true, false};
+ghost use mathlib.Core.List.{List};
+ghost use Prim.Native.Nat.{ℕ, _+_, _*_, _≤_, _<_};
+ghost use lib.ListN.{length, take};
+ghost use Rattle.layout.specs.Places.{Limits, ssdLength};
+ghost use Rattle.protocol.specs.Recovery.{metasOf, newestOf, pagesTest};
+ghost use Rattle.list_image.specs.Written.{Written, textOf};
+ghost use Rattle.list_image.specs.Listing.{linesOf, imageText, listingOf};
+
+// A line for each valid entry.
+fn put_lines(
+    page: &mut [u8],
+    at: usize,
+    ssd: &[u8],
+    l: Label,
+    window: [Slot; 63],
+    count: u32,
+) -> usize
+    requires { ⌜ at + 63 * l .slots ≤ length (now page) ⌝ }
+    requires { ⌜ length (now ssd) ≡ ssdLength l ⌝ }
+    requires { ⌜ count ≤ 63 ⌝ }
+    ensures { λ r. ⌜ Written (now (page .entry)) (now (page .exit)) at r (63 * l .slots) (linesOf (take count window) (metasOf l (now (ssd .entry))) (l .slots)) ⌝ }
+{
+    let slots = l.slots;
+    let mut end = at;
+    let mut s: u32 = 0;
+    while s < slots {
+        let entry = stored::entry_of(ssd, l, Slot(s));
+        end = lines::put_line(page, end, Slot(s), entry, window, count);
+        s += 1;
+    }
+    end
+}
+
+// The text of an image that keeps every rule.
+fn put_image(page: &mut [u8], ssd: &[u8], l: Label) -> usize
+    requires { ⌜ length (now page) ≡ 4096 ⌝ }
+    requires { ⌜ (length (now ssd) ≡ ssdLength l) × (length (now ssd) ≤ 65536) ⌝ }
+    requires { ⌜ Limits l ⌝ }
+    requires { ⌜ pagesTest l (metasOf l (now ssd)) ≡ true ⌝ }
+    ensures { λ r. ⌜ Written (now (page .entry)) (now (page .exit)) 0 r 4096 (imageText l (metasOf l (now (ssd .entry))) (newestOf (metasOf l (now (ssd .entry))))) ⌝ }
+{
+    let found = stored::newest(ssd, l);
+    let pending = stored::pending(ssd, l, found.at);
+    let window = pending.window;
+    let count = pending.count;
+    let at = lines::put_head(page, l, found.stamp, count);
+    put_lines(page, at, ssd, l, window, count)
+}
+
+// The listing of an image, or its refusal: 2, then 4, then 5.
+fn put_listing(page: &mut [u8], ssd: &[u8]) -> usize
+    requires { ⌜ length (now page) ≡ 4096 ⌝ }
+    ensures { λ r. ⌜ Written (now (page .entry)) (now (page .exit)) 0 r 4096 (listingOf (now (ssd .entry))) ⌝ }
+{
+    let LabelRead::Legal(l) = reopen::label_of(ssd) else {
+        return lines::put_refusal(page, 2);
+    };
+    if ssd.len() != places::ssd_length(l) {
+        return lines::put_refusal(page, 4);
+    }
+    if 65536 < ssd.len() {
+        return lines::put_refusal(page, 4);
+    }
+    if !rules::pages_ok(ssd, l) {
+        return lines::put_refusal(page, 5);
+    }
+    put_image(page, ssd, l)
+}
+
+// The text of an SSD image of any length.
+pub fn list(ssd: &[u8]) -> Text
+    ensures { λ r. ⌜ r ≡ textOf (listingOf (now (ssd .entry))) ⌝ }
+{
+    let mut bytes = [0u8; 4096];
+    let len = put_listing(&mut bytes, ssd);
+    Text { bytes, len }
+}

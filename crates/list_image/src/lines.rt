@@ -1,0 +1,98 @@
+// The lines of a listing, each written over the bytes from an offset on; the offset after them comes back.
+use layout::Entry;
+use layout::Label;
+use layout::Slot;
+use layout::text;
+use table::record;
+ghost use mathlib.Core.Path.{_≡_};
+ghost use mathlib.Core.Bool.{Bool, true, false};
+ghost use mathlib.Core.List.{List};
+ghost use Prim.Native.Nat.{ℕ, _+_, _*_, _≤_, _<_};
+ghost use lib.ListN.{length, take};
+ghost use Rattle.list_image.specs.Written.{Written};
+ghost use Rattle.list_image.specs.Listing.{field, fateText, headText, dropped, entryText, lineOf, refusalText};
+
+// A key, a number and the byte after it.
+fn put_field(page: &mut [u8], at: usize, key: &[u8], n: u32, last: u8) -> usize
+    requires { ⌜ at + length (now key) + 11 ≤ length (now page) ⌝ }
+    ensures { λ r. ⌜ Written (now (page .entry)) (now (page .exit)) at r (length (now (key .entry)) + 11) (field (now (key .entry)) n last) ⌝ }
+{
+    text::put_text(page, at, key);
+    text::put_number(page, at + key.len(), n, last)
+}
+
+// What becomes of an entry: true where it is dropped.
+fn put_fate(page: &mut [u8], at: usize, fate: bool) -> usize
+    requires { ⌜ at + 13 ≤ length (now page) ⌝ }
+    ensures { λ r. ⌜ Written (now (page .entry)) (now (page .exit)) at r 13 (fateText fate) ⌝ }
+{
+    if fate {
+        text::put_text(page, at, b"fate=dropped\n");
+        return at + 13;
+    }
+    text::put_text(page, at, b"fate=kept\n");
+    at + 10
+}
+
+// A valid entry's line.
+fn put_entry(page: &mut [u8], at: usize, s: Slot, entry: Entry, fate: bool) -> usize
+    requires { ⌜ at + 63 ≤ length (now page) ⌝ }
+    ensures { λ r. ⌜ Written (now (page .entry)) (now (page .exit)) at r 63 (entryText s entry fate) ⌝ }
+{
+    let block = entry.block;
+    let b = put_field(page, at, b"slot=", s.0, 32);
+    let f = put_field(page, b, b"block=", block.0, 32);
+    let end = put_field(page, f, b"flags=", entry.flags, 32);
+    put_fate(page, end, fate)
+}
+
+// Whether a valid entry with these flags is dropped.
+fn is_dropped(flags: u32, s: Slot, window: [Slot; 63], count: u32) -> bool
+    requires { ⌜ count ≤ 63 ⌝ }
+    ensures { λ r. ⌜ r ≡ dropped (take count window) s flags ⌝ }
+{
+    if flags / 4 % 2 != 1 {
+        return false;
+    }
+    record::listed_from(s, window, count, 0)
+}
+
+// The line of an entry, if it is valid.
+pub fn put_line(
+    page: &mut [u8],
+    at: usize,
+    s: Slot,
+    entry: Entry,
+    window: [Slot; 63],
+    count: u32,
+) -> usize
+    requires { ⌜ at + 63 ≤ length (now page) ⌝ }
+    requires { ⌜ count ≤ 63 ⌝ }
+    ensures { λ r. ⌜ Written (now (page .entry)) (now (page .exit)) at r 63 (lineOf (take count window) s entry) ⌝ }
+{
+    if entry.flags % 2 != 1 {
+        return at;
+    }
+    let fate = is_dropped(entry.flags, s, window, count);
+    put_entry(page, at, s, entry, fate)
+}
+
+// The lines before the entries'.
+pub fn put_head(page: &mut [u8], l: Label, stamp: u32, count: u32) -> usize
+    requires { ⌜ length (now page) ≡ 4096 ⌝ }
+    ensures { λ r. ⌜ Written (now (page .entry)) (now (page .exit)) 0 r 78 (headText l stamp count) ⌝ }
+{
+    text::put_text(page, 0, b"layout=1\n");
+    let b = put_field(page, 9, b"slots=", l.slots, 10);
+    let n = put_field(page, b, b"blocks=", l.blocks, 10);
+    let o = put_field(page, n, b"newest=", stamp, 10);
+    put_field(page, o, b"open=", count, 10)
+}
+
+// A refusal's only line.
+pub fn put_refusal(page: &mut [u8], number: u32) -> usize
+    requires { ⌜ length (now page) ≡ 4096 ⌝ }
+    ensures { λ r. ⌜ Written (now (page .entry)) (now (page .exit)) 0 r 19 (refusalText number) ⌝ }
+{
+    put_field(page, 0, b"refused=", number, 10)
+}
