@@ -1,0 +1,200 @@
+/* Ferjulm: an SSD as read and write cache of a slow disk, of which nothing that was flushed is lost by a power cut.
+ *
+ * A box is what is lent to every call: the SSD image, the HDD image, the table and the record. The library keeps nothing
+ * between calls, has no heap and no state of its own. "Document 01" is the specification; its words are used as they are.
+ *
+ * A box begins by a format, or by a reopening of images that a box has left; both are followed by steps until the record's
+ * phase is ready:
+ *
+ *     ferjulm_format(...), then ferjulm_step(...) until record[FERJULM_PHASE] == FERJULM_READY
+ *
+ * What a caller holds to:
+ * - One caller at a time: no two calls on one box at once, and nobody else reads or writes what a call was lent meanwhile.
+ * - No pointer is null, not even one with length 0. Pointers to 32-bit words are aligned to 4 bytes, `offset` to 8. Each
+ *   pointer with length n points to n elements.
+ * - What is lent to one call does not overlap: images, table, record, page and out-parameters.
+ * - A call stores at most one page, in one of the images. Where the images are kept on drives, that page reaches its drive
+ *   whole or not at all, and before the page of any later call.
+ * - Slots and blocks are two kinds of number, each counted from 0.
+ *
+ * Lengths are counted in elements: bytes of an image or page, 32-bit words of table and record. Nothing else has to hold of
+ * what is lent: any length, any bytes and any words are judged, and refused by number where they break a rule. What is lent
+ * `const` is only read. A refusal changes nothing that was lent, out-parameters included.
+ */
+#ifndef FERJULM_H
+#define FERJULM_H
+
+#include <stddef.h>
+#include <stdint.h>
+
+#ifdef __cplusplus
+extern "C" {
+#endif
+
+#define FERJULM_PAGE 4096
+#define FERJULM_RECORD_WORDS 71
+
+/* Limits of a format. */
+#define FERJULM_MAX_SLOTS 57600
+#define FERJULM_MAX_BLOCKS 16777216
+
+/* The words of a record by index; the window's slots, 63 of them, begin at FERJULM_WINDOW and are zero past the count. */
+enum {
+    FERJULM_SLOTS = 0,
+    FERJULM_BLOCKS = 1,
+    FERJULM_HAND = 2,
+    FERJULM_NEWEST = 3,    /* the newest stamp */
+    FERJULM_PHASE = 4,     /* FERJULM_FORMATTING, FERJULM_MENDING or FERJULM_READY */
+    FERJULM_STEPS = 5,     /* steps done while formatting, else 0 */
+    FERJULM_UNSETTLED = 6, /* 1 if unsettled, else 0 */
+    FERJULM_COUNT = 7,     /* how many slots the window has */
+    FERJULM_WINDOW = 8
+};
+
+/* The phases. */
+enum {
+    FERJULM_FORMATTING = 0,
+    FERJULM_MENDING = 1,
+    FERJULM_READY = 2
+};
+
+/* What a call returns: one of these, or a refusal's number from 1 to 13. */
+enum {
+    FERJULM_DONE = 0,
+    FERJULM_ANNOUNCED = 101, /* the slot is open; *slot is set */
+    FERJULM_OVERWRITE = 102, /* the block is dirty and not open: land it */
+    FERJULM_COPIED_OUT = 103, /* a dirty page went to the HDD: make the same call again */
+    FERJULM_IN_SLOT = 104,   /* the block is cached and not open; *slot is set */
+    FERJULM_ON_DISK = 105,
+    FERJULM_NOTHING_TO_DO = 106
+};
+
+/* The image that a view finds a block in. */
+enum {
+    FERJULM_SSD = 1,
+    FERJULM_HDD = 2
+};
+
+/* Why a call says no; the least number whose condition holds.
+ *
+ *   1  format: slots or blocks outside the limits
+ *   2  reopen: SSD under a page, or first page no legal label
+ *   3  a record number out of range, window repeated or not zero past its length; a record of other than 71 words, a phase
+ *      above 2, steps outside formatting, unsettled above 1
+ *   4  an image, table or data page of the wrong length
+ *   5  a metadata page (reopen) or table row (others) breaks its rule, or rows, window and phase don't agree; a block in two
+ *      rows is judged at reopen only, elsewhere its lowest slot counts
+ *   6  wrong phase: step when ready, anything else before
+ *   7  block number too high
+ *   8  offer, fetch, write back: the block's slot is open
+ *   9  land: the block is neither open for writing nor dirty; land a fetch: not open for fetch
+ *  10  fetch: the block has a slot
+ *  11  a fetch, or an offer of a block that isn't dirty, while 63 are open
+ *  12  a slot must be swept for, all are open
+ *  13  the call would store metadata, and too few stamps are left
+ *
+ * Every call but format and reopen may refuse with 3, 4, 5 and 6; each function names those that it may give besides.
+ */
+static inline int ferjulm_is_refusal(uint32_t result)
+{
+    return 1 <= result && result <= 99;
+}
+
+/* The lengths of what is lent, for slots and blocks within the limits. */
+static inline size_t ferjulm_metadata_pages(uint32_t slots)
+{
+    return ((size_t)slots + 239) / 240;
+}
+
+static inline size_t ferjulm_ssd_bytes(uint32_t slots)
+{
+    return (1 + ferjulm_metadata_pages(slots) + slots) * FERJULM_PAGE;
+}
+
+static inline size_t ferjulm_hdd_bytes(uint32_t blocks)
+{
+    return (size_t)blocks * FERJULM_PAGE;
+}
+
+static inline size_t ferjulm_table_words(uint32_t slots)
+{
+    return 2 * (size_t)slots;
+}
+
+/* Begins a format: zeroes the table and makes a record with no step done. It stores nothing; the steps that follow, as many
+ * as there are metadata pages and two more, store the SSD's label and metadata pages. The HDD is untouched, so blocks read
+ * as it has them. The record handed in and the table's contents are not judged. May refuse with 1, 3 (a record of other
+ * than 71 words) and 4, and with no other number.
+ */
+uint32_t ferjulm_format(const uint8_t *ssd, size_t ssd_len, const uint8_t *hdd, size_t hdd_len, uint32_t *table,
+                        size_t table_len, uint32_t *record, size_t record_len, uint32_t slots, uint32_t blocks,
+                        uint32_t *slot);
+
+/* Makes one step of a format or of mending: one store. The record's phase tells whether it was the last. Refuses with 6 when
+ * ready. May refuse with 13 while mending.
+ */
+uint32_t ferjulm_step(uint8_t *ssd, size_t ssd_len, const uint8_t *hdd, size_t hdd_len, const uint32_t *table,
+                      size_t table_len, uint32_t *record, size_t record_len, uint32_t *slot);
+
+/* Reopens a box from its images after a cut, or at any other time: fills table and record. Phase ready, or mending, to be
+ * ended by steps, at most 63. It stores nothing. The record handed in and the table's contents are not judged. May refuse
+ * with 2, 3 (a record of other than 71 words), 4 and 5, and with no other number.
+ */
+uint32_t ferjulm_reopen(const uint8_t *ssd, size_t ssd_len, const uint8_t *hdd, size_t hdd_len, uint32_t *table,
+                        size_t table_len, uint32_t *record, size_t record_len, uint32_t *slot);
+
+/* Offers a write of a block. FERJULM_ANNOUNCED: its slot is open, land the bytes next. FERJULM_OVERWRITE: the block is dirty
+ * and not open, land the bytes. FERJULM_COPIED_OUT: a dirty page was copied to the HDD to make room, offer again; this is
+ * never the answer twice running. May refuse with 7, 8, 11, 12 and 13.
+ */
+uint32_t ferjulm_offer(uint8_t *ssd, size_t ssd_len, uint8_t *hdd, size_t hdd_len, uint32_t *table, size_t table_len,
+                       uint32_t *record, size_t record_len, uint32_t block, uint32_t *slot);
+
+/* Lands a page for a block that is open for writing, or dirty and not open: stores it in the block's slot, and closes the
+ * slot if it was open. The bytes of a slot that was open last only after a later metadata store, which a flush makes. May
+ * refuse with 7 and 9; a page of other than 4,096 bytes is 4.
+ */
+uint32_t ferjulm_land(uint8_t *ssd, size_t ssd_len, const uint8_t *hdd, size_t hdd_len, uint32_t *table, size_t table_len,
+                      uint32_t *record, size_t record_len, uint32_t block, const uint8_t *page, size_t page_len,
+                      uint32_t *slot);
+
+/* Fetches a block that is not cached: finds and opens a slot for it. FERJULM_ANNOUNCED: land the fetch next.
+ * FERJULM_COPIED_OUT: fetch again. May refuse with 7, 8, 10, 11, 12 and 13.
+ */
+uint32_t ferjulm_fetch(uint8_t *ssd, size_t ssd_len, uint8_t *hdd, size_t hdd_len, uint32_t *table, size_t table_len,
+                       uint32_t *record, size_t record_len, uint32_t block, uint32_t *slot);
+
+/* Lands a fetch: copies the block's HDD page into its slot, and closes it. May refuse with 7 and 9. */
+uint32_t ferjulm_land_fetch(uint8_t *ssd, size_t ssd_len, const uint8_t *hdd, size_t hdd_len, uint32_t *table,
+                            size_t table_len, uint32_t *record, size_t record_len, uint32_t block, uint32_t *slot);
+
+/* Looks a block up: FERJULM_IN_SLOT if it is cached and not open, and then sets its used flag in the table; else
+ * FERJULM_ON_DISK. May refuse with 7.
+ */
+uint32_t ferjulm_look_up(const uint8_t *ssd, size_t ssd_len, const uint8_t *hdd, size_t hdd_len, uint32_t *table,
+                         size_t table_len, uint32_t *record, size_t record_len, uint32_t block, uint32_t *slot);
+
+/* Views a block: where its page lies. *image becomes FERJULM_SSD (cached and not open) or FERJULM_HDD, *offset the page's
+ * first byte in that image. Nothing else changes, and no byte is copied. May refuse with 7.
+ */
+uint32_t ferjulm_view(const uint8_t *ssd, size_t ssd_len, const uint8_t *hdd, size_t hdd_len, const uint32_t *table,
+                      size_t table_len, const uint32_t *record, size_t record_len, uint32_t block, uint32_t *image,
+                      uint64_t *offset);
+
+/* Writes a block back: copies its page to the HDD if it is dirty, and marks it clean; uncached or clean:
+ * FERJULM_NOTHING_TO_DO. May refuse with 7 and 8.
+ */
+uint32_t ferjulm_write_back(const uint8_t *ssd, size_t ssd_len, uint8_t *hdd, size_t hdd_len, uint32_t *table,
+                            size_t table_len, uint32_t *record, size_t record_len, uint32_t block, uint32_t *slot);
+
+/* Flushes: stores metadata page 0 if unsettled, so that everything landed lasts; else FERJULM_NOTHING_TO_DO. May refuse
+ * with 13.
+ */
+uint32_t ferjulm_flush(uint8_t *ssd, size_t ssd_len, const uint8_t *hdd, size_t hdd_len, const uint32_t *table,
+                       size_t table_len, uint32_t *record, size_t record_len, uint32_t *slot);
+
+#ifdef __cplusplus
+}
+#endif
+
+#endif

@@ -1,0 +1,226 @@
+//! A box beside the plain disk: every call is made on the one and fed to the other, and what document 01 promises of both is
+//! checked at every cut and at every finished reopening.
+
+use crate::disk::PlainDisk;
+use crate::kept::{outside, Kept};
+use crate::rig::{differing, Call, Place, Rig, Said};
+use crate::stored::Metas;
+use ferjulm::{Answer, Geometry, Images, Record, PAGE};
+
+/// A list of calls and cuts in the making.
+pub struct Beside {
+    pub geometry: Geometry,
+    pub rig: Rig,
+    /// The page that the last call stored.
+    pub stored: Option<Place>,
+    disk: PlainDisk,
+    /// The images as all stores done have left them: what a cut finds.
+    drives: Images<Vec<u8>>,
+    /// What no reopening may take, from the first cut till a reopening is finished.
+    kept: Vec<Kept>,
+    /// Whether record and table are lost.
+    lost: bool,
+    /// Mending steps since the last reopening.
+    steps: u32,
+    /// The call before, if it was answered "copied out".
+    copied_out: Option<Call>,
+}
+
+impl Beside {
+    /// "what a format's last step left"
+    pub fn formatted(geometry: Geometry) -> Self {
+        let rig = Rig::formatted(geometry);
+        Beside {
+            geometry,
+            disk: PlainDisk::new(&rig.images.hdd),
+            drives: rig.images.clone(),
+            rig,
+            stored: None,
+            kept: Vec::new(),
+            lost: false,
+            steps: 0,
+            copied_out: None,
+        }
+    }
+
+    /// Makes a call.
+    pub fn make(&mut self, call: &Call) -> Said {
+        let promised = match call {
+            Call::Reopen => self.outside(),
+            _ => Vec::new(),
+        };
+        let flushes = self.serves() && *call == Call::Flush;
+        let said = self.attempt(call);
+        assert!(
+            said.is_ok() || !flushes,
+            "a flush of a ready box was refused"
+        );
+        if said.is_ok() {
+            self.kept.extend(promised);
+            self.carry();
+            self.feed(call);
+        }
+        said
+    }
+
+    /// Power fails in a call: its page, if it stores one, arrives or not, and the call counts as made exactly if it did. Then
+    /// record and table are lost, and any words stand in them.
+    pub fn cut_in(&mut self, call: &Call, arrives: bool, word: impl FnMut() -> u32) {
+        let before = self.memory();
+        let said = self.attempt(call);
+        if said.is_ok() && arrives && self.stored.is_some() {
+            self.carry();
+            self.feed(call);
+        } else {
+            self.take_back();
+            (self.rig.table, self.rig.record) = before;
+        }
+        self.cut(word);
+    }
+
+    /// Power fails between two calls.
+    pub fn cut(&mut self, word: impl FnMut() -> u32) {
+        if self.serves() {
+            self.check_reads();
+        }
+        let promised = self.outside();
+        self.kept.extend(promised);
+        self.rig.forget(word);
+        self.lost = true;
+        self.copied_out = None;
+    }
+
+    /// Steps until the box is ready: how many.
+    pub fn mend(&mut self) -> u32 {
+        while self.mending() {
+            self.make(&Call::Step)
+                .expect("no step of mending is refused");
+        }
+        self.steps
+    }
+
+    /// Whether it is ready, with record and table at hand.
+    pub fn serves(&self) -> bool {
+        !self.lost && self.rig.ready()
+    }
+
+    /// Whether it is mending, with record and table at hand.
+    pub fn mending(&self) -> bool {
+        !self.lost && self.rig.mending()
+    }
+
+    /// Makes a call on the images in memory: at most one page changes, and nothing at all if it is refused.
+    pub fn attempt(&mut self, call: &Call) -> Said {
+        let before = self.memory();
+        let said = self.rig.make(call);
+        let changed = differing(&self.rig.images, &self.drives);
+        assert!(changed.len() <= 1, "{call:?} stored {changed:?}");
+        self.stored = changed.first().copied();
+        if said.is_err() {
+            let same = self.stored.is_none() && before == self.memory();
+            assert!(same, "{call:?} was refused and changed something");
+        }
+        let copied_out = said == Ok(Answer::CopiedOut);
+        let again = copied_out && self.copied_out.as_ref() == Some(call);
+        assert!(!again, "{call:?} was copied out twice running");
+        self.copied_out = copied_out.then(|| call.clone());
+        said
+    }
+
+    /// What a reopening that begins now, or after a cut now, may not take.
+    fn outside(&mut self) -> Vec<Kept> {
+        let serves = self.serves();
+        outside(&mut self.rig, self.geometry, serves)
+    }
+
+    /// What a cut loses.
+    fn memory(&self) -> (Vec<u32>, Record) {
+        (self.rig.table.clone(), self.rig.record)
+    }
+
+    /// The page that was stored reaches its drive.
+    fn carry(&mut self) {
+        copy(self.stored, &self.rig.images, &mut self.drives);
+    }
+
+    /// It does not, and memory is read again from the drive.
+    fn take_back(&mut self) {
+        copy(self.stored, &self.drives, &mut self.rig.images);
+    }
+
+    /// Tells the plain disk of a call that was made.
+    fn feed(&mut self, call: &Call) {
+        match call {
+            Call::Land(block, page) => self.disk.landed(*block, page),
+            Call::Flush => self.disk.flushed(),
+            Call::Reopen => self.reopened(),
+            Call::Step => {
+                self.steps += 1;
+                assert!(self.steps <= 63, "mending takes at most 63 steps");
+                self.finished();
+            }
+            _ => {}
+        }
+    }
+
+    fn reopened(&mut self) {
+        (self.steps, self.lost) = (0, false);
+        let metas = Metas::read(self.geometry, &self.drives.ssd);
+        self.kept
+            .iter()
+            .for_each(|kept| kept.check_row(&self.rig, &metas));
+        self.finished();
+    }
+
+    /// Where a reopening is finished, what it promises.
+    fn finished(&mut self) {
+        if !self.rig.ready() {
+            return;
+        }
+        let cache = self.rig.cache();
+        for block in self.disk.blocks() {
+            let read = cache
+                .view(block)
+                .expect("no view of a ready box is refused");
+            self.disk.reopened(block, read);
+        }
+        for kept in self.kept.drain(..) {
+            kept.check(&mut self.rig);
+        }
+        self.check_reads();
+    }
+
+    /// A ready box reads as the plain disk; a slot named by a look-up holds the same.
+    pub fn check_reads(&mut self) {
+        let before = self.memory();
+        for block in self.disk.blocks() {
+            let page = self.disk.page(block);
+            let cache = self.rig.cache();
+            let read = cache
+                .view(block)
+                .expect("no view of a ready box is refused");
+            assert!(read == page, "{block:?} reads as something else");
+            match self.rig.make(&Call::LookUp(block)) {
+                Ok(Answer::InSlot(slot)) => {
+                    assert!(
+                        self.rig.slot_page(self.geometry, slot) == page,
+                        "{slot:?} holds something else"
+                    );
+                }
+                said => assert_eq!(said, Ok(Answer::OnDisk)),
+            }
+        }
+        (self.rig.table, self.rig.record) = before;
+    }
+}
+
+/// Copies one page from a pair of images to another.
+fn copy(place: Option<Place>, from: &Images<Vec<u8>>, to: &mut Images<Vec<u8>>) {
+    let (from, to, at) = match place {
+        Some(Place::Ssd(at)) => (&from.ssd, &mut to.ssd, at),
+        Some(Place::Hdd(at)) => (&from.hdd, &mut to.hdd, at),
+        None => return,
+    };
+    let bytes = at * PAGE..(at + 1) * PAGE;
+    to[bytes.clone()].copy_from_slice(&from[bytes]);
+}

@@ -1,0 +1,133 @@
+//! A box with everything that it is lent, owned; and its calls as values.
+
+use crate::stored::page;
+use ferjulm::{Answer, Block, Cache, Geometry, Images, Phase, Record, Refusal, Slot, PAGE};
+
+/// A call with its arguments.
+#[derive(Clone, Debug, PartialEq)]
+pub enum Call {
+    Format(Geometry),
+    Step,
+    Reopen,
+    Offer(Block),
+    Land(Block, Vec<u8>),
+    Fetch(Block),
+    LandFetch(Block),
+    LookUp(Block),
+    View(Block),
+    WriteBack(Block),
+    Flush,
+}
+
+/// What a call says.
+pub type Said = Result<Answer, Refusal>;
+
+/// A page of one of the images, by its index there.
+#[derive(Clone, Copy, Debug, PartialEq)]
+pub enum Place {
+    Ssd(usize),
+    Hdd(usize),
+}
+
+/// A box: both images, the table and the record.
+#[derive(Clone, PartialEq)]
+pub struct Rig {
+    pub images: Images<Vec<u8>>,
+    pub table: Vec<u32>,
+    pub record: Record,
+}
+
+impl Rig {
+    /// A box of these images that has lost table and record.
+    pub fn of(geometry: Geometry, images: Images<Vec<u8>>) -> Self {
+        let mut rig = Rig {
+            images,
+            table: vec![0; geometry.table_words()],
+            record: Record::default(),
+        };
+        rig.forget(|| 0xaaaa_aaaa);
+        rig
+    }
+
+    /// A box before its format: the HDD's pages differ, the SSD has been something else.
+    pub fn unformatted(geometry: Geometry) -> Self {
+        let images = Images {
+            ssd: vec![0xaa; geometry.ssd_bytes()],
+            hdd: (0..geometry.blocks as u64).flat_map(page).collect(),
+        };
+        Rig::of(geometry, images)
+    }
+
+    /// A ready box, as the last step of a format left it.
+    pub fn formatted(geometry: Geometry) -> Self {
+        let mut rig = Rig::unformatted(geometry);
+        rig.cache().format(geometry).expect("a format");
+        rig.cache().finish().expect("its steps");
+        rig
+    }
+
+    /// Lends everything.
+    pub fn cache(&mut self) -> Cache<'_> {
+        Cache::new(self.images.lend(), &mut self.table, &mut self.record)
+    }
+
+    /// Makes a call.
+    pub fn make(&mut self, call: &Call) -> Said {
+        let mut cache = self.cache();
+        match call {
+            Call::Format(geometry) => cache.format(*geometry),
+            Call::Step => cache.step(),
+            Call::Reopen => cache.reopen(),
+            Call::Offer(block) => cache.offer(*block),
+            Call::Land(block, page) => cache.land(*block, page),
+            Call::Fetch(block) => cache.fetch(*block),
+            Call::LandFetch(block) => cache.land_fetch(*block),
+            Call::LookUp(block) => cache.look_up(*block),
+            Call::View(block) => cache.view(*block).map(|_| Answer::Done),
+            Call::WriteBack(block) => cache.write_back(*block),
+            Call::Flush => cache.flush(),
+        }
+    }
+
+    /// Loses record and table: any words stand in them.
+    pub fn forget(&mut self, mut word: impl FnMut() -> u32) {
+        self.table.iter_mut().for_each(|place| *place = word());
+        self.record = Record::from_words(std::array::from_fn(|_| word()));
+    }
+
+    pub fn ready(&self) -> bool {
+        self.record.phase() == Some(Phase::Ready)
+    }
+
+    pub fn mending(&self) -> bool {
+        self.record.phase() == Some(Phase::Mending)
+    }
+
+    /// A block's slot by the table: the lowest valid row that names it.
+    pub fn slot_of(&self, block: Block) -> Option<Slot> {
+        let mut rows = self.table.chunks(2);
+        let at = rows.position(|row| row[1] & 1 == 1 && row[0] == block.0)?;
+        Some(Slot(at as u32))
+    }
+
+    /// A slot's page on the SSD.
+    pub fn slot_page(&self, geometry: Geometry, slot: Slot) -> &[u8] {
+        &self.images.ssd[geometry.slot_at(slot)..][..PAGE]
+    }
+}
+
+/// The pages in which two pairs of images differ.
+pub fn differing(a: &Images<Vec<u8>>, b: &Images<Vec<u8>>) -> Vec<Place> {
+    let ssd = changed(&a.ssd, &b.ssd).into_iter().map(Place::Ssd);
+    ssd.chain(changed(&a.hdd, &b.hdd).into_iter().map(Place::Hdd))
+        .collect()
+}
+
+fn changed(a: &[u8], b: &[u8]) -> Vec<usize> {
+    assert_eq!(a.len(), b.len());
+    let pages = a.chunks(PAGE).zip(b.chunks(PAGE)).enumerate();
+    pages
+        .filter(|(_, (x, y))| x != y)
+        .map(|(at, _)| at)
+        .collect()
+}

@@ -1,0 +1,47 @@
+//! What the lines say, in document 01's words.
+
+use crate::rig::{Place, Said};
+use ferjulm::{Answer, Slot};
+
+/// An answer, or a refusal with its number.
+pub fn said(said: Said) -> String {
+    match said {
+        Ok(Answer::Done) => "done".to_string(),
+        Ok(Answer::Announced(Slot(slot))) => format!("announced slot {slot}"),
+        Ok(Answer::Overwrite) => "overwrite".to_string(),
+        Ok(Answer::CopiedOut) => "copied out".to_string(),
+        Ok(Answer::InSlot(Slot(slot))) => format!("in slot {slot}"),
+        Ok(Answer::OnDisk) => "on disk".to_string(),
+        Ok(Answer::NothingToDo) => "nothing to do".to_string(),
+        Err(refusal) => format!("refused by {}", refusal.number()),
+    }
+}
+
+/// The page that was stored.
+pub fn place(place: Option<Place>) -> String {
+    match place {
+        Some(Place::Ssd(at)) => format!("SSD page {at}"),
+        Some(Place::Hdd(at)) => format!("HDD page {at}"),
+        None => "nothing".to_string(),
+    }
+}
+
+/// Bytes in hexadecimal.
+pub fn hexadecimal(bytes: &[u8]) -> String {
+    let digits: Vec<String> = bytes.iter().map(|byte| format!("{byte:02x}")).collect();
+    digits.join(" ")
+}
+
+/// Slot numbers.
+pub fn slots(slots: impl Iterator<Item = Slot>) -> String {
+    list(slots.map(|slot| slot.0.to_string()))
+}
+
+/// A list, or "none".
+pub fn list(items: impl Iterator<Item = String>) -> String {
+    let items: Vec<String> = items.collect();
+    if items.is_empty() {
+        return "none".to_string();
+    }
+    items.join(" ")
+}

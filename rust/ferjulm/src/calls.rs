@@ -1,0 +1,101 @@
+//! The calls as C has them, over slices of any length and any words: they return the result code, and `slot` is set exactly
+//! where the answer carries one. [`Cache`](crate::Cache) is the same with names and types.
+
+use crate::ffi;
+
+/// A lent slice as C takes it.
+trait Lent {
+    type Pointer;
+    fn lent(self) -> (Self::Pointer, usize);
+}
+
+impl<T> Lent for &[T] {
+    type Pointer = *const T;
+    fn lent(self) -> (*const T, usize) {
+        (self.as_ptr(), self.len())
+    }
+}
+
+impl<T> Lent for &mut [T] {
+    type Pointer = *mut T;
+    fn lent(self) -> (*mut T, usize) {
+        (self.as_mut_ptr(), self.len())
+    }
+}
+
+/// Calls a C function with pointer and length of each slice, then the arguments. Sound for any slices: no reference is null,
+/// `&mut` overlaps with nothing, and the C functions are proved to stay within the lengths that they are told.
+macro_rules! lend {
+    ($name:ident($ssd:ident, $hdd:ident, $table:ident, $record:ident, $($argument:expr),*)) => {{
+        let (ssd, hdd, table, record) = ($ssd.lent(), $hdd.lent(), $table.lent(), $record.lent());
+        unsafe { ffi::$name(ssd.0, ssd.1, hdd.0, hdd.1, table.0, table.1, record.0, record.1, $($argument),*) }
+    }};
+}
+
+macro_rules! calls {
+    ($($(#[$doc:meta])* $name:ident, $c:ident($ssd:ty, $hdd:ty, $table:ty, $($argument:ident),*);)*) => {$(
+        $(#[$doc])*
+        #[inline]
+        pub fn $name(ssd: $ssd, hdd: $hdd, table: $table, record: &mut [u32], $($argument: u32,)* slot: &mut u32) -> u32 {
+            lend!($c(ssd, hdd, table, record, $($argument,)* slot))
+        }
+    )*};
+}
+
+calls! {
+    /// Begins a format.
+    format, ferjulm_format(&[u8], &[u8], &mut [u32], slots, blocks);
+    /// Makes one step of a format or of mending.
+    step, ferjulm_step(&mut [u8], &[u8], &[u32], );
+    /// Fills table and record from the SSD.
+    reopen, ferjulm_reopen(&[u8], &[u8], &mut [u32], );
+    /// Offers a write of a block.
+    offer, ferjulm_offer(&mut [u8], &mut [u8], &mut [u32], block);
+    /// Finds and opens a slot for a block that is not cached.
+    fetch, ferjulm_fetch(&mut [u8], &mut [u8], &mut [u32], block);
+    /// Copies the HDD page into the slot that a fetch opened.
+    land_fetch, ferjulm_land_fetch(&mut [u8], &[u8], &mut [u32], block);
+    /// Looks a block up.
+    look_up, ferjulm_look_up(&[u8], &[u8], &mut [u32], block);
+    /// Writes a block back.
+    write_back, ferjulm_write_back(&[u8], &mut [u8], &mut [u32], block);
+    /// Stores metadata page 0 if unsettled.
+    flush, ferjulm_flush(&mut [u8], &[u8], &[u32], );
+}
+
+/// Lands a page for a block.
+#[inline]
+pub fn land(
+    ssd: &mut [u8],
+    hdd: &[u8],
+    table: &mut [u32],
+    record: &mut [u32],
+    block: u32,
+    page: &[u8],
+    slot: &mut u32,
+) -> u32 {
+    lend!(ferjulm_land(
+        ssd,
+        hdd,
+        table,
+        record,
+        block,
+        page.as_ptr(),
+        page.len(),
+        slot
+    ))
+}
+
+/// Views a block: `image` becomes 1 for the SSD or 2 for the HDD, `offset` the page's first byte in it.
+#[inline]
+pub fn view(
+    ssd: &[u8],
+    hdd: &[u8],
+    table: &[u32],
+    record: &[u32],
+    block: u32,
+    image: &mut u32,
+    offset: &mut u64,
+) -> u32 {
+    lend!(ferjulm_view(ssd, hdd, table, record, block, image, offset))
+}

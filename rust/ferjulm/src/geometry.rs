@@ -1,0 +1,76 @@
+//! Slot and block numbers, the lengths of what a box is lent, and its two images.
+
+/// Bytes of a page.
+pub const PAGE: usize = 4096;
+
+/// A slot number, counted from 0: a page of the SSD.
+#[derive(Clone, Copy, Debug, PartialEq, Eq, PartialOrd, Ord, Hash)]
+pub struct Slot(pub u32);
+
+/// A block number, counted from 0: a page of the HDD.
+#[derive(Clone, Copy, Debug, PartialEq, Eq, PartialOrd, Ord, Hash)]
+pub struct Block(pub u32);
+
+/// How many slots and blocks a box has. Format refuses numbers outside the limits: 1 to 57,600 slots, 1 to 16,777,216 blocks.
+#[derive(Clone, Copy, Debug, PartialEq, Eq)]
+pub struct Geometry {
+    pub slots: u32,
+    pub blocks: u32,
+}
+
+impl Geometry {
+    /// The number of metadata pages: slots / 240 rounded up.
+    pub fn metadata_pages(self) -> usize {
+        (self.slots as usize).div_ceil(240)
+    }
+
+    /// Bytes of the SSD image: a label page, the metadata pages, and a page for each slot.
+    pub fn ssd_bytes(self) -> usize {
+        self.slot_at(Slot(self.slots))
+    }
+
+    /// Bytes of the HDD image.
+    pub fn hdd_bytes(self) -> usize {
+        self.block_at(Block(self.blocks))
+    }
+
+    /// Words of the table: two for each slot.
+    pub fn table_words(self) -> usize {
+        2 * self.slots as usize
+    }
+
+    /// Where a slot's page begins in the SSD image.
+    pub fn slot_at(self, slot: Slot) -> usize {
+        (1 + self.metadata_pages() + slot.0 as usize) * PAGE
+    }
+
+    /// Where a block's page begins in the HDD image.
+    pub fn block_at(self, block: Block) -> usize {
+        block.0 as usize * PAGE
+    }
+}
+
+/// The SSD image and the HDD image: owned (`Images<Vec<u8>>`) or lent (`Images<&mut [u8]>`).
+#[derive(Clone, Debug, PartialEq, Eq)]
+pub struct Images<B> {
+    pub ssd: B,
+    pub hdd: B,
+}
+
+impl Images<Vec<u8>> {
+    /// Zero images of the lengths that a geometry asks for.
+    pub fn zeroed(geometry: Geometry) -> Self {
+        Images {
+            ssd: vec![0; geometry.ssd_bytes()],
+            hdd: vec![0; geometry.hdd_bytes()],
+        }
+    }
+
+    /// Lends both.
+    pub fn lend(&mut self) -> Images<&mut [u8]> {
+        Images {
+            ssd: &mut self.ssd,
+            hdd: &mut self.hdd,
+        }
+    }
+}

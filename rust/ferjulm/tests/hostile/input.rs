@@ -1,0 +1,165 @@
+//! What a call is given: boxes in every phase, spoilt at random.
+
+use cases::random::Random;
+use cases::rig::{Call, Rig};
+use cases::stored::page;
+use ferjulm::{Block, Geometry, PAGE};
+
+/// A box, and a call's arguments.
+#[derive(Clone)]
+pub struct Input {
+    pub ssd: Vec<u8>,
+    pub hdd: Vec<u8>,
+    pub page: Vec<u8>,
+    pub table: Vec<u32>,
+    pub record: Vec<u32>,
+    pub slots: u32,
+    pub blocks: u32,
+    pub block: u32,
+}
+
+impl Input {
+    pub fn of(rig: Rig, geometry: Geometry) -> Self {
+        Input {
+            ssd: rig.images.ssd,
+            hdd: rig.images.hdd,
+            page: page(1 << 50),
+            table: rig.table,
+            record: rig.record.words().to_vec(),
+            slots: geometry.slots,
+            blocks: geometry.blocks,
+            block: 0,
+        }
+    }
+
+    /// Spoils one thing.
+    pub fn spoil(&mut self, random: &mut Random) {
+        match random.below(14) {
+            0 => resize(&mut self.ssd, PAGE, random),
+            1 => resize(&mut self.hdd, PAGE, random),
+            2 => resize(&mut self.page, PAGE, random),
+            3 => resize(&mut self.table, 2, random),
+            4 => resize(&mut self.record, 1, random),
+            5..=7 => spoil_word(&mut self.record, random),
+            8 => self
+                .record
+                .iter_mut()
+                .for_each(|word| *word = random.word()),
+            9 | 10 => spoil_word(&mut self.table, random),
+            11 => self.table.iter_mut().for_each(|word| *word = random.word()),
+            12 => self.spoil_ssd(random),
+            _ => self
+                .ssd
+                .iter_mut()
+                .for_each(|byte| *byte = random.word() as u8),
+        }
+    }
+
+    /// Changes one byte of the label's text or of the first metadata page.
+    fn spoil_ssd(&mut self, random: &mut Random) {
+        let fields = [
+            0,
+            PAGE,
+            PAGE + 4,
+            PAGE + 16,
+            PAGE + 268,
+            PAGE + 512,
+            PAGE + 2432,
+        ];
+        let at = random.of(&fields) + random.below(24) as usize;
+        if let Some(byte) = self.ssd.get_mut(at) {
+            *byte = random.of(&[0, 1, 2, 5, 7, 255, b'0']);
+        }
+    }
+}
+
+/// Another length: about the old one, or nothing.
+fn resize<T: Copy + Default>(list: &mut Vec<T>, unit: usize, random: &mut Random) {
+    let length = list.len();
+    let (page_less, one_less) = (length.saturating_sub(unit), length.saturating_sub(1));
+    let lengths = [0, 1, page_less, one_less, length + 1, length + unit];
+    list.resize(random.of(&lengths), T::default());
+}
+
+/// Another word at any place, or at one of the first 12: a record's numbers, a table's first rows.
+fn spoil_word(list: &mut [u32], random: &mut Random) {
+    if list.is_empty() {
+        return;
+    }
+    let end = if random.once_in(2) {
+        list.len()
+    } else {
+        list.len().min(12)
+    };
+    let at = random.below(end as u32);
+    let any = random.word();
+    let words = [
+        0,
+        1,
+        2,
+        3,
+        5,
+        7,
+        9,
+        15,
+        63,
+        64,
+        57_601,
+        u32::MAX - 63,
+        u32::MAX,
+        any,
+    ];
+    list[at as usize] = random.of(&words);
+}
+
+/// Boxes in every phase: a format begun, one with a step done, ready and empty, ready with slots open for writing and for
+/// fetch, dirty and clean, and mending.
+pub fn boxes(geometry: Geometry) -> Vec<Input> {
+    let mut rig = Rig::unformatted(geometry);
+    rig.make(&Call::Format(geometry)).expect("a format");
+    let mut boxes = vec![rig.clone()];
+    rig.make(&Call::Step).expect("a step");
+    boxes.push(rig.clone());
+    rig.cache().finish().expect("steps");
+    boxes.push(rig.clone());
+    for call in [
+        Call::Offer(Block(0)),
+        Call::Land(Block(0), page(1 << 51)),
+        Call::Fetch(Block(1)),
+        Call::LandFetch(Block(1)),
+        Call::LookUp(Block(1)),
+        Call::Offer(Block(2)),
+        Call::Fetch(Block(3)),
+    ] {
+        // a box of one slot refuses some of these
+        let _ = rig.make(&call);
+        boxes.push(rig.clone());
+    }
+    rig.forget(|| 5);
+    rig.make(&Call::Reopen).expect("a reopening");
+    boxes.push(rig);
+    boxes
+        .into_iter()
+        .map(|rig| Input::of(rig, geometry))
+        .collect()
+}
+
+/// Sixty-three open slots: the box of number 11.
+pub fn full() -> Input {
+    let geometry = Geometry {
+        slots: 64,
+        blocks: 66,
+    };
+    let mut rig = Rig::formatted(geometry);
+    for block in 0..63 {
+        rig.make(&Call::Offer(Block(block))).expect("an offer");
+    }
+    Input::of(rig, geometry)
+}
+
+/// The box with its newest stamp near the last.
+pub fn late(input: &Input, stamp: u32) -> Input {
+    let mut input = input.clone();
+    input.record[3] = stamp;
+    input
+}

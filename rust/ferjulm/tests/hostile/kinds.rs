@@ -1,0 +1,55 @@
+//! The calls: how each may end, and what it may change.
+
+/// A call: the numbers that it may refuse with, its other results, and what it may change if it is done.
+pub struct Kind {
+    pub name: &'static str,
+    pub refusals: &'static [u32],
+    pub results: &'static [u32],
+    pub changes: &'static [&'static str],
+}
+
+const fn kind(
+    name: &'static str,
+    refusals: &'static [u32],
+    results: &'static [u32],
+    changes: &'static [&'static str],
+) -> Kind {
+    Kind {
+        name,
+        refusals,
+        results,
+        changes,
+    }
+}
+
+const ALL: &[&str] = &["ssd", "hdd", "table", "record", "slot"];
+const LANDING: &[&str] = &["ssd", "table", "record"];
+
+pub const KINDS: [Kind; 11] = [
+    kind("format", &[1, 3, 4], &[0], &["table", "record"]),
+    kind("step", &[3, 4, 5, 6, 13], &[0], &["ssd", "record"]),
+    kind("reopen", &[2, 3, 4, 5], &[0], &["table", "record"]),
+    kind(
+        "offer",
+        &[3, 4, 5, 6, 7, 8, 11, 12, 13],
+        &[101, 102, 103],
+        ALL,
+    ),
+    kind("land", &[3, 4, 5, 6, 7, 9], &[0], LANDING),
+    kind(
+        "fetch",
+        &[3, 4, 5, 6, 7, 8, 10, 11, 12, 13],
+        &[101, 103],
+        ALL,
+    ),
+    kind("land a fetch", &[3, 4, 5, 6, 7, 9], &[0], LANDING),
+    kind("look up", &[3, 4, 5, 6, 7], &[104, 105], &["table", "slot"]),
+    kind("view", &[3, 4, 5, 6, 7], &[0], &["place"]),
+    kind(
+        "write back",
+        &[3, 4, 5, 6, 7, 8],
+        &[0, 106],
+        &["hdd", "table"],
+    ),
+    kind("flush", &[3, 4, 5, 6, 13], &[0, 106], &["ssd", "record"]),
+];

@@ -1,0 +1,130 @@
+//! What a call is lent, between guards.
+
+use crate::input::Input;
+use crate::kinds::Kind;
+use ferjulm::{calls, PAGE};
+
+/// A buffer with guards on both sides.
+#[derive(Clone, PartialEq)]
+pub struct Guarded<T>(Vec<T>);
+
+/// Elements of a guard.
+const GUARD: usize = 16;
+
+impl<T: Copy + PartialEq> Guarded<T> {
+    fn new(inner: &[T], guard: T) -> Self {
+        let guard = vec![guard; GUARD];
+        Guarded([&guard, inner, &guard].concat())
+    }
+
+    pub fn lent(&mut self) -> &mut [T] {
+        let end = self.0.len() - GUARD;
+        &mut self.0[GUARD..end]
+    }
+
+    fn same_guards(&self, other: &Self) -> bool {
+        let end = self.0.len() - GUARD;
+        self.0[..GUARD] == other.0[..GUARD] && self.0[end..] == other.0[end..]
+    }
+}
+
+/// Everything that a call can be lent.
+#[derive(Clone, PartialEq)]
+pub struct Lent {
+    ssd: Guarded<u8>,
+    hdd: Guarded<u8>,
+    page: Guarded<u8>,
+    table: Guarded<u32>,
+    pub record: Guarded<u32>,
+    pub slot: Guarded<u32>,
+    pub image: Guarded<u32>,
+    pub offset: Guarded<u64>,
+}
+
+/// What stands in an out-parameter before a call.
+pub const UNSET: u32 = 77;
+
+impl Lent {
+    pub fn new(input: &Input) -> Self {
+        Lent {
+            ssd: Guarded::new(&input.ssd, 0xc3),
+            hdd: Guarded::new(&input.hdd, 0xc3),
+            page: Guarded::new(&input.page, 0xc3),
+            table: Guarded::new(&input.table, 0xc3c3_c3c3),
+            record: Guarded::new(&input.record, 0xc3c3_c3c3),
+            slot: Guarded::new(&[UNSET], 0xc3c3_c3c3),
+            image: Guarded::new(&[UNSET], 0xc3c3_c3c3),
+            offset: Guarded::new(&[UNSET as u64], 0xc3c3_c3c3),
+        }
+    }
+
+    pub fn same_guards(&self, other: &Lent) -> bool {
+        let bytes = [
+            (&self.ssd, &other.ssd),
+            (&self.hdd, &other.hdd),
+            (&self.page, &other.page),
+        ];
+        let words = [
+            (&self.table, &other.table),
+            (&self.record, &other.record),
+            (&self.slot, &other.slot),
+            (&self.image, &other.image),
+        ];
+        bytes.iter().all(|(a, b)| a.same_guards(b))
+            && words.iter().all(|(a, b)| a.same_guards(b))
+            && self.offset.same_guards(&other.offset)
+    }
+
+    /// What differs, by name.
+    pub fn changes(&self, other: &Lent) -> Vec<&'static str> {
+        let parts = [
+            ("ssd", self.ssd == other.ssd),
+            ("hdd", self.hdd == other.hdd),
+            ("page", self.page == other.page),
+            ("table", self.table == other.table),
+            ("record", self.record == other.record),
+            ("slot", self.slot == other.slot),
+            (
+                "place",
+                self.image == other.image && self.offset == other.offset,
+            ),
+        ];
+        parts
+            .iter()
+            .filter(|part| !part.1)
+            .map(|part| part.0)
+            .collect()
+    }
+
+    /// How many pages of the images differ.
+    pub fn pages_changed(&self, other: &Lent) -> usize {
+        let count = |a: &Guarded<u8>, b: &Guarded<u8>| {
+            let pages = a.0[GUARD..].chunks(PAGE).zip(b.0[GUARD..].chunks(PAGE));
+            pages.filter(|(x, y)| x != y).count()
+        };
+        count(&self.ssd, &other.ssd) + count(&self.hdd, &other.hdd)
+    }
+
+    /// Makes the call: its result code.
+    pub fn call(&mut self, kind: &Kind, input: &Input) -> u32 {
+        let (ssd, hdd, table) = (self.ssd.lent(), self.hdd.lent(), self.table.lent());
+        let (record, slot) = (self.record.lent(), &mut self.slot.lent()[0]);
+        let block = input.block;
+        match kind.name {
+            "format" => calls::format(ssd, hdd, table, record, input.slots, input.blocks, slot),
+            "step" => calls::step(ssd, hdd, table, record, slot),
+            "reopen" => calls::reopen(ssd, hdd, table, record, slot),
+            "offer" => calls::offer(ssd, hdd, table, record, block, slot),
+            "land" => calls::land(ssd, hdd, table, record, block, self.page.lent(), slot),
+            "fetch" => calls::fetch(ssd, hdd, table, record, block, slot),
+            "land a fetch" => calls::land_fetch(ssd, hdd, table, record, block, slot),
+            "look up" => calls::look_up(ssd, hdd, table, record, block, slot),
+            "write back" => calls::write_back(ssd, hdd, table, record, block, slot),
+            "flush" => calls::flush(ssd, hdd, table, record, slot),
+            _ => {
+                let (image, offset) = (&mut self.image.lent()[0], &mut self.offset.lent()[0]);
+                calls::view(ssd, hdd, table, record, block, image, offset)
+            }
+        }
+    }
+}

@@ -1,0 +1,200 @@
+//! Any lengths, any words and any bytes: a call is refused by a number of its own and changes nothing, or it is done and stays
+//! within what it was lent.
+
+mod input;
+mod kinds;
+mod lent;
+
+use cases::random::Random;
+use cases::rig::Rig;
+use ferjulm::{Geometry, PAGE};
+use input::{boxes, full, late, Input};
+use kinds::{Kind, KINDS};
+use lent::{Lent, UNSET};
+use std::collections::BTreeMap;
+
+const SMALL: Geometry = Geometry {
+    slots: 4,
+    blocks: 8,
+};
+
+/// Makes one call and checks it; returns its result.
+fn check(kind: &Kind, input: &Input) -> u32 {
+    let before = Lent::new(input);
+    let mut lent = before.clone();
+    let result = lent.call(kind, input);
+    let name = kind.name;
+    assert!(lent.same_guards(&before), "{name} wrote outside");
+    let changes = lent.changes(&before);
+    if (1..100).contains(&result) {
+        assert!(
+            kind.refusals.contains(&result),
+            "{name} refused by {result}"
+        );
+        assert!(
+            lent == before,
+            "{name} refused by {result} changed {changes:?}"
+        );
+        return result;
+    }
+    assert!(kind.results.contains(&result), "{name} gave {result}");
+    let allowed = changes.iter().all(|part| kind.changes.contains(part));
+    assert!(allowed, "{name} changed {changes:?}");
+    assert!(
+        lent.pages_changed(&before) <= 1,
+        "{name} stored more than a page"
+    );
+    check_set(name, result, &mut lent, input);
+    check_fits(kind, &mut lent, input);
+    result
+}
+
+/// What must have held of a call that is done: lengths, phase and block number. The box that a reopening found is in the
+/// record that it made.
+fn check_fits(kind: &Kind, lent: &mut Lent, input: &Input) {
+    let name = kind.name;
+    let record = lent.record.lent();
+    let (slots, blocks) = (record[0], record[1]);
+    let geometry = Geometry { slots, blocks };
+    assert!(
+        (1..=57_600).contains(&slots) && (1..=16_777_216).contains(&blocks),
+        "{name}: limits"
+    );
+    assert_eq!(record.len(), 71, "{name}: record");
+    assert_eq!(input.ssd.len(), geometry.ssd_bytes(), "{name}: SSD");
+    assert_eq!(input.hdd.len(), geometry.hdd_bytes(), "{name}: HDD");
+    assert_eq!(input.table.len(), geometry.table_words(), "{name}: table");
+    assert!(name != "land" || input.page.len() == PAGE, "{name}: page");
+    match name {
+        "format" | "reopen" => {}
+        "step" => assert!(input.record[4] < 2, "a step when ready"),
+        _ => assert_eq!(input.record[4], 2, "{name} when not ready"),
+    }
+    assert!(
+        !kind.refusals.contains(&7) || input.block < blocks,
+        "{name}: block"
+    );
+}
+
+/// The out-parameters of a call that is done: a slot where the answer carries one, a page that lies in its image.
+fn check_set(name: &str, result: u32, lent: &mut Lent, input: &Input) {
+    let slot = lent.slot.lent()[0];
+    let carries = [101, 104].contains(&result);
+    assert!(
+        carries == (slot != UNSET),
+        "{name} gave {result} and slot {slot}"
+    );
+    if name == "view" {
+        let image = lent.image.lent()[0];
+        assert!([1, 2].contains(&image), "view gave image {image}");
+        let of = if image == 1 { &input.ssd } else { &input.hdd };
+        let offset = lent.offset.lent()[0] as usize;
+        assert!(
+            offset % PAGE == 0 && offset + PAGE <= of.len(),
+            "view gave {offset}"
+        );
+    }
+}
+
+#[test]
+fn any_input_is_refused_or_served_within() {
+    let mut inputs = boxes(SMALL);
+    inputs.extend(boxes(Geometry {
+        slots: 1,
+        blocks: 4,
+    }));
+    let early = inputs.len();
+    for stamp in [u32::MAX, u32::MAX - 63, u32::MAX - 64] {
+        let late: Vec<Input> = inputs[..early]
+            .iter()
+            .map(|input| late(input, stamp))
+            .collect();
+        inputs.extend(late);
+    }
+    inputs.push(full());
+    let mut random = Random(20);
+    let mut counts: BTreeMap<(&str, u32), u32> = BTreeMap::new();
+    for _ in 0..150_000 {
+        let mut input = inputs[random.below(inputs.len() as u32) as usize].clone();
+        for _ in 0..random.below(3) {
+            input.spoil(&mut random);
+        }
+        input.block = random.of(&[0, 1, 2, 3, 4, 7, 8, 65, 66, u32::MAX]);
+        if random.once_in(4) {
+            input.slots = random.of(&[0, 1, 4, 5, 240, 57_600, 57_601, u32::MAX]);
+            input.blocks = random.of(&[0, 1, 8, 16_777_216, 16_777_217, u32::MAX]);
+        }
+        let kind = &KINDS[random.below(11) as usize];
+        *counts.entry((kind.name, check(kind, &input))).or_default() += 1;
+    }
+    for kind in &KINDS {
+        for result in kind.refusals.iter().chain(kind.results) {
+            assert!(
+                counts.contains_key(&(kind.name, *result)),
+                "{} never gave {result}",
+                kind.name
+            );
+        }
+    }
+}
+
+/// Lengths of 0, for each thing alone and for everything at once. Numbers in the order of `KINDS`.
+#[test]
+fn nothing_lent() {
+    type Empty = fn(&mut Input);
+    let empties: [(Empty, [u32; 11]); 5] = [
+        (|input| input.record.clear(), [3; 11]),
+        (|input| input.ssd.clear(), [4, 4, 2, 4, 4, 4, 4, 4, 4, 4, 4]),
+        (|input| input.hdd.clear(), [4; 11]),
+        (|input| input.table.clear(), [4; 11]),
+        (clear_all, [3, 3, 2, 3, 3, 3, 3, 3, 3, 3, 3]),
+    ];
+    for (empty, numbers) in empties {
+        let mut input = Input::of(Rig::formatted(SMALL), SMALL);
+        empty(&mut input);
+        for (kind, number) in KINDS.iter().zip(numbers) {
+            assert_eq!(check(kind, &input), number, "{}", kind.name);
+        }
+    }
+}
+
+fn clear_all(input: &mut Input) {
+    for bytes in [&mut input.ssd, &mut input.hdd, &mut input.page] {
+        bytes.clear();
+    }
+    input.table.clear();
+    input.record.clear();
+}
+
+/// Words that are no phase, and numbers out of range, are refused by 3 by every call that judges a record.
+#[test]
+fn words_that_are_no_record() {
+    let wrong = [
+        (0, 0),
+        (0, 57_601),
+        (1, 0),
+        (1, 16_777_217),
+        (2, 4),
+        (4, 3),
+        (5, 1),
+        (6, 2),
+        (7, 64),
+        (8, 1),
+        (70, 1),
+    ];
+    for (at, word) in wrong {
+        let mut input = Input::of(Rig::formatted(SMALL), SMALL);
+        input.record[at] = word;
+        let judging = KINDS
+            .iter()
+            .filter(|kind| !["format", "reopen"].contains(&kind.name));
+        for kind in judging {
+            assert_eq!(
+                check(kind, &input),
+                3,
+                "{} with word {at} as {word}",
+                kind.name
+            );
+        }
+    }
+}

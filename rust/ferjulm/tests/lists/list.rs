@@ -1,0 +1,282 @@
+//! A random list: which call comes next, when power fails, and how the box is reopened.
+
+use cases::beside::Beside;
+use cases::random::Random;
+use cases::rig::{Call, Said};
+use cases::stored::{page, LANDED_PAGES};
+use ferjulm::{Answer, Block, Geometry, PAGE};
+use std::collections::{BTreeMap, BTreeSet};
+
+/// How often each call is made, in hundredths: offer, land, fetch, land a fetch, look up, view, write back, flush; the rest
+/// are calls that must be refused.
+type Weights = [u32; 8];
+
+/// What a list does for a while: opens many slots, lands them, or does a bit of everything.
+const MOODS: [Weights; 3] = [
+    [58, 0, 14, 0, 3, 1, 20, 0],
+    [20, 40, 5, 15, 5, 3, 5, 2],
+    [25, 20, 8, 10, 10, 4, 15, 3],
+];
+
+/// A cut comes as often as this, for a while.
+const CUT_ONCE_IN: [u32; 4] = [10, 30, 100, 300];
+
+/// What happened, over all lists.
+#[derive(Default)]
+pub struct Counts {
+    pub events: u32,
+    pub cuts: u32,
+    pub cuts_while_mending: u32,
+    pub copied_out: u32,
+    pub most_open: usize,
+    /// Reopenings with so many metadata pages to mend.
+    pub mended: [u32; 4],
+    pub refused: BTreeMap<u32, u32>,
+}
+
+/// A list in the making.
+pub struct List<'a> {
+    b: Beside,
+    random: Random,
+    mood: Weights,
+    cut_once_in: u32,
+    landed: u64,
+    last: Option<(Call, Said)>,
+    counts: &'a mut Counts,
+}
+
+impl<'a> List<'a> {
+    /// A list on a ready box: its slots are filled, every other one clean.
+    pub fn new(geometry: Geometry, seed: u64, counts: &'a mut Counts) -> Self {
+        let mut random = Random(seed);
+        let mut list = List {
+            b: Beside::formatted(geometry),
+            cut_once_in: random.of(&CUT_ONCE_IN),
+            random,
+            mood: MOODS[0],
+            landed: 0,
+            last: None,
+            counts,
+        };
+        for block in (0..filled(geometry, &mut list.random)).map(Block) {
+            let page = list.new_page();
+            let (open, land) = match block.0 % 2 {
+                0 => (Call::Offer(block), Call::Land(block, page)),
+                _ => (Call::Fetch(block), Call::LandFetch(block)),
+            };
+            list.must(open);
+            list.must(land);
+        }
+        list
+    }
+
+    /// So many events, or a few more.
+    pub fn run(mut self, events: u32) {
+        let end = self.counts.events + events;
+        while self.counts.events < end {
+            self.event();
+        }
+        self.b.check_reads();
+    }
+
+    /// Any block; one that was not cached at first; or the block of a slot, which is any or an end of a metadata page.
+    fn block(&mut self) -> Block {
+        let Geometry { slots, blocks } = self.b.geometry;
+        let slot = match self.random.below(10) {
+            0..=2 => return Block(self.random.below(blocks)),
+            3..=5 => return Block(slots + self.random.below(blocks - slots)),
+            6..=8 => self.random.below(slots),
+            _ => self.random.of(&[239, 240, 479, 480]) % slots,
+        };
+        Block(self.b.rig.table[2 * slot as usize])
+    }
+
+    /// The block of an open slot, if there is one; now and then any block.
+    fn open_block(&mut self) -> Block {
+        let open: Vec<_> = self.b.rig.record.window().collect();
+        if open.is_empty() || self.random.once_in(5) {
+            return self.block();
+        }
+        let slot = self.random.of(&open);
+        Block(self.b.rig.table[2 * slot.0 as usize])
+    }
+
+    fn new_page(&mut self) -> Vec<u8> {
+        self.landed += 1;
+        page(LANDED_PAGES + self.landed)
+    }
+
+    /// What a caller would mostly do after the last call: try again what was copied out, write what was written back.
+    fn next_of(&mut self) -> Option<Call> {
+        if self.random.once_in(4) {
+            return None;
+        }
+        match self.last.take()? {
+            (call, Ok(Answer::CopiedOut)) => Some(call),
+            (Call::WriteBack(block), Ok(Answer::Done)) => Some(Call::Offer(block)),
+            _ => None,
+        }
+    }
+
+    /// The next call.
+    fn call(&mut self) -> Call {
+        if let Some(call) = self.next_of() {
+            return call;
+        }
+        let mut at = self.random.below(100);
+        let mut kind = 0;
+        while kind < self.mood.len() && at >= self.mood[kind] {
+            at -= self.mood[kind];
+            kind += 1;
+        }
+        match kind {
+            0 => Call::Offer(self.block()),
+            1 => Call::Land(self.open_block(), self.new_page()),
+            2 => Call::Fetch(self.block()),
+            3 => Call::LandFetch(self.open_block()),
+            4 => Call::LookUp(self.block()),
+            5 => Call::View(self.block()),
+            6 => Call::WriteBack(self.block()),
+            7 => Call::Flush,
+            _ => self.refused_call(),
+        }
+    }
+
+    /// A call that a ready box refuses.
+    fn refused_call(&mut self) -> Call {
+        let Geometry { slots, blocks } = self.b.geometry;
+        let high = Block(blocks + self.random.below(3));
+        match self.random.below(6) {
+            0 => Call::Offer(high),
+            1 => Call::View(high),
+            2 => Call::Land(self.open_block(), vec![0; PAGE - 1]),
+            3 => Call::Step,
+            4 => Call::Format(Geometry { slots: 0, blocks }),
+            _ => Call::Format(Geometry {
+                slots: slots + 1,
+                blocks,
+            }),
+        }
+    }
+
+    fn make(&mut self, call: Call) {
+        self.counts.events += 1;
+        let said = self.b.make(&call);
+        match said {
+            Ok(Answer::CopiedOut) => self.counts.copied_out += 1,
+            Ok(_) => {}
+            Err(refusal) => *self.counts.refused.entry(refusal.number()).or_default() += 1,
+        }
+        let open = self.b.rig.record.window().count();
+        self.counts.most_open = self.counts.most_open.max(open);
+        self.last = Some((call, said));
+    }
+
+    /// Makes a call that must be refused.
+    fn make_refused(&mut self) {
+        let call = self.refused_call();
+        self.make(call);
+        let refused = matches!(self.last, Some((_, Err(_))));
+        assert!(refused, "not refused: {:?}", self.last);
+    }
+
+    /// Makes a call that may not be refused.
+    fn must(&mut self, call: Call) {
+        self.make(call);
+        let made = matches!(self.last, Some((_, Ok(_))));
+        assert!(made, "refused: {:?}", self.last);
+    }
+
+    /// Cuts power, in a call or between two; any words stand in record and table then.
+    fn cut(&mut self, call: Option<Call>) {
+        self.counts.events += 1;
+        self.counts.cuts += 1;
+        self.counts.cuts_while_mending += self.b.mending() as u32;
+        let mask = self.random.of(&[u32::MAX, 15, 0]);
+        let arrives = self.random.once_in(2);
+        let random = &mut self.random;
+        let word = || random.word() & mask;
+        match call {
+            Some(call) => self.b.cut_in(&call, arrives, word),
+            None => self.b.cut(word),
+        }
+        self.last = None;
+    }
+
+    /// Reopens till a reopening is finished; most are cut while mending.
+    fn reopen(&mut self) {
+        self.must(Call::Reopen);
+        let steps = self.pending_pages();
+        self.counts.mended[steps] += 1;
+        let uncut = self.random.once_in(15);
+        while self.b.mending() {
+            match self.random.below(20) {
+                0 => self.make(Call::Offer(Block(0))),
+                1..=3 => self.must(Call::Step),
+                _ if uncut => self.must(Call::Step),
+                4..=6 => return self.cut_and_reopen(None),
+                _ => return self.cut_and_reopen(Some(Call::Step)),
+            }
+        }
+        let made = self.b.mend() as usize;
+        assert_eq!(made, steps, "a step for each page with a pending slot");
+    }
+
+    /// How many metadata pages have a pending slot.
+    fn pending_pages(&self) -> usize {
+        if !self.b.mending() {
+            return 0;
+        }
+        let pending = self.b.rig.record.window();
+        let pages: BTreeSet<u32> = pending.map(|slot| slot.0 / 240).collect();
+        pages.len()
+    }
+
+    fn cut_and_reopen(&mut self, call: Option<Call>) {
+        self.cut(call);
+        if self.random.once_in(30) {
+            self.cut(Some(Call::Reopen));
+        }
+        self.reopen();
+    }
+
+    /// A reopening with a table that is a word short is refused by 4.
+    fn reopen_short(&mut self) {
+        let word = self.b.rig.table.pop().expect("a word");
+        let said = self.b.attempt(&Call::Reopen);
+        assert_eq!(said.map_err(|refusal| refusal.number()), Err(4));
+        self.b.rig.table.push(word);
+        self.counts.events += 1;
+    }
+
+    /// One event of a ready box; it is ready again afterwards.
+    fn event(&mut self) {
+        if self.random.once_in(300) {
+            self.mood = self.random.of(&MOODS);
+            self.cut_once_in = self.random.of(&CUT_ONCE_IN);
+        }
+        if self.random.once_in(self.cut_once_in) {
+            let call = (!self.random.once_in(8)).then(|| self.call());
+            self.cut_and_reopen(call);
+        } else if self.random.once_in(200) {
+            self.reopen();
+        } else if self.random.once_in(200) {
+            self.reopen_short();
+        } else if self.random.once_in(20) {
+            self.make_refused();
+        } else {
+            let call = self.call();
+            self.make(call);
+        }
+    }
+}
+
+/// How many slots a list fills before its first event: where there are several metadata pages, up to a few before the last
+/// page, so that the next sweeps open slots in that page and, wrapping, in the first. A reopening sets the hand to 0, and
+/// sweeps seldom come as far again.
+fn filled(geometry: Geometry, random: &mut Random) -> u32 {
+    match geometry.metadata_pages() as u32 {
+        1 => geometry.slots,
+        pages => 240 * (pages - 1) - random.below(6),
+    }
+}
