@@ -1,10 +1,10 @@
-// Links target/staticlib/libbench_ffi.a, which `rt staticlib bench_ffi` writes.
+// Links the library of single pages, which `rt staticlib bench_ffi` writes; the calls come with crate ferjulm.
 use std::path::Path;
 
 fn main() {
-    let root = Path::new(env!("CARGO_MANIFEST_DIR")).join("../..");
-    let archive = root.join("target/staticlib");
-    println!("cargo:rerun-if-changed={}", archive.join("libbench_ffi.a").display());
-    println!("cargo:rustc-link-search=native={}", archive.display());
+    let archives = Path::new(env!("CARGO_MANIFEST_DIR")).join("../../target/staticlib");
+    let archive = archives.join("libbench_ffi.a");
+    println!("cargo:rerun-if-changed={}", archive.display());
+    println!("cargo:rustc-link-search=native={}", archives.display());
     println!("cargo:rustc-link-lib=static=bench_ffi");
 }

@@ -1,100 +1,88 @@
-//! Times the proved functions beside plain Rust that does the same, turn about in one run, and prints the median of
-//! each and their ratio. README.md has the command.
+//! Compares the proved calls with plain Rust that does the same, and times both. README.md has the commands.
 
-use std::hint::black_box;
-use std::time::Instant;
+mod calls;
+mod check;
+mod cost;
+mod document;
+mod image;
+mod loads;
+mod pages;
+mod plain;
+mod plot;
+mod proved;
+mod reopening;
+mod report;
+mod rng;
+mod timing;
+mod world;
 
-const PAGE: usize = 4096;
-const PAGES: usize = 64;
-const CALLS: usize = 2048;
-const TURNS: usize = 301;
+use std::collections::HashMap;
+use std::fs;
 
-extern "C" {
-    fn bench_store(image: *mut u8, image_len: usize, index: usize, page: *const u8, page_len: usize);
-    fn bench_encode(out: *mut u8, out_len: usize, stamp: u32, slot: u32, rows: *const u32, rows_len: usize);
-}
+const USAGE: &str = "bench [--check] [--only NAME] [--document FILE] [--plot FILE]";
+/// The calls in the plot; reopening is the last line there.
+const PLOTTED: [&str; 4] = [
+    "format",
+    "look up, in slot",
+    "land, open",
+    "offer, announced (swept)",
+];
 
-/// The proved store.
-fn proved_store(image: &mut [u8], index: usize, page: &[u8]) {
-    assert!(page.len() == PAGE && (index + 1) * PAGE <= image.len());
-    unsafe { bench_store(image.as_mut_ptr(), image.len(), index, page.as_ptr(), page.len()) }
-}
+type Options = HashMap<String, String>;
 
-/// The same in plain Rust.
-#[inline(never)]
-fn plain_store(image: &mut [u8], index: usize, page: &[u8]) {
-    image[index * PAGE..(index + 1) * PAGE].copy_from_slice(page);
-}
-
-/// The proved encoding of a metadata page, copied out.
-fn proved_encode(out: &mut [u8], stamp: u32, slot: u32, rows: &[u32]) {
-    assert!(out.len() == PAGE && rows.len() <= 480 && rows.len() % 2 == 0);
-    unsafe { bench_encode(out.as_mut_ptr(), out.len(), stamp, slot, rows.as_ptr(), rows.len()) }
-}
-
-/// A metadata page in plain Rust.
-fn encode(stamp: u32, window: &[u32], rows: &[u32]) -> [u8; PAGE] {
-    let mut page = [0u8; PAGE];
-    page[0..4].copy_from_slice(&stamp.to_le_bytes());
-    page[4..6].copy_from_slice(&(window.len() as u16).to_le_bytes());
-    for (place, slot) in page[16..268].chunks_exact_mut(4).zip(window) {
-        place.copy_from_slice(&slot.to_le_bytes());
+/// Options by name; each takes a value, but for --check.
+fn options() -> Options {
+    let mut args = std::env::args().skip(1);
+    let mut options = Options::new();
+    while let Some(name) = args.next() {
+        let known = ["--check", "--only", "--document", "--plot"].contains(&name.as_str());
+        assert!(known, "{USAGE}");
+        let value = if name == "--check" {
+            String::new()
+        } else {
+            args.next().expect(USAGE)
+        };
+        options.insert(name, value);
     }
-    for (entry, row) in page[512..2432].chunks_exact_mut(8).zip(rows.chunks_exact(2)) {
-        entry[0..4].copy_from_slice(&row[0].to_le_bytes());
-        entry[4] = (row[1] % 8) as u8;
-    }
-    page
+    options
 }
 
-/// The same, copied out.
-#[inline(never)]
-fn plain_encode(out: &mut [u8], stamp: u32, slot: u32, rows: &[u32]) {
-    out.copy_from_slice(&encode(stamp, &[slot; 63], rows));
-}
-
-/// Nanoseconds a call, over `CALLS` calls.
-fn time(mut call: impl FnMut(usize)) -> f64 {
-    let start = Instant::now();
-    for i in 0..CALLS {
-        call(i);
-    }
-    start.elapsed().as_nanos() as f64 / CALLS as f64
-}
-
-fn median(times: &mut [f64]) -> f64 {
-    times.sort_by(f64::total_cmp);
-    times[times.len() / 2]
-}
-
-/// Takes both turn about, prints the medians and their ratio.
-fn compare(name: &str, mut proved: impl FnMut(usize), mut plain: impl FnMut(usize)) {
-    let (mut ours, mut theirs) = (Vec::new(), Vec::new());
-    for _ in 0..TURNS {
-        ours.push(time(&mut proved));
-        theirs.push(time(&mut plain));
-    }
-    let (ours, theirs) = (median(&mut ours), median(&mut theirs));
-    println!("{name}: proved {ours:.1} ns, plain {theirs:.1} ns, ratio {:.2}", ours / theirs);
+/// The lines of the plot.
+fn lines(calls: &calls::Measured, reopened: &[reopening::Measured]) -> Vec<plot::Line> {
+    let mut lines: Vec<plot::Line> = PLOTTED
+        .iter()
+        .map(|name| (*name, calls.line(name)))
+        .collect();
+    lines.push(("reopen, 4 blocks a slot", reopening::line(reopened)));
+    lines
 }
 
 fn main() {
-    let page: Vec<u8> = (0..PAGE).map(|k| (k % 251) as u8).collect();
-    let mut image = vec![0u8; PAGES * PAGE];
-    let mut other = vec![0u8; PAGES * PAGE];
-    compare(
-        "store",
-        |i| proved_store(black_box(&mut image), i % PAGES, black_box(&page)),
-        |i| plain_store(black_box(&mut other), i % PAGES, black_box(&page)),
+    let options = options();
+    let only = |name: &str| {
+        !options.contains_key("--check") && options.get("--only").is_none_or(|only| only == name)
+    };
+    let mut sections = vec![("check", check::run())];
+    let calls = only("calls").then(calls::measure);
+    let reopened = only("reopening").then(reopening::measure);
+    sections.extend(calls.as_ref().map(|measured| ("calls", measured.table())));
+    sections.extend(only("cost").then(|| ("cost", cost::table())));
+    sections.extend(only("pages").then(|| ("pages", pages::table())));
+    sections.extend(
+        reopened
+            .as_ref()
+            .map(|measured| ("reopening", reopening::table(measured))),
     );
-    assert!(image == other, "both images are the same");
-
-    let rows: Vec<u32> = (0..480).map(|k| if k % 2 == 0 { 70_001 * k } else { 7 + k % 16 }).collect();
-    let (mut ours, mut theirs) = (vec![1u8; PAGE], vec![2u8; PAGE]);
-    compare(
-        "encode",
-        |i| proved_encode(black_box(&mut ours), i as u32, 56_789, black_box(&rows)),
-        |i| plain_encode(black_box(&mut theirs), i as u32, 56_789, black_box(&rows)),
-    );
-    assert!(ours == theirs, "both pages are the same");
+    sections.extend(only("loads").then(|| ("loads", loads::table())));
+    sections.extend(only("depths").then(|| ("depths", loads::depths())));
+    for (name, text) in &sections {
+        println!("## {name}\n\n{text}");
+    }
+    if let Some(file) = options.get("--document") {
+        let text = fs::read_to_string(file).expect("the document can be read");
+        fs::write(file, document::filled(&text, &sections)).expect("the document can be written");
+    }
+    if let (Some(file), Some(calls), Some(reopened)) = (options.get("--plot"), calls, reopened) {
+        fs::write(file, plot::svg(&lines(&calls, &reopened))).expect("the plot can be written");
+    }
 }

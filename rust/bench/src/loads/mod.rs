@@ -1,0 +1,137 @@
+//! What a cache stores for each request, and what it keeps after a cut.
+
+mod client;
+mod counted;
+mod orders;
+mod trace;
+
+use crate::report::Table;
+use client::Client;
+use counted::Stores;
+use orders::{Events, ORDERS};
+use trace::{Load, Trace, LOADS};
+
+const SLOTS: u32 = 1_000;
+const BLOCKS: u32 = 4_000;
+const WARM: usize = 4_000;
+const REQUESTS: usize = 10_000;
+/// A cut is tried after so many requests.
+const CUT: usize = 40;
+
+/// One run, counted after the box is warm. `kept` is for the box and for each rival: a share of the slots in use for each cut.
+struct Run {
+    stores: Stores,
+    events: Events,
+    hits: u64,
+    kept: [Vec<f64>; 1 + ORDERS.len()],
+}
+
+fn run(load: &Load, depth: usize, flush_every: u64) -> Run {
+    let mut trace = Trace::new(load, BLOCKS);
+    let mut client = Client::new(SLOTS, BLOCKS, depth, flush_every);
+    (0..WARM).for_each(|_| client.serve(trace.next()));
+    client.cache.stores = Stores::default();
+    client.events = Events::default();
+    client.hits = 0;
+    let mut kept: [Vec<f64>; 1 + ORDERS.len()] = Default::default();
+    for i in 0..REQUESTS {
+        client.serve(trace.next());
+        if i % CUT == 0 {
+            let flags = client.cache.world.table.chunks_exact(2).map(|row| row[1]);
+            let in_use: Vec<u32> = flags.filter(|flags| *flags != 0).collect();
+            let share = |n: usize| n as f64 / in_use.len() as f64;
+            kept[0].push(share(client.cache.kept_after_cut()));
+            for (order, shares) in ORDERS.iter().zip(&mut kept[1..]) {
+                shares.push(share(
+                    in_use.iter().filter(|flags| (order.keeps)(**flags)).count(),
+                ));
+            }
+        }
+    }
+    let (stores, events) = (client.cache.stores, client.events);
+    let answered = (events.data_stores(), events.copied_out);
+    assert!(
+        (stores.data, stores.copy_outs) == answered,
+        "pages changed as the calls answered"
+    );
+    Run {
+        stores,
+        events,
+        hits: client.hits,
+        kept,
+    }
+}
+
+/// Mean and least of the shares.
+fn shares(kept: &[f64]) -> [String; 2] {
+    let mean = kept.iter().sum::<f64>() / kept.len() as f64;
+    let least = kept.iter().copied().fold(1.0, f64::min);
+    [mean, least].map(|share| format!("{:.1} %", 100.0 * share))
+}
+
+fn add_row(table: &mut Table, names: [&str; 2], hits: u64, stores: [u64; 3], kept: &[f64]) {
+    let each = |n: u64| format!("{:.2}", n as f64 / REQUESTS as f64);
+    let mut cells: Vec<String> = names.iter().map(|name| name.to_string()).collect();
+    cells.push(each(hits));
+    cells.extend(stores.map(each));
+    cells.extend(shares(kept));
+    table.row(cells);
+}
+
+/// The box with flushes and without, then the rivals on the decisions of the box without.
+fn add_load(table: &mut Table, load: &Load) {
+    let without = run(load, 16, 0);
+    let boxes = [
+        ("box, no flush", &without),
+        ("box, flush after 16 writes", &run(load, 16, 16)),
+        ("box, flush after each write", &run(load, 16, 1)),
+    ];
+    for (name, run) in boxes {
+        let stores = [run.stores.metadata, run.stores.data, run.stores.copy_outs];
+        add_row(table, [load.name, name], run.hits, stores, &run.kept[0]);
+    }
+    let events = without.events;
+    for (order, kept) in ORDERS.iter().zip(&without.kept[1..]) {
+        let stores = [
+            (order.updates)(&events),
+            events.data_stores(),
+            events.copied_out,
+        ];
+        add_row(table, [load.name, order.name], without.hits, stores, kept);
+    }
+}
+
+/// Every load, with up to 16 slots open; counts are for each request.
+pub fn table() -> String {
+    let counts = ["hits", "metadata stores", "data stores", "copy-outs"];
+    let head = [
+        &["load", "order"][..],
+        &counts,
+        &["kept after a cut, mean", "least"],
+    ]
+    .concat();
+    let mut table = Table::new(&head);
+    LOADS.iter().for_each(|load| add_load(&mut table, load));
+    table.text()
+}
+
+/// What a cut leaves, with more or fewer slots open.
+pub fn depths() -> String {
+    let mut table = Table::new(&[
+        "skewed, 70 % reads: open at most",
+        "order",
+        "kept after a cut, mean",
+        "least",
+    ]);
+    for depth in [1, 16, 63] {
+        let run = run(&LOADS[3], depth, 0);
+        let names = ["box, no flush"]
+            .into_iter()
+            .chain(ORDERS.iter().map(|order| order.name));
+        for (name, kept) in names.zip(&run.kept) {
+            let [mean, least] = shares(kept);
+            table.row(vec![depth.to_string(), name.to_string(), mean, least]);
+        }
+    }
+    table.text()
+}

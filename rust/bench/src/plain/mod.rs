@@ -1,0 +1,36 @@
+//! The same calls in plain safe Rust, written from document 01, with the same checks in the same order.
+
+mod calls;
+mod judge;
+mod moves;
+pub mod record;
+mod reopen;
+mod steps;
+mod sweep;
+
+use crate::world::{Call, Side, World};
+pub use moves::encode;
+
+pub struct Plain;
+
+impl Side for Plain {
+    const INDEX: usize = 1;
+
+    #[inline(always)]
+    fn make(w: &mut World, call: Call) -> u32 {
+        let answer = match call {
+            Call::Format(slots, blocks) => steps::format(w, slots, blocks),
+            Call::Step => steps::step(w),
+            Call::Offer(block) => calls::offer(w, block),
+            Call::Fetch(block) => calls::fetch(w, block),
+            Call::Land(block, page) => calls::land(w, block, page),
+            Call::LandFetch(block) => calls::land_fetch(w, block),
+            Call::LookUp(block) => calls::look_up(w, block),
+            Call::View(block) => calls::view(w, block),
+            Call::WriteBack(block) => calls::write_back(w, block),
+            Call::Flush => calls::flush(w),
+            Call::Reopen => reopen::reopen(w),
+        };
+        answer.unwrap_or_else(|number| number)
+    }
+}

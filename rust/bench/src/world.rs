@@ -1,0 +1,99 @@
+//! What a call is lent, and the two sides that make calls on it.
+
+use crate::image::{Image, PAGE};
+
+/// Words of a record.
+pub const RECORD: usize = 71;
+
+/// The places in a record of what is read or set here.
+pub const HAND: usize = 2;
+pub const NEWEST: usize = 3;
+pub const PHASE: usize = 4;
+pub const STEPS: usize = 5;
+pub const COUNT: usize = 7;
+
+pub const MENDING: u32 = 1;
+pub const READY: u32 = 2;
+
+pub fn meta_pages(slots: u32) -> u32 {
+    slots.div_ceil(240)
+}
+
+/// What a call is lent, and what it sets besides.
+#[derive(PartialEq)]
+pub struct World {
+    pub ssd: Image,
+    pub hdd: Image,
+    pub table: Vec<u32>,
+    pub record: Vec<u32>,
+    pub slot: u32,
+    pub image: u32,
+    pub offset: u64,
+}
+
+impl World {
+    /// Images and table of the right length and all zero, and a record in the ready phase.
+    pub fn empty(slots: u32, blocks: u32) -> World {
+        let mut record = vec![0; RECORD];
+        record[0] = slots;
+        record[1] = blocks;
+        record[PHASE] = READY;
+        World {
+            ssd: Image::new((1 + meta_pages(slots) + slots) as usize),
+            hdd: Image::new(blocks as usize),
+            table: vec![0; 2 * slots as usize],
+            record,
+            slot: 0,
+            image: 0,
+            offset: 0,
+        }
+    }
+
+    /// A ready box whose slots all hold a block, clean: slot s holds block s.
+    pub fn full(slots: u32, blocks: u32) -> World {
+        let mut w = World::empty(slots, blocks);
+        w.ssd.touch();
+        w.hdd.touch();
+        w.table = (0..slots).flat_map(|s| [s, 1]).collect();
+        w
+    }
+
+    /// A box to be reopened: entries that are all valid and closed, clean and dirty by turns, slot s holding `block_of(s)`.
+    pub fn stored(slots: u32, blocks: u32, block_of: impl Fn(u32) -> u32) -> World {
+        let mut w = World::empty(slots, blocks);
+        let text = format!("cache=lufuw\nlayout=1\nslots={slots}\nblocks={blocks}\n");
+        w.ssd[..text.len()].copy_from_slice(text.as_bytes());
+        for s in 0..slots {
+            let page = PAGE * (1 + s as usize / 240);
+            w.ssd[page..page + 4].copy_from_slice(&(s / 240).to_le_bytes());
+            let at = page + 512 + 8 * (s as usize % 240);
+            w.ssd[at..at + 4].copy_from_slice(&block_of(s).to_le_bytes());
+            w.ssd[at + 4] = 1 + 2 * (s % 2) as u8;
+        }
+        w
+    }
+}
+
+/// A call with its arguments.
+#[derive(Clone, Copy)]
+pub enum Call<'a> {
+    Format(u32, u32),
+    Step,
+    Offer(u32),
+    Fetch(u32),
+    Land(u32, &'a [u8]),
+    LandFetch(u32),
+    LookUp(u32),
+    View(u32),
+    WriteBack(u32),
+    Flush,
+    Reopen,
+}
+
+/// One of the two programs that are compared.
+pub trait Side {
+    /// Its place where both sides' figures stand together.
+    const INDEX: usize;
+    /// Makes the call and gives its result code.
+    fn make(w: &mut World, call: Call) -> u32;
+}
