@@ -1,0 +1,84 @@
+//! A surveyor's week on a field box: a survey is saved, read, crowded out, corrected and flushed; power fails, the box
+//! reopens and mends, and the file that is copied to the office is Thursday's. Each day checks itself and shows the listing
+//! of the SSD. `run` beside this builds what is needed first.
+
+mod days;
+mod drives;
+mod files;
+mod plot;
+mod survey;
+
+use drives::{FieldBox, GEOMETRY};
+use ferjulm::{Phase, PAGE};
+use files::{pages, SURVEY};
+use std::fs::File;
+use std::path::Path;
+use std::process::{Command, ExitCode};
+
+type Done = Result<(), Box<dyn std::error::Error>>;
+
+/// Shows the listing of the SSD.
+fn list(field: &FieldBox, listing: &Path) -> Done {
+    let output = Command::new(listing)
+        .stdin(File::open(field.ssd())?)
+        .output()?;
+    let text = String::from_utf8(output.stdout)?;
+    assert!(
+        output.status.success() && text.starts_with("layout=1\n"),
+        "the SSD lists: {text}"
+    );
+    for line in text.lines() {
+        println!("    {line}");
+    }
+    println!();
+    Ok(())
+}
+
+/// The disk as last year left it: an older survey, and other files.
+fn last_year() -> Vec<u8> {
+    let mut hdd: Vec<u8> = (0..GEOMETRY.blocks)
+        .flat_map(|block| [!block as u8; PAGE])
+        .collect();
+    let legs = survey::legs();
+    let older = survey::file("Ferjulm, last year", &legs[legs.len() / 2..]);
+    for (block, page) in pages(&older, SURVEY) {
+        hdd[GEOMETRY.block_at(block)..][..PAGE].copy_from_slice(&page);
+    }
+    hdd
+}
+
+fn week(folder: &Path, listing: &Path) -> Done {
+    let legs = survey::legs();
+    let typed = survey::misread(&legs);
+    let first = survey::file("Ferjulm", &typed);
+    let mut field = FieldBox::new(folder, last_year())?;
+    field.call(|cache| cache.format(GEOMETRY))??;
+    while field.read(|cache| cache.record().phase()) != Some(Phase::Ready) {
+        field.call(|cache| cache.step())??;
+    }
+    days::monday(&mut field, &first)?;
+    list(&field, listing)?;
+    days::tuesday(&mut field, &first)?;
+    list(&field, listing)?;
+    days::wednesday(&mut field, &first)?;
+    list(&field, listing)?;
+    let second = days::thursday(&mut field, &typed, &legs)?;
+    list(&field, listing)?;
+    days::friday(&mut field)?;
+    list(&field, listing)?;
+    days::saturday(&mut field)?;
+    list(&field, listing)?;
+    days::sunday(&mut field, &second, folder)?;
+    list(&field, listing)
+}
+
+fn main() -> ExitCode {
+    let root = Path::new(env!("CARGO_MANIFEST_DIR")).join("../..");
+    match week(&root.join("target/week"), &root.join("target/bin/listing")) {
+        Ok(()) => ExitCode::SUCCESS,
+        Err(why) => {
+            eprintln!("the week broke off: {why}");
+            ExitCode::FAILURE
+        }
+    }
+}
