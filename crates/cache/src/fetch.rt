@@ -22,22 +22,14 @@ pub fn fetch(
 ) -> Outcome
     ensures { λ q. ⌜ record { said = paperOf (q .answer); state = q .state; table = now (table .exit); ssd = now (ssd .exit); hdd = now (hdd .exit) } ≡ fetchOf (now (ssd .entry)) (now (hdd .entry)) (now (table .entry)) state block ⌝ }
 {
-    let judged = judge::serves(ssd.len(), hdd.len(), 4096, table, state, block);
-    let number = judged.number;
+    let seen = judge::serves(ssd.len(), hdd.len(), 4096, table, state, block);
+    let number = seen.number;
     if number != 0 {
         return answers::refused(number, state);
     }
-    let condition = judged.condition;
+    let condition = seen.condition;
     match condition {
-        Condition::NotCached => sweeping::sweep_for(
-            ssd,
-            hdd,
-            table,
-            state,
-            block,
-            5,
-            judged.writing,
-        ),
+        Condition::NotCached => sweeping::sweep_for(ssd, hdd, table, state, block, 5, seen.writing),
         Condition::Clean(_) => answers::refused(10, state),
         Condition::Dirty(_) => answers::refused(10, state),
         Condition::Writing(_) => answers::refused(8, state),

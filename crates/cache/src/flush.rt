@@ -16,8 +16,8 @@ ghost use Rattle.protocol.specs.Calls.{flushOf};
 pub fn flush(ssd: &mut [u8], hdd: &[u8], table: &[u32], state: Record) -> Outcome
     ensures { λ q. ⌜ record { said = paperOf (q .answer); state = q .state; table = now (table .entry); ssd = now (ssd .exit); hdd = now (hdd .entry) } ≡ flushOf (now (ssd .entry)) (now (hdd .entry)) (now (table .entry)) state ⌝ }
 {
-    let judged = judge::ready(ssd.len(), hdd.len(), 4096, table, state, Block(0));
-    let number = judged.number;
+    let seen = judge::ready(ssd.len(), hdd.len(), 4096, table, state, Block(0));
+    let number = seen.number;
     if number != 0 {
         return answers::refused(number, state);
     }

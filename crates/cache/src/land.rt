@@ -40,12 +40,12 @@ pub fn land(
 ) -> Outcome
     ensures { λ q. ⌜ record { said = paperOf (q .answer); state = q .state; table = now (table .exit); ssd = now (ssd .exit); hdd = now (hdd .entry) } ≡ landOf (now (ssd .entry)) (now (hdd .entry)) (now (table .entry)) state block (now (page .entry)) ⌝ }
 {
-    let judged = judge::serves(ssd.len(), hdd.len(), page.len(), table, state, block);
-    let number = judged.number;
+    let seen = judge::serves(ssd.len(), hdd.len(), page.len(), table, state, block);
+    let number = seen.number;
     if number != 0 {
         return answers::refused(number, state);
     }
-    let condition = judged.condition;
+    let condition = seen.condition;
     match condition {
         Condition::NotCached => answers::refused(9, state),
         Condition::Clean(_) => answers::refused(9, state),

@@ -45,12 +45,12 @@ pub fn land_fetch(
 ) -> Outcome
     ensures { λ q. ⌜ record { said = paperOf (q .answer); state = q .state; table = now (table .exit); ssd = now (ssd .exit); hdd = now (hdd .entry) } ≡ landFetchOf (now (ssd .entry)) (now (hdd .entry)) (now (table .entry)) state block ⌝ }
 {
-    let judged = judge::serves(ssd.len(), hdd.len(), 4096, table, state, block);
-    let number = judged.number;
+    let seen = judge::serves(ssd.len(), hdd.len(), 4096, table, state, block);
+    let number = seen.number;
     if number != 0 {
         return answers::refused(number, state);
     }
-    let condition = judged.condition;
+    let condition = seen.condition;
     match condition {
         Condition::NotCached => answers::refused(9, state),
         Condition::Clean(_) => answers::refused(9, state),

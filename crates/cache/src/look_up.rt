@@ -17,12 +17,12 @@ ghost use Rattle.protocol.specs.Calls.{lookUpOf};
 pub fn look_up(ssd: &[u8], hdd: &[u8], table: &mut [u32], state: Record, block: Block) -> Outcome
     ensures { λ q. ⌜ record { said = paperOf (q .answer); state = q .state; table = now (table .exit); ssd = now (ssd .entry); hdd = now (hdd .entry) } ≡ lookUpOf (now (ssd .entry)) (now (hdd .entry)) (now (table .entry)) state block ⌝ }
 {
-    let judged = judge::serves(ssd.len(), hdd.len(), 4096, table, state, block);
-    let number = judged.number;
+    let seen = judge::serves(ssd.len(), hdd.len(), 4096, table, state, block);
+    let number = seen.number;
     if number != 0 {
         return answers::refused(number, state);
     }
-    let condition = judged.condition;
+    let condition = seen.condition;
     match condition {
         Condition::NotCached => answers::answered(Answer::OnDisk, state),
         Condition::Clean(s) => {

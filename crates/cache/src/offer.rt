@@ -24,24 +24,16 @@ pub fn offer(
 ) -> Outcome
     ensures { λ q. ⌜ record { said = paperOf (q .answer); state = q .state; table = now (table .exit); ssd = now (ssd .exit); hdd = now (hdd .exit) } ≡ offerOf (now (ssd .entry)) (now (hdd .entry)) (now (table .entry)) state block ⌝ }
 {
-    let judged = judge::serves(ssd.len(), hdd.len(), 4096, table, state, block);
-    let number = judged.number;
+    let seen = judge::serves(ssd.len(), hdd.len(), 4096, table, state, block);
+    let number = seen.number;
     if number != 0 {
         return answers::refused(number, state);
     }
-    let condition = judged.condition;
+    let condition = seen.condition;
     match condition {
-        Condition::NotCached => sweeping::sweep_for(
-            ssd,
-            hdd,
-            table,
-            state,
-            block,
-            7,
-            judged.writing,
-        ),
+        Condition::NotCached => sweeping::sweep_for(ssd, hdd, table, state, block, 7, seen.writing),
         Condition::Clean(s) => {
-            let spent = sweeping::opening_number(judged.writing, state.newest);
+            let spent = sweeping::opening_number(seen.writing, state.newest);
             if spent != 0 {
                 return answers::refused(spent, state);
             }

@@ -22,14 +22,14 @@ pub fn view<'a>(
 ) -> &'a [u8]
     ensures { λ r. ⌜ record { number = now (refusal .exit); handed = part r } ≡ viewOf (part (ssd .entry)) (part (hdd .entry)) (now (table .entry)) state block ⌝ }
 {
-    let judged = judge::serves(ssd.len(), hdd.len(), 4096, table, state, block);
-    let number = judged.number;
+    let seen = judge::serves(ssd.len(), hdd.len(), 4096, table, state, block);
+    let number = seen.number;
     *refusal = number;
     if number != 0 {
         return &ssd[0..0];
     }
     let l = places::label(state.slots, state.blocks);
-    let condition = judged.condition;
+    let condition = seen.condition;
     match condition {
         Condition::NotCached => pages::page_at(hdd, places::block_place(l, block)),
         Condition::Clean(s) => pages::page_at(ssd, places::data_place(l, s)),

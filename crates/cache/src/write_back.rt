@@ -23,12 +23,12 @@ pub fn write_back(
 ) -> Outcome
     ensures { λ q. ⌜ record { said = paperOf (q .answer); state = q .state; table = now (table .exit); ssd = now (ssd .entry); hdd = now (hdd .exit) } ≡ writeBackOf (now (ssd .entry)) (now (hdd .entry)) (now (table .entry)) state block ⌝ }
 {
-    let judged = judge::serves(ssd.len(), hdd.len(), 4096, table, state, block);
-    let number = judged.number;
+    let seen = judge::serves(ssd.len(), hdd.len(), 4096, table, state, block);
+    let number = seen.number;
     if number != 0 {
         return answers::refused(number, state);
     }
-    let condition = judged.condition;
+    let condition = seen.condition;
     match condition {
         Condition::NotCached => answers::answered(Answer::NothingToDo, state),
         Condition::Clean(_) => answers::answered(Answer::NothingToDo, state),

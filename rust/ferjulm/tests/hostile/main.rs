@@ -105,11 +105,9 @@ fn any_input_is_refused_or_served_within() {
     }));
     let early = inputs.len();
     for stamp in [u32::MAX, u32::MAX - 63, u32::MAX - 64] {
-        let late: Vec<Input> = inputs[..early]
-            .iter()
-            .map(|input| late(input, stamp))
-            .collect();
-        inputs.extend(late);
+        for k in 0..early {
+            inputs.push(late(&inputs[k], stamp));
+        }
     }
     inputs.push(full());
     let mut random = Random(20);
