@@ -24,7 +24,9 @@ use Rattle.protocol.specs.Plan.{format, plan}
 use Rattle.protocol.specs.Perform.{formatStore, perform}
 use Rattle.protocol.specs.Judge.{lengthsTest, badLimits, wrongLength, lengthTest, test, firstOf, judged}
 use Rattle.protocol.specs.Calls.{boxOf, effectOf, formatOf}
+use Rattle.layout.proofs.Booleans.{Told, told, told-true, told-false}
 use Rattle.protocol.proofs.model.Base.{and-right}
+use Rattle.cache.specs.Format.{formatNumber, tableAfter}
 
 -- one word more is zero
 pub cleared-more : (table : List ℕ) (i : ℕ) → i < length table → take i table ≡ replicate i 0
@@ -67,7 +69,7 @@ module _ (ssd hdd table : List ℕ) (state : Record) (slots blocks : ℕ) (l : L
   unfolding judged firstOf test
   limits-judged e = rw (firstOf, ← L, e)
 
-  pub limits-refused : (said : Paper) (next : Record) → withinLimits l ≡ false → said ≡ refusal 1 → next ≡ state
+  limits-refused : (said : Paper) (next : Record) → withinLimits l ≡ false → said ≡ refusal 1 → next ≡ state
       → record { said = said; state = next; table = table; ssd = ssd; hdd = hdd } ≡ formatOf ssd hdd table state slots blocks
   unfolding effectOf
   limits-refused said next e f g = rw (f, g, limits-judged e)
@@ -78,7 +80,7 @@ module _ (ssd hdd table : List ℕ) (state : Record) (slots blocks : ℕ) (l : L
     unfolding judged firstOf test lengthTest lengthsTest
     length-judged t = rw (firstOf, ← L, e) (rw (firstOf, rw L at t))
 
-    pub length-refused : (said : Paper) (next : Record) → lengthsTest l (length ssd) (length hdd) (length table) ≡ false
+    length-refused : (said : Paper) (next : Record) → lengthsTest l (length ssd) (length hdd) (length table) ≡ false
         → said ≡ refusal 4 → next ≡ state
         → record { said = said; state = next; table = table; ssd = ssd; hdd = hdd } ≡ formatOf ssd hdd table state slots blocks
     unfolding effectOf
@@ -95,8 +97,38 @@ module _ (ssd hdd table : List ℕ) (state : Record) (slots blocks : ℕ) (l : L
         let h = and-right (eqb (length ssd) (ssdLength l)) _ t in
         rw L at (eqb-true (length table) (tableLength l) (and-right (eqb (length hdd) (hddLength l)) _ h))
 
-    pub format-begun : (said : Paper) (next : Record) (after : List ℕ) → lengthsTest l (length ssd) (length hdd) (length table) ≡ true
+    format-begun : (said : Paper) (next : Record) (after : List ℕ) → lengthsTest l (length ssd) (length hdd) (length table) ≡ true
         → said ≡ done → next ≡ recordOf l (record { 0 = 0 }) 0 (Formatting 0) false [] → after ≡ replicate (length table) 0
         → record { said = said; state = next; table = after; ssd = ssd; hdd = hdd } ≡ formatOf ssd hdd table state slots blocks
     unfolding effectOf plan perform
     format-begun said next after t f g h = rw (f, g, h, table-size t, begun-judged t, L)
+
+  -- by its number
+  module _ (n : ℕ) (e : n ≡ formatNumber l (length ssd) (length hdd) (length table)) (said : Paper) (next : Record) (after : List ℕ)
+      (h : after ≡ tableAfter n table) where
+    pub format-refused : n ≢ 0 → said ≡ refusal n → next ≡ state
+        → record { said = said; state = next; table = after; ssd = ssd; hdd = hdd } ≡ formatOf ssd hdd table state slots blocks
+    format-refused z f g = go (told (withinLimits l)) (told (lengthsTest l (length ssd) (length hdd) (length table)))
+      where
+        kept : (m : ℕ) → n ≡ suc m → after ≡ table
+        kept m q = h ∙ ap (λ (k : ℕ). tableAfter k table) q
+
+        go : Told (withinLimits l) → Told (lengthsTest l (length ssd) (length hdd) (length table))
+            → record { said = said; state = next; table = after; ssd = ssd; hdd = hdd } ≡ formatOf ssd hdd table state slots blocks
+        go (told-false a) t =
+            let q : n ≡ 1 = e ∙ rw a in
+            rw (kept 0 q) (limits-refused said next a (f ∙ ap refusal q) g)
+        go (told-true a) (told-false t) =
+            let q : n ≡ 4 = e ∙ rw (a, t) in
+            rw (kept 3 q) (length-refused a said next t (f ∙ ap refusal q) g)
+        go (told-true a) (told-true t) = absurd (z (e ∙ rw (a, t)))
+
+    pub format-begins : n ≡ 0 → said ≡ done → next ≡ recordOf l (record { 0 = 0 }) 0 (Formatting 0) false []
+        → record { said = said; state = next; table = after; ssd = ssd; hdd = hdd } ≡ formatOf ssd hdd table state slots blocks
+    format-begins z f g = go (told (withinLimits l)) (told (lengthsTest l (length ssd) (length hdd) (length table)))
+      where
+        go : Told (withinLimits l) → Told (lengthsTest l (length ssd) (length hdd) (length table))
+            → record { said = said; state = next; table = after; ssd = ssd; hdd = hdd } ≡ formatOf ssd hdd table state slots blocks
+        go (told-false a) t = let q : n ≡ 1 = e ∙ rw a in absurd (omega (arith, q, z))
+        go (told-true a) (told-false t) = let q : n ≡ 4 = e ∙ rw (a, t) in absurd (omega (arith, q, z))
+        go (told-true a) (told-true t) = format-begun a said next after t f g (h ∙ ap (λ (k : ℕ). tableAfter k table) z)

@@ -24,6 +24,7 @@ ghost use Rattle.protocol.specs.Rows.{labelIn, windowIn, recordOf, withPhase};
 ghost use Rattle.protocol.specs.Perform.{formatStore, formatState};
 ghost use Rattle.protocol.specs.Calls.{formatOf};
 ghost use Rattle.serving.specs.Moves.{Fits};
+ghost use Rattle.cache.specs.Format.{formatNumber, tableAfter};
 
 // Zeroes the table.
 fn clear_table(table: &mut [u32])
@@ -36,8 +37,22 @@ fn clear_table(table: &mut [u32])
     }
 }
 
+// The number that refuses a format, or 0; where it is 0 the table is zeroed.
+pub fn begin(l: Label, ssd: usize, hdd: usize, table: &mut [u32]) -> u32
+    ensures { λ r. ⌜ (r ≡ formatNumber l ssd hdd (length (now (table .entry)))) × (now (table .exit) ≡ tableAfter r (now (table .entry))) ⌝ }
+{
+    if !places::within_limits(l) {
+        return 1;
+    }
+    if !judge::lengths_ok(l, ssd, hdd, table.len()) {
+        return 4;
+    }
+    clear_table(table);
+    0
+}
+
 // The record with which a format begins.
-fn begun(l: Label) -> Record
+pub fn begun(l: Label) -> Record
     ensures { λ r. ⌜ r ≡ recordOf l (record { 0 = 0 }) 0 (Formatting 0) false [] ⌝ }
 {
     Record {
@@ -63,13 +78,10 @@ pub fn format(
     ensures { λ q. ⌜ record { said = paperOf (q .answer); state = q .state; table = now (table .exit); ssd = now (ssd .entry); hdd = now (hdd .entry) } ≡ formatOf (now (ssd .entry)) (now (hdd .entry)) (now (table .entry)) state slots blocks ⌝ }
 {
     let l = places::label(slots, blocks);
-    if !places::within_limits(l) {
-        return answers::refused(1, state);
+    let number = begin(l, ssd.len(), hdd.len(), table);
+    if number != 0 {
+        return answers::refused(number, state);
     }
-    if !judge::lengths_ok(l, ssd.len(), hdd.len(), table.len()) {
-        return answers::refused(4, state);
-    }
-    clear_table(table);
     let next = begun(l);
     answers::answered(Answer::Done, next)
 }

@@ -74,6 +74,15 @@ module _ (c : Call) (ssd hdd table words : List ℕ) (slot : ℕ) where
     unfolding cFresh
     on-words n h = rw (eq-eqb (length words) 71 h) called
 
+  -- a result that is in hand, by any 71 words
+  pub fresh-words : (n : ℕ) (said : Paper) (state : Record) {table′ ssd′ hdd′ after : List ℕ} {next code : ℕ} → length words ≡ 71
+      → record { said = said; state = state; table = table′; ssd = ssd′; hdd = hdd′ } ≡ resultOf c (boxOf ssd hdd table (unpacked words))
+      → record { code = code; words = after; slot = next } ≡ closedBy said state words slot
+      → record { code = code; words = after; table = table′; ssd = ssd′; hdd = hdd′; slot = next } ≡ cFresh n c ssd hdd table words slot
+  unfolding cFresh
+  fresh-words n said state {table′} {ssd′} {hdd′} {after} {next} {code} h p q =
+      rw (eq-eqb (length words) 71 h) (left-is (resultOf c (boxOf ssd hdd table (unpacked words))) said state table′ ssd′ hdd′ words after slot next code p q)
+
   -- words of another number
   pub other-length : (n code : ℕ) → (length words ≡ 71 → ⊥) → code ≡ n
       → kept code ssd hdd table words slot ≡ cFresh n c ssd hdd table words slot

@@ -1,6 +1,7 @@
 // The calls but a view: the words are judged and unpacked, the box's call is made, and what it leaves is packed.
 use crate::closing;
 use crate::record;
+use cache::format;
 use layout::Block;
 use layout::LabelRead;
 use layout::places;
@@ -11,7 +12,7 @@ ghost use Rattle.protocol.specs.Judge.{labelTest};
 ghost use Rattle.protocol.specs.Plan.{step, flush, offer, fetch, landFetch, lookUp, writeBack, land};
 ghost use Rattle.ferjulm.specs.Calls.{cCall, cFormat, cReopen};
 
-// Begins a format. The words handed in are not judged, but for their number.
+// Begins a format. The words handed in are not judged, but for their number; the new record goes straight into them.
 #[no_mangle]
 pub extern "C" fn ferjulm_format(
     ssd: &[u8],
@@ -24,16 +25,20 @@ pub extern "C" fn ferjulm_format(
 ) -> u32
     ensures { λ r. ⌜ record { code = r; words = now (words .exit); table = now (table .exit); ssd = now (ssd .entry); hdd = now (hdd .entry); slot = now (slot .exit) } ≡ cFormat slots blocks (now (ssd .entry)) (now (hdd .entry)) (now (table .entry)) (now (words .entry)) (now (slot .entry)) ⌝ }
 {
+    let l = places::label(slots, blocks);
     if words.len() != 71 {
-        let l = places::label(slots, blocks);
         if places::within_limits(l) {
             return 3;
         }
         return 1;
     }
-    let state = record::unpack(words);
-    let outcome = cache::format::format(ssd, hdd, table, state, slots, blocks);
-    closing::closed(words, slot, outcome)
+    let number = format::begin(l, ssd.len(), hdd.len(), table);
+    if number != 0 {
+        return number;
+    }
+    let state = format::begun(l);
+    record::pack(words, state);
+    0
 }
 
 // Offers a block.

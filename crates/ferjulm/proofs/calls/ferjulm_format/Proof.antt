@@ -1,8 +1,11 @@
-use mathlib.Core.Path.{_≡_, sym, ap, _∙_}
-use Rattle.layout.specs.Places.{labelOf, withinLimits}
-use Rattle.protocol.specs.Plan.{format}
-use Rattle.ferjulm.proofs.CodeLaws.{on-words, other-length}
+use mathlib.Core.Path.{_≡_, refl, sym, ap, _∙_}
 use borrow.Author.Needs.{needs}
+use Rattle.layout.specs.Places.{labelOf, withinLimits}
+use Rattle.protocol.specs.Paper.{refusal, done}
+use Rattle.protocol.specs.Plan.{format}
+use Rattle.cache.proofs.FormatLaws.{format-refused, format-begins}
+use Rattle.ferjulm.specs.Words.{unpacked}
+use Rattle.ferjulm.proofs.CodeLaws.{fresh-words, other-length}
 use Rattle.ferjulm.proofs.calls.ferjulm_format.Statement.{statement}
 use Rattle.ferjulm.proofs.calls.ferjulm_format.Tie as tie
 
@@ -15,48 +18,67 @@ within-limits-requires c κs = search needs
 -- the test of the limits, on the numbers handed in
 limits : (c : tie.After-within-limits)
     → let a = c .before .before .before .before .before .before .before .args in c .within-limits .result ≡ withinLimits (labelOf (a .slots) (a .blocks))
-limits c = c .within-limits .ensures ∙ ap withinLimits (c .before .label .ensures)
+limits c = c .within-limits .ensures ∙ ap withinLimits (c .before .before .label .ensures)
 
 returns : tie.Need-returns
 returns c =
     let w = c .before in
-    let o = w .before .before in
-    let a = o .before .before .before .before .before .args in
+    let o = w .before in
+    let a = o .before .before .before .before .before .before .args in
     other-length (format (a .slots) (a .blocks)) (a .ssd .now) (a .hdd .now) (a .table .now) (a .words .now) (a .slot .now) _ 3 (o .if1 .taken)
     (rw (sym (limits w) ∙ c .if2 .taken))
 
 returns-2 : tie.Need-returns-2
 returns-2 c =
     let w = c .before in
-    let o = w .before .before in
-    let a = o .before .before .before .before .before .args in
+    let o = w .before in
+    let a = o .before .before .before .before .before .before .args in
     other-length (format (a .slots) (a .blocks)) (a .ssd .now) (a .hdd .now) (a .table .now) (a .words .now) (a .slot .now) _ 1 (o .if1 .taken)
     (rw (sym (limits w) ∙ c .if2 .left))
 
-unpack-requires : tie.Need-unpack-requires
-unpack-requires c κs = search needs
-
-format-requires : tie.Need-format-requires
-format-requires c κs = search needs
-
-closed-requires : tie.Need-closed-requires
-closed-requires c κs = search needs
+begin-requires : tie.Need-begin-requires
+begin-requires c κs = search needs
 
 same-length : tie.Need-same-length
 same-length c = search needs
 
+returns-3 : tie.Need-returns-3
+returns-3 c =
+    let b = c .before .before .before in
+    let e = b .before .before in
+    let l = e .before in
+    let a = l .before .before .before .before .before .args in
+    let r = unpacked (a .words .now) in
+    fresh-words (format (a .slots) (a .blocks)) (a .ssd .now) (a .hdd .now) (a .table .now) (a .words .now) (a .slot .now) _
+    (refusal (b .begin .result)) r (e .if1 .left)
+    (format-refused (a .ssd .now) (a .hdd .now) (a .table .now) r (a .slots) (a .blocks) _ (l .label .ensures) _ (b .begin .ensures .0)
+    _ _ _ (b .begin .ensures .1) (c .if3 .taken) refl refl) refl
+
+begun-requires : tie.Need-begun-requires
+begun-requires c κs = search needs
+
+pack-requires : tie.Need-pack-requires
+pack-requires c κs = search needs
+
 same-length-2 : tie.Need-same-length-2
 same-length-2 c = search needs
 
-returns-3 : tie.Need-returns-3
-returns-3 c =
-    let q = c .before .before in
-    let p = q .before .before .before .before .before in
-    let u = p .before .before in
-    let e = u .before .before in
-    let a = e .before .before .before .before .before .args in
-    on-words (format (a .slots) (a .blocks)) (a .ssd .now) (a .hdd .now) (a .table .now) (a .words .now) (a .slot .now)
-    (u .unpack .result) (p .format .result) (u .unpack .ensures) (p .format .ensures) (q .closed .ensures) _ (e .if1 .left)
+same-length-3 : tie.Need-same-length-3
+same-length-3 c = search needs
+
+returns-4 : tie.Need-returns-4
+returns-4 c =
+    let p = c .before .before in
+    let g = p .before .before in
+    let b = g .before .before .before .before in
+    let e = b .before .before in
+    let l = e .before in
+    let a = l .before .before .before .before .before .args in
+    let r = unpacked (a .words .now) in
+    fresh-words (format (a .slots) (a .blocks)) (a .ssd .now) (a .hdd .now) (a .table .now) (a .words .now) (a .slot .now) _
+    done (g .begun .result) (e .if1 .left)
+    (format-begins (a .ssd .now) (a .hdd .now) (a .table .now) r (a .slots) (a .blocks) _ (l .label .ensures) _ (b .begin .ensures .0)
+    _ _ _ (b .begin .ensures .1) (g .before .if3 .left) refl (g .begun .ensures)) (rw (p .pack .ensures))
 
 pub ferjulm-format-spec : {M : Type 1} → statement M
 ferjulm-format-spec =
@@ -66,9 +88,11 @@ ferjulm-format-spec =
     within-limits-requires
     returns
     returns-2
-    unpack-requires
-    format-requires
-    closed-requires
+    begin-requires
     same-length
+    returns-3
+    begun-requires
+    pack-requires
     same-length-2
-    returns-3)
+    same-length-3
+    returns-4)
