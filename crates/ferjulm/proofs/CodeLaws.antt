@@ -1,35 +1,19 @@
 -- What a call leaves at the C interface, by its answer and by what its contract says.
 use Prim.Native.Nat.{ℕ}
-use mathlib.Core.Path.{_≡_, refl, ap, _∙_}
+use mathlib.Core.Path.{_≡_, ap, _∙_}
 use mathlib.Core.Bool.{true, false}
 use mathlib.Core.List.{List}
 use lib.ListN.{length}
-use lib.Dec.{eqb}
-use borrow.Author.Tests.{eq-eqb, ne-eqb, eqb-true}
+use borrow.Author.Tests.{eq-eqb, ne-eqb}
 use Rattle.protocol.specs.declared.Record.{Record}
 use Rattle.protocol.specs.declared.Outcome.{Outcome}
-use Rattle.protocol.specs.Paper.{Paper, refusal, answer, refused, paperOf}
+use Rattle.protocol.specs.Paper.{Paper, paperOf}
 use Rattle.protocol.specs.Box.{Result}
 use Rattle.protocol.specs.Plan.{Call}
 use Rattle.protocol.specs.Calls.{resultOf, boxOf}
-use Rattle.layout.proofs.Booleans.{clash}
-use Rattle.protocol.proofs.model.Base.{and-left}
-use Rattle.ferjulm.specs.Words.{wordsOf, unpacked, isRecord}
-use Rattle.ferjulm.specs.Codes.{codeOf, slotAfter, closedBy}
+use Rattle.c_record.specs.Words.{unpacked, isRecord}
+use Rattle.c_record.specs.Codes.{closedBy}
 use Rattle.ferjulm.specs.Calls.{kept, leftBy, cCall, cFresh}
-
--- a refusal leaves words and slot
-pub refused-closed : (said : Paper) (r : Record) (words : List ℕ) (slot code : ℕ) → code ≡ codeOf said → refused said ≡ true
-    → record { code = code; words = words; slot = slot } ≡ closedBy said r words slot
-refused-closed (refusal n) r words slot code e h = rw e
-refused-closed (answer n s) r words slot code e h = clash h refl
-
--- any other answer packs the record, and sets the slot that it carries
-pub answered-closed : (said : Paper) (r : Record) (words after : List ℕ) (slot next code : ℕ) → code ≡ codeOf said → refused said ≡ false
-    → after ≡ wordsOf r → next ≡ slotAfter said slot
-    → record { code = code; words = after; slot = next } ≡ closedBy said r words slot
-answered-closed (refusal n) r words after slot next code e h p q = clash refl h
-answered-closed (answer n s) r words after slot next code e h p q = rw (e, p, q)
 
 -- what a call and the closing after it leave is what the call's result leaves
 left-is : (R : Result) (said : Paper) (state : Record) (table ssd hdd words after : List ℕ) (slot next code : ℕ)
@@ -39,11 +23,6 @@ left-is : (R : Result) (said : Paper) (state : Record) (table ssd hdd words afte
 left-is R said state table ssd hdd words after slot next code p q =
     (λ i. record { code = q i .code; words = q i .words; table = table; ssd = ssd; hdd = hdd; slot = q i .slot })
     ∙ ap (λ (r : Result). leftBy r words slot) p
-
--- words that are a record are 71
-pub record-length : (words : List ℕ) → isRecord words ≡ true → length words ≡ 71
-unfolding isRecord
-record-length words h = eqb-true _ _ (and-left (eqb (length words) 71) _ h)
 
 module _ (c : Call) (ssd hdd table words : List ℕ) (slot : ℕ) where
   -- no record: 3, and nothing changes

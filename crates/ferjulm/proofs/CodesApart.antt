@@ -17,7 +17,7 @@ use Rattle.protocol.specs.Judge.{Reason, badLimits, noLabel, badRecord, wrongLe
 use Rattle.protocol.specs.Calls.{decided, effectOf, resultOf, boxOf}
 use Rattle.layout.proofs.Booleans.{clash}
 use Rattle.protocol.proofs.why.Answers.{plan-answers}
-use Rattle.ferjulm.specs.Codes.{codeOf, slotAfter}
+use Rattle.c_record.specs.Codes.{codeOf, slotAfter}
 use Rattle.ferjulm.specs.Calls.{kept, leftBy}
 
 pub record IsRefusal (code : ℕ) : Type 0 where

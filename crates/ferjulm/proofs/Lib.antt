@@ -1,5 +1,3 @@
-pub mod WordLaws
-pub mod RoundTrip
 pub mod CodeLaws
 pub mod CodesApart
 pub mod ViewLaws

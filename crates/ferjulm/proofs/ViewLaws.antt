@@ -25,7 +25,7 @@ use Rattle.serving.specs.Judging.{servesThen, judgedBy}
 use Rattle.serving.proofs.JudgingLaws.{found, looked}
 use Rattle.serving.proofs.ServeLaws.{view-judges, first-judged, judged-on}
 use Rattle.ferjulm.specs.declared.Place.{Place}
-use Rattle.ferjulm.specs.Words.{unpacked, isRecord}
+use Rattle.c_record.specs.Words.{unpacked, isRecord}
 use Rattle.ferjulm.specs.View.{placeFor, ViewLeft, placed, viewPlaceOf, cView}
 use Rattle.ferjulm.proofs.CodesApart.{number-refuses}
 

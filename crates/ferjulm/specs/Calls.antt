@@ -11,8 +11,8 @@ use Rattle.protocol.specs.Box.{Result}
 use Rattle.protocol.specs.Plan.{Call, format, reopen}
 use Rattle.protocol.specs.Judge.{labelTest}
 use Rattle.protocol.specs.Calls.{resultOf, boxOf}
-use Rattle.ferjulm.specs.Words.{unpacked, recordIn}
-use Rattle.ferjulm.specs.Codes.{codeOf, slotAfter, wordsAfter}
+use Rattle.c_record.specs.Words.{unpacked, recordIn}
+use Rattle.c_record.specs.Codes.{codeOf, slotAfter, wordsAfter}
 
 pub record Left : Type 0 where
   pub code : ℕ

@@ -1,4 +1,2 @@
-pub mod Words
-pub mod Codes
 pub mod Calls
 pub mod View

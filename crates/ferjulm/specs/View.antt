@@ -14,7 +14,7 @@ use Rattle.protocol.specs.Plan.{view}
 use Rattle.protocol.specs.Judge.{Reason, numberOf, judged}
 use Rattle.protocol.specs.Calls.{boxOf}
 use Rattle.ferjulm.specs.declared.Place.{Place}
-use Rattle.ferjulm.specs.Words.{recordIn}
+use Rattle.c_record.specs.Words.{recordIn}
 
 -- page i of image 1, the SSD, or of image 2, the HDD
 abbrev pub pageOf : ℕ → ℕ → Place

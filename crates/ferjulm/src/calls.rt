@@ -1,6 +1,6 @@
 // The calls but a view: the words are judged and unpacked, the box's call is made, and what it leaves is packed.
-use crate::closing;
-use crate::record;
+use c_record::closing;
+use c_record::record;
 use cache::format;
 use layout::Block;
 use layout::LabelRead;

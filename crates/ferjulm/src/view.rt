@@ -1,6 +1,6 @@
 // A view: where a block's page lies.
 use crate::Place;
-use crate::record;
+use c_record::record;
 use layout::Block;
 use layout::Label;
 use layout::Slot;

@@ -2,8 +2,9 @@ use mathlib.Core.Path.{_≡_, sym, _∙_}
 use mathlib.Core.Bool.{true}
 use borrow.Author.Tests.{not-true, not-false}
 use Rattle.protocol.specs.Plan.{writeBack}
-use Rattle.ferjulm.specs.Words.{isRecord}
-use Rattle.ferjulm.proofs.CodeLaws.{record-length, no-record, on-record}
+use Rattle.c_record.specs.Words.{isRecord}
+use Rattle.c_record.proofs.ClosedLaws.{record-length}
+use Rattle.ferjulm.proofs.CodeLaws.{no-record, on-record}
 use borrow.Author.Needs.{needs}
 use Rattle.ferjulm.proofs.calls.ferjulm_write_back.Statement.{statement}
 use Rattle.ferjulm.proofs.calls.ferjulm_write_back.Tie as tie

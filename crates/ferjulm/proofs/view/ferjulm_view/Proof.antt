@@ -3,8 +3,8 @@ use mathlib.Core.Bool.{true}
 use borrow.Author.Tests.{not-true, not-false}
 use Rattle.layout.specs.declared.Block.{Block}
 use Rattle.ferjulm.specs.declared.Place.{Place}
-use Rattle.ferjulm.specs.Words.{isRecord}
-use Rattle.ferjulm.proofs.CodeLaws.{record-length}
+use Rattle.c_record.specs.Words.{isRecord}
+use Rattle.c_record.proofs.ClosedLaws.{record-length}
 use Rattle.ferjulm.proofs.ViewLaws.{view-stops, view-passes, no-view, on-view}
 use borrow.Author.Needs.{needs}
 use Rattle.ferjulm.proofs.view.ferjulm_view.Statement.{statement}

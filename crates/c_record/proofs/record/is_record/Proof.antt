@@ -1,9 +1,9 @@
 use mathlib.Core.Path.{sym, _∙_}
 use borrow.Author.Tests.{eq-eqb, ne-eqb, not-true, not-false}
-use Rattle.ferjulm.specs.Words.{isRecord}
+use Rattle.c_record.specs.Words.{isRecord}
 use borrow.Author.Needs.{needs}
-use Rattle.ferjulm.proofs.record.is_record.Statement.{statement}
-use Rattle.ferjulm.proofs.record.is_record.Tie as tie
+use Rattle.c_record.proofs.record.is_record.Statement.{statement}
+use Rattle.c_record.proofs.record.is_record.Tie as tie
 
 returns : tie.Need-returns
 unfolding isRecord

@@ -5,7 +5,7 @@ use protocol::Outcome;
 ghost use mathlib.Core.Path.{_≡_};
 ghost use lib.ListN.{length};
 ghost use Rattle.protocol.specs.Paper.{paperOf};
-ghost use Rattle.ferjulm.specs.Codes.{closedBy};
+ghost use Rattle.c_record.specs.Codes.{closedBy};
 
 // Packs the record and sets the slot, unless the call was refused; returns the result code.
 pub fn closed(words: &mut [u32], slot: &mut u32, outcome: Outcome) -> u32

@@ -2,7 +2,7 @@
 use protocol::Answer;
 ghost use mathlib.Core.Path.{_≡_};
 ghost use Rattle.protocol.specs.Paper.{paperOf, refused};
-ghost use Rattle.ferjulm.specs.Codes.{codeOf, slotAfter};
+ghost use Rattle.c_record.specs.Codes.{codeOf, slotAfter};
 
 // Whether it is a refusal.
 pub fn is_refused(answer: Answer) -> bool

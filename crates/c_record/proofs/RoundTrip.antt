@@ -15,8 +15,8 @@ use Rattle.protocol.specs.declared.Phase.{Phase}
 use Rattle.protocol.specs.declared.Phase.the-variants.{Formatting, Recovering, Ready}
 use Rattle.layout.proofs.Booleans.{clash}
 use Rattle.protocol.proofs.model.Base.{and-left, and-right}
-use Rattle.ferjulm.specs.Words.{phaseWord, stepsWord, flagWord, phaseIn, isPhase, numbersOf, slotsOf, wordsOf, unpacked, isRecord, recordIn}
-use Rattle.ferjulm.proofs.WordLaws.{numbers-length}
+use Rattle.c_record.specs.Words.{phaseWord, stepsWord, flagWord, phaseIn, isPhase, numbersOf, slotsOf, wordsOf, unpacked, isRecord, recordIn}
+use Rattle.c_record.proofs.WordLaws.{numbers-length}
 
 slots-back : (w : List Slot) → slotsOf (numbersOf w) ≡ w
 unfolding numbersOf slotsOf

@@ -6,7 +6,7 @@ ghost use mathlib.Core.Path.{_≡_};
 ghost use Prim.Native.Nat.{_+_, _<_};
 ghost use mathlib.Core.List.{_++_};
 ghost use lib.ListN.{length, take, drop};
-ghost use Rattle.ferjulm.specs.Words.{phaseWord, stepsWord, flagWord, phaseIn, slotsOf, numbersOf, wordsOf, unpacked, isPhase, isRecord};
+ghost use Rattle.c_record.specs.Words.{phaseWord, stepsWord, flagWord, phaseIn, slotsOf, numbersOf, wordsOf, unpacked, isPhase, isRecord};
 
 // Whether two words are a phase.
 fn is_phase(phase: u32, steps: u32) -> bool

@@ -1,11 +1,11 @@
 use mathlib.Core.Path.{_∙_}
-use Rattle.ferjulm.proofs.WordLaws.{head-packed}
+use Rattle.c_record.proofs.WordLaws.{head-packed}
 use lib.ListN.{length-set}
-use Rattle.ferjulm.specs.Words.{numbersOf, wordsOf}
+use Rattle.c_record.specs.Words.{numbersOf, wordsOf}
 use native.Mathlib.Omega.{arith}
 use borrow.Author.Needs.{needs}
-use Rattle.ferjulm.proofs.record.pack.Statement.{statement}
-use Rattle.ferjulm.proofs.record.pack.Tie as tie
+use Rattle.c_record.proofs.record.pack.Statement.{statement}
+use Rattle.c_record.proofs.record.pack.Tie as tie
 
 phase-word-requires : tie.Need-phase-word-requires
 phase-word-requires c κs = search needs

@@ -7,7 +7,7 @@ use native.Mathlib.Numerals.{add-one}
 use lib.ListN.{length, getD, set, take, drop, length-map, List·getD-map, length-set, length-drop, drop-of-length-le}
 use lib.Seq.{take-all, take-suc, take-suc-set, getD-drop, sets-eq, paste, paste-zero, paste-suc}
 use Rattle.layout.specs.declared.Slot.{Slot}
-use Rattle.ferjulm.specs.Words.{numbersOf, slotsOf}
+use Rattle.c_record.specs.Words.{numbersOf, slotsOf}
 
 -- slots and numbers, place by place
 pub numbers-length : (w : List Slot) → length (numbersOf w) ≡ length w

@@ -1,10 +1,10 @@
 use Prim.Native.Nat.{_-_}
 use mathlib.Core.Path.{refl}
-use Rattle.ferjulm.proofs.WordLaws.{Filled, filled-more, filled-all}
+use Rattle.c_record.proofs.WordLaws.{Filled, filled-more, filled-all}
 use borrow.Author.Needs.{needs}
 use native.Mathlib.Omega.{arith}
-use Rattle.ferjulm.proofs.record.window_in.Statement.{statement}
-use Rattle.ferjulm.proofs.record.window_in.Tie as tie
+use Rattle.c_record.proofs.record.window_in.Statement.{statement}
+use Rattle.c_record.proofs.record.window_in.Tie as tie
 
 abbrev Inv-loop : tie.InvT-loop
 Inv-loop words window₀ i₀ window i = Filled words window i

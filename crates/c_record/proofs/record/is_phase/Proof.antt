@@ -1,6 +1,6 @@
 use borrow.Author.Tests.{eq-eqb, ne-eqb, lt-leb, le-leb}
-use Rattle.ferjulm.proofs.record.is_phase.Statement.{statement}
-use Rattle.ferjulm.proofs.record.is_phase.Tie as tie
+use Rattle.c_record.proofs.record.is_phase.Statement.{statement}
+use Rattle.c_record.proofs.record.is_phase.Tie as tie
 
 returns : tie.Need-returns
 returns c = rw (eq-eqb _ _ (c .if1 .taken))

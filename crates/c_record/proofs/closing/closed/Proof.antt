@@ -1,9 +1,9 @@
 use mathlib.Core.Path.{sym, _∙_}
 use Rattle.protocol.specs.Paper.{paperOf}
-use Rattle.ferjulm.proofs.CodeLaws.{refused-closed, answered-closed}
+use Rattle.c_record.proofs.ClosedLaws.{refused-closed, answered-closed}
 use borrow.Author.Needs.{needs}
-use Rattle.ferjulm.proofs.closing.closed.Statement.{statement}
-use Rattle.ferjulm.proofs.closing.closed.Tie as tie
+use Rattle.c_record.proofs.closing.closed.Statement.{statement}
+use Rattle.c_record.proofs.closing.closed.Tie as tie
 
 code-of-requires : tie.Need-code-of-requires
 code-of-requires c κs = search needs

@@ -1,7 +1,7 @@
-use Rattle.ferjulm.specs.Words.{unpacked}
+use Rattle.c_record.specs.Words.{unpacked}
 use borrow.Author.Needs.{needs}
-use Rattle.ferjulm.proofs.record.unpack.Statement.{statement}
-use Rattle.ferjulm.proofs.record.unpack.Tie as tie
+use Rattle.c_record.proofs.record.unpack.Statement.{statement}
+use Rattle.c_record.proofs.record.unpack.Tie as tie
 
 window-in-requires : tie.Need-window-in-requires
 window-in-requires c κs = search needs

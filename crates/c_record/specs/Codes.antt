@@ -3,7 +3,7 @@ use Prim.Native.Nat.{ℕ}
 use mathlib.Core.List.{List, [], _∷_}
 use Rattle.protocol.specs.declared.Record.{Record}
 use Rattle.protocol.specs.Paper.{Paper, refusal, answer}
-use Rattle.ferjulm.specs.Words.{wordsOf}
+use Rattle.c_record.specs.Words.{wordsOf}
 
 -- a refusal's number, or the answer's result code
 abbrev pub codeOf : Paper → ℕ

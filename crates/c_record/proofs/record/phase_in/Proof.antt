@@ -1,6 +1,6 @@
 use borrow.Author.Tests.{eq-eqb, ne-eqb}
-use Rattle.ferjulm.proofs.record.phase_in.Statement.{statement}
-use Rattle.ferjulm.proofs.record.phase_in.Tie as tie
+use Rattle.c_record.proofs.record.phase_in.Statement.{statement}
+use Rattle.c_record.proofs.record.phase_in.Tie as tie
 
 returns : tie.Need-returns
 returns c = rw (eq-eqb _ _ (c .if1 .taken))

@@ -1,11 +1,11 @@
 use Prim.Native.Nat.{_-_}
 use mathlib.Core.Path.{_≡_}
 use lib.ListN.{length}
-use Rattle.ferjulm.proofs.WordLaws.{Packed, packed-none, packed-more, packed-all}
+use Rattle.c_record.proofs.WordLaws.{Packed, packed-none, packed-more, packed-all}
 use borrow.Author.Needs.{needs}
 use native.Mathlib.Omega.{arith}
-use Rattle.ferjulm.proofs.record.pack_window.Statement.{statement}
-use Rattle.ferjulm.proofs.record.pack_window.Tie as tie
+use Rattle.c_record.proofs.record.pack_window.Statement.{statement}
+use Rattle.c_record.proofs.record.pack_window.Tie as tie
 
 abbrev Inv-loop : tie.InvT-loop
 Inv-loop words₀ window i₀ words i = Packed words₀ window words i
