@@ -1,5 +1,5 @@
 // Lists of calls on small boxes; each call's answer is printed, and after each call every block is read and held to a plain
-// disk. Then the refusals, one by one; 62, 63 and 64 open slots; the last stamps; and the table's functions on 57,600 rows.
+// disk. Then the refusals, one by one; 62, 63 and 64 open slots; the last stamps; and lists that a seed makes.
 mod calls;
 mod disk;
 mod format;
@@ -7,7 +7,6 @@ mod generated;
 mod lists;
 mod print;
 mod refusals;
-mod rows;
 mod small;
 mod stamps;
 mod sum;
@@ -19,5 +18,4 @@ fn main() {
     windows::all();
     stamps::all();
     generated::all();
-    rows::all();
 }

@@ -8,7 +8,6 @@ use crate::calls::run_all;
 use crate::disk;
 use crate::format::formatted;
 use crate::print;
-use crate::rows::put;
 use protocol::Answer;
 
 // 1 where a call was announced in a slot, and every block then reads as the plain disk of 70.
@@ -82,9 +81,18 @@ fn beside(ssd: &mut [u8], hdd: &mut [u8], table: &mut [u32], p: Pair) -> Pair {
     run_all(ssd, hdd, table, p, list)
 }
 
+// Opens row 62, and says so.
+fn open_62(table: &mut [u32]) {
+    print::text(b"row 62 block 62 flags 7\n");
+    if 125 < table.len() {
+        table[124] = 62;
+        table[125] = 7;
+    }
+}
+
 // 64 rows open: no window can list them, so it does not agree.
 fn all_open(ssd: &mut [u8], hdd: &mut [u8], table: &mut [u32], p: Pair) {
-    put(table, 62, 62, 7);
+    open_62(table);
     run(ssd, hdd, table, p, Call::Offer(64));
 }
 

@@ -1,5 +1,6 @@
-// The table's functions, and the judging of a box, on 57,600 rows.
-use crate::print;
+// The table's functions, and the judging of a box, on 57,600 rows; what each finds is printed.
+mod print;
+
 use layout::Block;
 use layout::Slot;
 use layout::places;
@@ -34,7 +35,7 @@ fn fill(table: &mut [u32], flags: u32, last: u32) {
 }
 
 // Sets a row, and says so.
-pub fn put(table: &mut [u32], slot: u32, block: u32, flags: u32) {
+fn put(table: &mut [u32], slot: u32, block: u32, flags: u32) {
     print::named(b"row ", slot);
     print::named(b" block ", block);
     print::named(b" flags ", flags);
@@ -231,8 +232,8 @@ fn on(table: &mut [u32]) {
     disagreeing(table);
 }
 
-pub fn all() {
-    print::text(b"\n57600 rows\n");
+fn main() {
+    print::text(b"57600 rows\n");
     let mut table = [0u32; 115200];
     on(&mut table);
 }

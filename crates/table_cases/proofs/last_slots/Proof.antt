@@ -1,7 +1,7 @@
 use Prim.Native.Nat.{_≤_, _-_}
 use borrow.Author.Needs.{needs}
-use Rattle.cache_cases.proofs.rows.last_slots.Statement.{statement}
-use Rattle.cache_cases.proofs.rows.last_slots.Tie as tie
+use Rattle.table_cases.proofs.last_slots.Statement.{statement}
+use Rattle.table_cases.proofs.last_slots.Tie as tie
 
 abbrev Inv-loop : tie.InvT-loop
 Inv-loop window₀ i₀ window i = i ≤ 63

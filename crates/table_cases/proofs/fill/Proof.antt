@@ -3,8 +3,8 @@ use mathlib.Core.Path.{_≡_}
 use lib.ListN.{length, length-set}
 use native.Mathlib.Omega.{arith}
 use borrow.Author.Needs.{needs}
-use Rattle.cache_cases.proofs.rows.fill.Statement.{statement}
-use Rattle.cache_cases.proofs.rows.fill.Tie as tie
+use Rattle.table_cases.proofs.fill.Statement.{statement}
+use Rattle.table_cases.proofs.fill.Tie as tie
 
 abbrev Inv-loop : tie.InvT-loop
 Inv-loop table₀ flags last i₀ table i = (i ≤ length table) × (length table ≡ length table₀)
