@@ -204,7 +204,7 @@ pub extern "C" fn ferjulm_step(
 fn unheld(ssd: &[u8]) -> u32
     ensures { λ r. ⌜ r ≡ cond (labelTest (now (ssd .entry))) 3 2 ⌝ }
 {
-    match reopen::label_of(ssd) {
+    match stored::image::label_of(ssd) {
         LabelRead::Legal(_) => 3,
         LabelRead::Illegal => 2,
     }

@@ -2,7 +2,7 @@
 use Prim.Native.Nat.{ℕ, _+_, _≤_}
 use mathlib.Core.Path.{_≡_, sym, ap, _∙_}
 use mathlib.Core.Bool.{true, false}
-use mathlib.Core.List.{List, [], _++_}
+use mathlib.Core.List.{List, _++_}
 use native.Mathlib.Omega.{arith}
 use native.Mathlib.Numerals.{add-one}
 use lib.ListN.{length, take}
@@ -11,15 +11,11 @@ use Rattle.layout.specs.declared.Slot.{Slot}
 use Rattle.layout.specs.declared.Label.{Label}
 use Rattle.layout.specs.declared.LabelRead.{LabelRead}
 use Rattle.layout.specs.declared.LabelRead.the-variants.{Legal, Illegal}
-use Rattle.layout.specs.Places.{Limits, ssdLength}
-use Rattle.protocol.specs.declared.Phase.the-variants.{Ready}
-use Rattle.protocol.specs.Rows.{recordOf}
+use Rattle.layout.specs.Places.{ssdLength}
 use Rattle.protocol.specs.Recovery.{metasOf, entryIn, Newest, newestOf, pagesTest}
 use Rattle.protocol.proofs.Windows.{take-array}
-use Rattle.recovery.specs.declared.Pending.{Pending}
-use Rattle.recovery.specs.Pending.{pendingOf}
-use Rattle.recovery.specs.Stored.{labelIf, newestAt}
-use Rattle.recovery.proofs.ReopenLaws.{limits}
+use Rattle.stored.specs.declared.Pending.{Pending}
+use Rattle.stored.specs.Stored.{labelIf, pendingOf}
 use Rattle.list_image.specs.Listing.{headText, lineOf, linesOf, imageText, refusalText, textIf, judgedText, listingOf}
 
 -- a slot's line after those of the slots before it
@@ -48,9 +44,6 @@ module _ (ssd : List ℕ) where
   unlabelled e = ap (λ (r : LabelRead). judgedText r ssd) (sym e)
 
   module _ (l : Label) (e : labelIf ssd ≡ Legal l) where
-    pub label-limits : Limits l
-    label-limits = limits ssd [] [] (recordOf l (record { 0 = 0 }) 0 Ready false []) l e
-
     labelled : judgedText (Legal l) ssd ≡ listingOf ssd
     unfolding listingOf
     labelled = ap (λ (r : LabelRead). judgedText r ssd) (sym e)

@@ -13,7 +13,7 @@ use Rattle.protocol.specs.Paper.{refusal}
 use Rattle.protocol.specs.Rows.{rowBlock, rowFlags, valid}
 use Rattle.protocol.specs.Recovery.{metasOf, entryIn, newestOf}
 use Rattle.protocol.specs.Box.{Result}
-use Rattle.recovery.specs.Stored.{labelIf}
+use Rattle.stored.specs.Stored.{labelIf}
 use Rattle.list_image.specs.Listing.{entryText, lineOf, imageText, refusalText, listingOf}
 
 -- an SSD image of at most 64 KiB, with an HDD and a table of the label's lengths, where it has a label

@@ -14,7 +14,7 @@ use Rattle.layout.specs.LabelPage.{layoutLine, slotsKey, blocksKey, decimal}
 use Rattle.layout.specs.PageRule.{listed}
 use Rattle.protocol.specs.Rows.{valid, writing}
 use Rattle.protocol.specs.Recovery.{metasOf, entryIn, Newest, newestOf, pagesTest}
-use Rattle.recovery.specs.Stored.{labelIf}
+use Rattle.stored.specs.Stored.{labelIf}
 
 -- The keys that a label has not: `newest=`, `open=`, `slot=`, `block=`, `flags=`, `refused=`; `fate=kept`, `fate=dropped`.
 abbrev pub newestKey : List ℕ

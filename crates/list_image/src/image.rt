@@ -5,9 +5,8 @@ use layout::Label;
 use layout::LabelRead;
 use layout::Slot;
 use layout::places;
-use recovery::reopen;
-use recovery::rules;
-use recovery::stored;
+use stored::image;
+use stored::rules;
 ghost use mathlib.Core.Path.{_≡_};
 ghost use mathlib.Core.Bool.{Bool, true, false};
 ghost use mathlib.Core.List.{List};
@@ -36,7 +35,7 @@ fn put_lines(
     let mut end = at;
     let mut s: u32 = 0;
     while s < slots {
-        let entry = stored::entry_of(ssd, l, Slot(s));
+        let entry = image::entry_of(ssd, l, Slot(s));
         end = lines::put_line(page, end, Slot(s), entry, window, count);
         s += 1;
     }
@@ -51,8 +50,8 @@ fn put_image(page: &mut [u8], ssd: &[u8], l: Label) -> usize
     requires { ⌜ pagesTest l (metasOf l (now ssd)) ≡ true ⌝ }
     ensures { λ r. ⌜ Written (now (page .entry)) (now (page .exit)) 0 r 4096 (imageText l (metasOf l (now (ssd .entry))) (newestOf (metasOf l (now (ssd .entry))))) ⌝ }
 {
-    let found = stored::newest(ssd, l);
-    let pending = stored::pending(ssd, l, found.at);
+    let found = image::newest(ssd, l);
+    let pending = image::pending(ssd, l, found.at);
     let window = pending.window;
     let count = pending.count;
     let at = lines::put_head(page, l, found.stamp, count);
@@ -64,7 +63,7 @@ fn put_listing(page: &mut [u8], ssd: &[u8]) -> usize
     requires { ⌜ length (now page) ≡ 4096 ⌝ }
     ensures { λ r. ⌜ Written (now (page .entry)) (now (page .exit)) 0 r 4096 (listingOf (now (ssd .entry))) ⌝ }
 {
-    let LabelRead::Legal(l) = reopen::label_of(ssd) else {
+    let LabelRead::Legal(l) = image::label_of(ssd) else {
         return lines::put_refusal(page, 2);
     };
     if ssd.len() != places::ssd_length(l) {

@@ -16,16 +16,15 @@ use Rattle.layout.specs.MetaPage.{rowsFrom}
 use Rattle.layout.specs.PageRule.{listed, inRange}
 use Rattle.protocol.specs.declared.Record.{Record}
 use Rattle.protocol.specs.Rows.{valid, writing, setRow}
-use Rattle.protocol.specs.Recovery.{entryIn, Newest, newestOf, eachLegal, stampsDiffer, noneTwice, allOpenIn, storedRows, pagesTest, freeEntry, recovered, recover}
+use Rattle.protocol.specs.Recovery.{entryIn, Newest, newestOf, allOpenIn, freeEntry, recovered, recover}
 use Rattle.layout.proofs.Booleans.{Told, told, told-true, told-false, clash}
 use Rattle.protocol.proofs.model.Base.{and-left, and-right, eqb-is}
 use Rattle.protocol.proofs.Windows.{take-array}
 use Rattle.table.proofs.WindowLaws.{window-left, window-end}
-use Rattle.recovery.specs.declared.Pending.{Pending}
-use Rattle.recovery.specs.Pending.{pendingOf}
+use Rattle.stored.specs.declared.Pending.{Pending}
+use Rattle.stored.specs.Stored.{pendingOf}
 use Rattle.recovery.specs.Fill.{keptEntry, freed, reopenedAs}
 use Rattle.recovery.proofs.MendLaws.{phase-at}
-use Rattle.recovery.proofs.StoredLaws.{Bounded}
 
 -- one row more
 rows-more : (n : ℕ) (f : ℕ → Entry) → rowsFrom (suc n) f ≡ rowsFrom n f ++ (f n .block .0 ∷ f n .flags ∷ [])
@@ -151,26 +150,6 @@ pub table-recovered : (l : Label) (pages : List (List ℕ)) (w : List Slot) → 
 table-recovered l pages w r e =
     rows-freed l w (λ s. keptEntry (entryIn pages (record { 0 = s }))) r
     ∙ rows-ext (l .slots) _ _ (λ s. kept-recovered pages w (record { 0 = s }) e)
-
--- the rules that passed
-pub record Passed (l : Label) (pages : List (List ℕ)) : Type 0 where
-  pub legal : eachLegal l 0 pages ≡ true
-  pub opened : allOpenIn pages (newestOf pages .window) ≡ true
-
-pub passed : (l : Label) (pages : List (List ℕ)) → pagesTest l pages ≡ true → Passed l pages
-unfolding pagesTest
-passed l pages e =
-    let a = and-right (eachLegal l 0 pages) _ e in
-    let b = and-right (stampsDiffer pages) _ a in
-    record {
-      legal = and-left (eachLegal l 0 pages) _ e;
-      opened = and-right (noneTwice (storedRows l pages)) _ b;
-    }
-
--- the pending slots, of the array again
-pub pending-bounded : (l : Label) (w : List Slot) (left : Pending) → left ≡ pendingOf w → Bounded l w
-    → (left .count ≤ 63) × (inRange l (take (left .count) (left .window)) ≡ true)
-pending-bounded l w left e k = rw e (k .most, rw (take-array w) (k .ranged))
 
 pub rows-none : (f : ℕ → Entry) → [] ≡ rowsFrom 0 f
 unfolding rowsFrom

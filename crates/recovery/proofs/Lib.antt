@@ -1,9 +1,5 @@
 pub mod MendLaws
 pub mod StepLaws
-pub mod StoredLaws
-pub mod RuleLaws
-pub mod BitLaws
-pub mod TwiceLaws
 pub mod FillLaws
 pub mod ReopenLaws
 pub mod DispatchLaws

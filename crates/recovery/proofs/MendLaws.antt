@@ -28,8 +28,9 @@ use Rattle.table.proofs.WindowLaws.{window-left, window-end}
 use Rattle.serving.specs.Moves.{Fits}
 use Rattle.serving.proofs.MoveLaws.{meta-of-low}
 use Rattle.table.specs.Scan.{orElse}
-use Rattle.recovery.specs.declared.Pending.{Pending}
-use Rattle.recovery.specs.Pending.{pendingOf, keptIf, keptOff, lower, phaseAt}
+use Rattle.stored.specs.declared.Pending.{Pending}
+use Rattle.stored.specs.Stored.{pendingOf}
+use Rattle.recovery.specs.Pending.{keptIf, keptOff, lower, phaseAt}
 
 -- the lowest page, by the slots that are left
 module _ (w : List Slot) (n i : ℕ) (d : Slot) (h : i < n) (m : n ≤ length w) where

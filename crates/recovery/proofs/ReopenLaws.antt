@@ -1,76 +1,27 @@
 -- A reopening: refused by 2, 4 or 5, or taken.
-use Prim.Native.Nat.{ℕ, _≤_}
+use Prim.Native.Nat.{ℕ}
 use mathlib.Core.Path.{_≡_, refl, sym, ap, _∙_}
 use mathlib.Core.Bool.{Bool, true, false, not, _&&_}
 use mathlib.Core.List.{List, [], _∷_}
 use mathlib.Core.Option.{none}
-use native.Mathlib.Omega.{arith}
 use lib.ListN.{length}
-use lib.Dec.{eqb, leb}
-use borrow.Author.Tests.{leb-true, eqb-true}
-use Rattle.pages.specs.Pages.{pageAt}
-use Rattle.pages.proofs.PageLaws.{length-page}
+use lib.Dec.{eqb}
+use borrow.Author.Tests.{eqb-true}
 use Rattle.layout.specs.declared.Label.{Label}
 use Rattle.layout.specs.declared.LabelRead.the-variants.{Legal, Illegal}
-use Rattle.layout.specs.Places.{Limits, labelPlace, ssdLength, hddLength, tableLength}
-use Rattle.layout.specs.LabelPage.{decodeLabel}
-use Rattle.layout.proofs.LabelLaws.{label-only}
-use Rattle.layout.proofs.PlaceLaws.{within}
+use Rattle.layout.specs.Places.{ssdLength, hddLength, tableLength}
 use Rattle.protocol.specs.declared.Record.{Record}
 use Rattle.protocol.specs.Paper.{done}
 use Rattle.protocol.specs.Box.{Box, Result, refusing, left}
-use Rattle.protocol.specs.Recovery.{labelRead, labelAt, metasOf, newestOf, eachLegal, stampsDiffer, noneTwice, storedRows, allOpenIn, pagesTest, Recovered, recover}
+use Rattle.protocol.specs.Recovery.{labelRead, labelAt, metasOf, pagesTest, Recovered, recover}
 use Rattle.protocol.specs.Plan.{reopen, recovers, plan}
 use Rattle.protocol.specs.Perform.{perform}
-use Rattle.protocol.specs.Judge.{lengthsTest, noLabel, wrongLength, badRows, isLabel, labelTest, lengthTest, test, firstOf, judged}
+use Rattle.protocol.specs.Judge.{lengthsTest, noLabel, wrongLength, badRows, isLabel, lengthTest, test, firstOf, judged}
 use Rattle.protocol.specs.Calls.{boxOf, reopenOf}
-use Rattle.layout.proofs.Booleans.{Told, told, told-true, told-false, clash}
 use Rattle.protocol.proofs.model.Base.{and-left, and-right}
 use Rattle.serving.proofs.ServeLaws.{first-yes, first-no, performs, refused-as}
-use Rattle.recovery.specs.Stored.{readIf, labelIf}
-
--- 5, rule by rule
-module _ (l : Label) (pages : List (List ℕ)) where
-  pub page-bad : eachLegal l 0 pages ≡ false → false ≡ pagesTest l pages
-  unfolding pagesTest
-  page-bad a = rw a
-
-  module _ (a : eachLegal l 0 pages ≡ true) where
-    pub stamps-bad : stampsDiffer pages ≡ false → false ≡ pagesTest l pages
-    unfolding pagesTest
-    stamps-bad b = rw (a, b)
-
-    module _ (b : stampsDiffer pages ≡ true) where
-      pub blocks-bad : noneTwice (storedRows l pages) ≡ false → false ≡ pagesTest l pages
-      unfolding pagesTest
-      blocks-bad c = rw (a, b, c)
-
-      pub by-open : noneTwice (storedRows l pages) ≡ true → allOpenIn pages (newestOf pages .window) ≡ pagesTest l pages
-      unfolding pagesTest
-      by-open c = rw (a, b, c)
-
--- the first page, read where there is one
-module _ (ssd : List ℕ) where
-  pub short-read : leb 4096 (length ssd) ≡ false → Illegal ≡ labelIf ssd
-  short-read e = rw e
-
-  pub page-read : leb 4096 (length ssd) ≡ true → decodeLabel (pageAt ssd labelPlace) ≡ labelIf ssd
-  page-read e = rw e
-
-  pub label-test : labelTest ssd ≡ isLabel (labelIf ssd)
-  unfolding labelTest
-  label-test = go (leb 4096 (length ssd))
-    where
-      go : (b : Bool) → (b && isLabel (decodeLabel (pageAt ssd labelPlace))) ≡ isLabel (readIf b ssd)
-      go true = refl
-      go false = refl
-
-  legal-read : (l : Label) → labelIf ssd ≡ Legal l → (4096 ≤ length ssd) × (decodeLabel (pageAt ssd labelPlace) ≡ Legal l)
-  legal-read l e = go (told (leb 4096 (length ssd)))
-    where
-      go : Told (leb 4096 (length ssd)) → (4096 ≤ length ssd) × (decodeLabel (pageAt ssd labelPlace) ≡ Legal l)
-      go (told-true k) = (leb-true _ _ k, rw k at e)
-      go (told-false k) = clash {b = false} (ap isLabel (rw k at e)) refl
+use Rattle.stored.specs.Stored.{labelIf}
+use Rattle.stored.proofs.ReadLaws.{label-test, legal-read}
 
 module _ (ssd hdd t : List ℕ) (r : Record) where
   abbrev x : Box
@@ -87,11 +38,6 @@ module _ (ssd hdd t : List ℕ) (r : Record) where
   module _ (l : Label) (e : labelIf ssd ≡ Legal l) where
     label-is : labelAt ssd ≡ l
     label-is = ap labelRead (legal-read ssd l e .1)
-
-    pub limits : Limits l
-    limits =
-        let d = legal-read ssd l e in
-        within l .0 (label-only (pageAt ssd 0) l (d .1) (length-page ssd 0 (omega (arith, d .0))) .1)
 
     labelled : judged reopen x ≡ firstOf (wrongLength ∷ badRows ∷ []) (λ q. test q reopen x)
     unfolding test

@@ -1,5 +1,3 @@
 pub mod Pending
-pub mod Stored
-pub mod Twice
 pub mod Fill
 pub mod Dispatch

@@ -1,20 +1,14 @@
--- Pending slots in an array, as the code keeps them.
+-- Mending: the pending slots off a page, the lower of two page numbers, and the phase with so many slots pending.
 use Prim.Native.Nat.{ℕ, zero, suc, _+_}
 use mathlib.Core.Bool.{Bool, true, false}
-use mathlib.Core.List.{List}
-use lib.ListN.{length, set}
+use lib.ListN.{set}
 use lib.Dec.{eqb, ltb}
 use Rattle.layout.specs.declared.Slot.{Slot}
 use Rattle.layout.specs.Places.{metaOf}
 use Rattle.protocol.specs.declared.Phase.{Phase}
 use Rattle.protocol.specs.declared.Phase.the-variants.{Recovering, Ready}
-use Rattle.protocol.specs.Rows.{arrayOf}
 use Rattle.table.specs.Scan.{orElse}
-use Rattle.recovery.specs.declared.Pending.{Pending}
-
--- a window as array and length
-abbrev pub pendingOf : List Slot → Pending
-pendingOf w = record { window = arrayOf w; count = length w }
+use Rattle.stored.specs.declared.Pending.{Pending}
 
 -- a slot more, unless it is on page p
 abbrev pub keptIf : Bool → Pending → Slot → Pending

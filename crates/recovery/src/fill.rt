@@ -1,11 +1,11 @@
 // The table and the record, from pages that keep every rule.
 use crate::step;
-use crate::stored;
 use layout::Block;
 use layout::Entry;
 use layout::Label;
 use layout::Slot;
 use protocol::Record;
+use stored::image;
 ghost use mathlib.Core.Path.{_≡_};
 ghost use mathlib.Core.Bool.{Bool, true, false};
 ghost use mathlib.Core.List.{List};
@@ -16,7 +16,6 @@ ghost use Rattle.layout.specs.MetaPage.{rowsFrom};
 ghost use Rattle.layout.specs.PageRule.{inRange};
 ghost use Rattle.protocol.specs.Rows.{recordOf};
 ghost use Rattle.protocol.specs.Recovery.{metasOf, entryIn, pagesTest, phaseOf, recover};
-ghost use Rattle.recovery.specs.Pending.{pendingOf};
 ghost use Rattle.recovery.specs.Fill.{keptEntry, freed, reopenedAs};
 
 // An entry as it is kept: without the writing flag.
@@ -46,7 +45,7 @@ fn fill(ssd: &[u8], table: &mut [u32], l: Label)
     let slots = l.slots;
     let mut s: u32 = 0;
     while s < slots {
-        let entry = kept(stored::entry_of(ssd, l, Slot(s)));
+        let entry = kept(image::entry_of(ssd, l, Slot(s)));
         let block = entry.block;
         let k = 2 * (s as usize);
         table[k] = block.0;
@@ -100,8 +99,8 @@ pub fn recover(ssd: &[u8], table: &mut [u32], l: Label) -> Record
     ensures { λ r. ⌜ record { table = now (table .exit); state = r } ≡ recover l (metasOf l (now (ssd .entry))) ⌝ }
 {
     fill(ssd, table, l);
-    let found = stored::newest(ssd, l);
-    let pending = stored::pending(ssd, l, found.at);
+    let found = image::newest(ssd, l);
+    let pending = image::pending(ssd, l, found.at);
     let window = pending.window;
     let count = pending.count;
     free_rows(table, l, window, count);

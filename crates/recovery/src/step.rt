@@ -1,5 +1,4 @@
 // A step: of a format, or of mending.
-use crate::Pending;
 use cache::format;
 use layout::Block;
 use layout::Slot;
@@ -11,6 +10,7 @@ use protocol::Record;
 use serving::answers;
 use serving::judge;
 use serving::moves;
+use stored::Pending;
 ghost use mathlib.Core.Path.{_≡_};
 ghost use mathlib.Core.Bool.{Bool, true, false};
 ghost use mathlib.Core.List.{List};
@@ -27,7 +27,8 @@ ghost use Rattle.protocol.specs.Perform.{mendedAt};
 ghost use Rattle.protocol.specs.Judge.{recordTest};
 ghost use Rattle.protocol.specs.Calls.{stepOf};
 ghost use Rattle.serving.specs.Moves.{Fits};
-ghost use Rattle.recovery.specs.Pending.{pendingOf, keptOff, lower, phaseAt};
+ghost use Rattle.stored.specs.Stored.{pendingOf};
+ghost use Rattle.recovery.specs.Pending.{keptOff, lower, phaseAt};
 
 // The lower of two page numbers.
 fn lower_of(p: u32, q: u32) -> u32

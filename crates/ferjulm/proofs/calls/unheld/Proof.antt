@@ -1,5 +1,5 @@
 use mathlib.Core.Path.{sym, _∙_}
-use Rattle.recovery.proofs.ReopenLaws.{label-test}
+use Rattle.stored.proofs.ReadLaws.{label-test}
 use borrow.Author.Needs.{needs}
 use Rattle.ferjulm.proofs.calls.unheld.Statement.{statement}
 use Rattle.ferjulm.proofs.calls.unheld.Tie as tie

@@ -1,8 +1,8 @@
 use Rattle.protocol.specs.Recovery.{metasOf}
 use Rattle.protocol.proofs.Metas.{length-metas}
-use Rattle.recovery.specs.Stored.{newestAt}
-use Rattle.recovery.proofs.StoredLaws.{newest-bounded}
-use Rattle.recovery.proofs.FillLaws.{passed, pending-bounded}
+use Rattle.stored.specs.Stored.{newestAt}
+use Rattle.stored.proofs.StoredLaws.{newest-bounded, pending-bounded}
+use Rattle.stored.proofs.RuleLaws.{passed}
 use Rattle.list_image.proofs.WrittenLaws.{written-more, written-as}
 use Rattle.list_image.proofs.ImageLaws.{few-slots, image-is}
 use native.Mathlib.Omega.{arith}

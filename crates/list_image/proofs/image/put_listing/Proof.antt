@@ -1,7 +1,8 @@
 use mathlib.Core.Path.{sym, _∙_}
 use borrow.Author.Tests.{eq-eqb, ne-eqb, le-leb, lt-leb, not-true, not-false}
+use Rattle.stored.proofs.ReadLaws.{limits}
 use Rattle.list_image.proofs.WrittenLaws.{written-as}
-use Rattle.list_image.proofs.ImageLaws.{unlabelled, label-limits, wrong-length, too-long, bad-pages, listed-as}
+use Rattle.list_image.proofs.ImageLaws.{unlabelled, wrong-length, too-long, bad-pages, listed-as}
 use native.Mathlib.Omega.{arith}
 use borrow.Author.Needs.{needs}
 use Rattle.list_image.proofs.image.put_listing.Statement.{statement}
@@ -61,7 +62,7 @@ pages-ok-requires c κs =
     let i = c .before .before .before .before in
     let s = i .before .before .before .before .before in
     let l = sym (i .before .before .label-of .ensures) ∙ i .l .given .1 in
-    (c .before .if1 .left ∙ c .before .before .ssd-length .ensures, label-limits (s .args .ssd .now) _ l)
+    (c .before .if1 .left ∙ c .before .before .ssd-length .ensures, limits (s .args .ssd .now) _ l)
 
 put-refusal-requires-4 : tie.Need-put-refusal-requires-4
 put-refusal-requires-4 c κs = search needs
@@ -86,7 +87,7 @@ put-image-requires c κs =
       (
         (i .if1 .left ∙ i .before .ssd-length .ensures, c .before .before .before .if2 .left),
         (
-          label-limits (s .args .ssd .now) _ l,
+          limits (s .args .ssd .now) _ l,
           sym (c .before .before .pages-ok .ensures) ∙ not-false _ (c .before .if3 .left),
         ),
       ),

@@ -2,10 +2,11 @@ use lib.ListN.{length}
 use Rattle.protocol.specs.Recovery.{metasOf}
 use Rattle.protocol.proofs.Metas.{length-metas}
 use Rattle.protocol.proofs.Entries.{length-rows}
-use Rattle.recovery.specs.Stored.{newestAt}
+use Rattle.stored.specs.Stored.{newestAt}
+use Rattle.stored.proofs.StoredLaws.{newest-bounded, pending-bounded}
+use Rattle.stored.proofs.RuleLaws.{passed}
 use Rattle.recovery.specs.Fill.{freed}
-use Rattle.recovery.proofs.StoredLaws.{newest-bounded}
-use Rattle.recovery.proofs.FillLaws.{passed, pending-bounded, recovered-is}
+use Rattle.recovery.proofs.FillLaws.{recovered-is}
 use mathlib.Core.Path.{ap, _∙_}
 use borrow.Author.Needs.{needs}
 use Rattle.recovery.proofs.fill.recover.Statement.{statement}

@@ -1,6 +1,7 @@
 use mathlib.Core.Path.{sym, _∙_}
 use borrow.Author.Tests.{not-true, not-false}
-use Rattle.recovery.proofs.ReopenLaws.{unlabelled, limits, wrong-length, sizes, bad-pages, taken}
+use Rattle.stored.proofs.ReadLaws.{limits}
+use Rattle.recovery.proofs.ReopenLaws.{unlabelled, wrong-length, sizes, bad-pages, taken}
 use borrow.Author.Needs.{needs}
 use Rattle.recovery.proofs.reopen.reopen.Statement.{statement}
 use Rattle.recovery.proofs.reopen.reopen.Tie as tie
@@ -44,8 +45,7 @@ pages-ok-requires c κs =
     let e = (sym (c .before .before .before .before .before .label-of .ensures) ∙ c .before .before .before .l .given .1) in (
       sizes (a .ssd .now) (a .hdd .now) (a .table .now) (a .state) _ e
           (sym (c .before .lengths-ok .ensures) ∙ not-false _ (c .if1 .left)) .0,
-      limits (a .ssd .now) (a .hdd .now) (a .table .now)
-          (a .state) _ e,
+      limits (a .ssd .now) _ e,
     )
 
 refused-requires-3 : tie.Need-refused-requires-3
@@ -72,7 +72,7 @@ recover-requires c κs =
       (
         z .1,
         (
-          limits (a .ssd .now) (a .hdd .now) (a .table .now) (a .state) _ e,
+          limits (a .ssd .now) _ e,
           sym (c .before .before .pages-ok .ensures)
               ∙ not-false _ (c .before .if2 .left),
         ),

@@ -2,7 +2,7 @@ use Prim.Native.Nat.{ℕ, _≤_, _-_}
 use mathlib.Core.Path.{_≡_, ap, _∙_}
 use lib.ListN.{length, take, length-take}
 use Rattle.protocol.specs.Recovery.{offPage}
-use Rattle.recovery.specs.Pending.{pendingOf}
+use Rattle.stored.specs.Stored.{pendingOf}
 use Rattle.recovery.proofs.MendLaws.{off-most, pending-none, pending-one}
 use borrow.Author.Needs.{needs}
 use native.Mathlib.Omega.{arith}

@@ -1,0 +1,5 @@
+pub mod ReadLaws
+pub mod StoredLaws
+pub mod RuleLaws
+pub mod BitLaws
+pub mod TwiceLaws

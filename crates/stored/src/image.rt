@@ -1,0 +1,116 @@
+// What an SSD image holds: its label, its metadata pages, their entries, and the newest window.
+use crate::Newest;
+use crate::Pending;
+use layout::Entry;
+use layout::Label;
+use layout::LabelRead;
+use layout::Slot;
+use layout::label_page;
+use layout::places;
+use metadata::page;
+ghost use mathlib.Core.Path.{_≡_};
+ghost use mathlib.Core.Bool.{Bool, true, false};
+ghost use mathlib.Core.List.{List, []};
+ghost use Prim.Native.Nat.{ℕ, _+_, _*_, _≤_, _<_};
+ghost use lib.ListN.{length, getD};
+ghost use Rattle.layout.specs.Places.{Limits, metaPages, ssdLength};
+ghost use Rattle.layout.specs.MetaPage.{stampOf, countOf, windowOf};
+ghost use Rattle.protocol.specs.Recovery.{metasOf, entryIn, newestOf, eachLegal};
+ghost use Rattle.stored.specs.Stored.{labelIf, pendingOf, newestAt, newerAt, Found};
+
+// The label of an SSD image, if its first page is one.
+pub fn label_of(ssd: &[u8]) -> LabelRead
+    ensures { λ r. ⌜ r ≡ labelIf (now (ssd .entry)) ⌝ }
+{
+    if ssd.len() < 4096 {
+        return LabelRead::Illegal;
+    }
+    label_page::decode_label(pages::page_at(ssd, 0))
+}
+
+// Metadata page p of an SSD image.
+pub fn meta_page(ssd: &[u8], l: Label, p: u32) -> &[u8]
+    requires { ⌜ length (now ssd) ≡ ssdLength l ⌝ }
+    requires { ⌜ p < metaPages l ⌝ }
+    ensures { λ r. ⌜ (now r ≡ getD (metasOf l (now (ssd .entry))) p []) × (length (now r) ≡ 4096) ⌝ }
+{
+    pages::page_at(ssd, places::meta_place(l, p))
+}
+
+// The stored entry of a slot.
+pub fn entry_of(ssd: &[u8], l: Label, s: Slot) -> Entry
+    requires { ⌜ length (now ssd) ≡ ssdLength l ⌝ }
+    requires { ⌜ s .0 < l .slots ⌝ }
+    ensures { λ r. ⌜ r ≡ entryIn (metasOf l (now (ssd .entry))) s ⌝ }
+{
+    page::entry_at(meta_page(ssd, l, places::meta_of(s)), s.0 % 240)
+}
+
+// The stamp of metadata page p.
+pub fn stamp_at(ssd: &[u8], l: Label, p: u32) -> u32
+    requires { ⌜ length (now ssd) ≡ ssdLength l ⌝ }
+    requires { ⌜ p < metaPages l ⌝ }
+    ensures { λ r. ⌜ r ≡ stampOf (getD (metasOf l (now (ssd .entry))) p []) ⌝ }
+{
+    page::stamp_of(meta_page(ssd, l, p))
+}
+
+// The newer of what was found before and page p, with this stamp.
+fn newer(n: Newest, stamp: u32, p: u32) -> Newest
+    requires { ⌜ p < 240 ⌝ }
+    ensures { λ r. ⌜ r ≡ newerAt n stamp p ⌝ }
+{
+    if n.stamp < stamp {
+        return Newest { stamp, at: p + 1 };
+    }
+    n
+}
+
+// The page with the largest stamp.
+pub fn newest(ssd: &[u8], l: Label) -> Newest
+    requires { ⌜ length (now ssd) ≡ ssdLength l ⌝ }
+    requires { ⌜ Limits l ⌝ }
+    ensures { λ r. ⌜ Found (metasOf l (now (ssd .entry))) r ⌝ }
+{
+    let m = places::meta_pages(l);
+    let mut n = Newest { stamp: 0, at: 0 };
+    let mut p: u32 = 0;
+    while p < m {
+        n = newer(n, stamp_at(ssd, l, p), p);
+        p += 1;
+    }
+    n
+}
+
+// The window of a page.
+fn window_of(page: &[u8]) -> Pending
+    requires { ⌜ length (now page) ≡ 4096 ⌝ }
+    requires { ⌜ countOf (now page) ≤ 63 ⌝ }
+    ensures { λ r. ⌜ r ≡ pendingOf (windowOf (now (page .entry))) ⌝ }
+{
+    let count = page::count_of(page);
+    let mut window = [Slot(0); 63];
+    let mut k: u32 = 0;
+    while k < count {
+        let s = page::slot_at(page, k);
+        window[k as usize] = s;
+        k += 1;
+    }
+    Pending { window, count }
+}
+
+// The window of the newest page, as `newest` found it.
+pub fn pending(ssd: &[u8], l: Label, at: u32) -> Pending
+    requires { ⌜ length (now ssd) ≡ ssdLength l ⌝ }
+    requires { ⌜ eachLegal l 0 (metasOf l (now ssd)) ≡ true ⌝ }
+    requires { ⌜ at ≤ metaPages l ⌝ }
+    ensures { λ r. ⌜ r ≡ pendingOf (newestAt (metasOf l (now (ssd .entry))) at .window) ⌝ }
+{
+    if at == 0 {
+        return Pending {
+            window: [Slot(0); 63],
+            count: 0,
+        };
+    }
+    window_of(meta_page(ssd, l, at - 1))
+}
