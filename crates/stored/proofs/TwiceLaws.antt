@@ -9,7 +9,7 @@ use native.Mathlib.Decide.{decLt}
 use lib.ListN.{length, getD, drop, set, replicate, drop-of-length-le, length-set, length-replicate}
 use lib.Seq.{drop-cons}
 use lib.Dec.{eqb, leb, ltb}
-use borrow.Author.Tests.{eq-eqb, ne-eqb, le-leb, leb-true, lt-ltb, le-ltb, ltb-true}
+use borrow.Author.Tests.{eq-eqb, ne-eqb, le-leb, lt-leb, leb-true, lt-ltb, le-ltb, ltb-true}
 use Rattle.layout.specs.declared.Label.{Label}
 use Rattle.layout.specs.declared.Entry.{Entry}
 use Rattle.layout.specs.Places.{metaPages}
@@ -29,6 +29,17 @@ use Rattle.stored.proofs.StoredLaws.{legal-at}
 pub and-false : (b : Bool) → (b && false) ≡ false
 and-false true = refl
 and-false false = refl
+
+-- a range is the blocks of one quotient, since it begins at a multiple of its length
+pub out-of-span : (start block : ℕ) → start % 524288 ≡ 0 → (block / 524288 ≡ start / 524288 → ⊥) → inSpan start block ≡ false
+out-of-span start block m h = go (decLt block start)
+  where
+    go : Dec (block < start) → inSpan start block ≡ false
+    go (yes k) = rw (lt-leb start block k)
+    go (no k) = rw (le-leb start block (omega arith), le-ltb (block - start) 524288 (omega (arith, m, h)))
+
+pub in-span : (start block : ℕ) → start % 524288 ≡ 0 → block / 524288 ≡ start / 524288 → inSpan start block ≡ true
+in-span start block m h = rw (le-leb start block (omega arith), lt-ltb (block - start) 524288 (omega arith))
 
 -- no block of a kind is in two rows; no valid row's block in the range is marked
 unfoldable pub noneAmong : (ℕ → Bool) → List ℕ → Bool

@@ -5,7 +5,7 @@ use metadata::page;
 ghost use mathlib.Core.Path.{_≡_};
 ghost use mathlib.Core.Bool.{Bool, true, false};
 ghost use mathlib.Core.List.{List};
-ghost use Prim.Native.Nat.{ℕ, _+_, _*_, _≤_, _<_};
+ghost use Prim.Native.Nat.{ℕ, _+_, _*_, _%_, _≤_, _<_};
 ghost use lib.ListN.{length, replicate};
 ghost use Rattle.layout.specs.Places.{Limits, ssdLength};
 ghost use Rattle.protocol.specs.Recovery.{metasOf, eachLegal, noneTwice, storedRows};
@@ -31,21 +31,19 @@ fn mark(map: &mut [u32], b: u32)
     map[w] = map[w] | (1u32 << k);
 }
 
-// Whether a row's block is new, or no valid row's, or outside the range that begins at `start`; it is marked.
+// Whether a row's block is new, or no valid row's, or outside the range that begins at `start`; it is marked. Most blocks are
+// outside, and one comparison tells it, since ranges begin at multiples of their length.
 fn visit(map: &mut [u32], start: u32, block: u32, flags: u32) -> bool
-    requires { ⌜ length (now map) ≡ 16384 ⌝ }
+    requires { ⌜ (length (now map) ≡ 16384) × (start % 524288 ≡ 0) ⌝ }
     ensures { λ r. ⌜ record { fresh = r; map = now (map .exit) } ≡ visited start (now (map .entry)) block flags ⌝ }
 {
+    if block / 524288 != start / 524288 {
+        return true;
+    }
     if flags % 2 != 1 {
         return true;
     }
-    if block < start {
-        return true;
-    }
     let b = block - start;
-    if 524288 <= b {
-        return true;
-    }
     if is_marked(map, b) {
         return false;
     }
@@ -67,7 +65,7 @@ fn page_end(s: u32, slots: u32) -> u32
 
 // Whether all stored entries are new to the map: page by page.
 fn pass(map: &mut [u32], ssd: &[u8], l: Label, start: u32) -> bool
-    requires { ⌜ length (now map) ≡ 16384 ⌝ }
+    requires { ⌜ (length (now map) ≡ 16384) × (start % 524288 ≡ 0) ⌝ }
     requires { ⌜ length (now ssd) ≡ ssdLength l ⌝ }
     requires { ⌜ Limits l ⌝ }
     ensures { λ r. ⌜ r ≡ allFresh start (now (map .entry)) (storedRows l (metasOf l (now (ssd .entry)))) ⌝ }
@@ -97,6 +95,7 @@ fn pass(map: &mut [u32], ssd: &[u8], l: Label, start: u32) -> bool
 fn range_once(ssd: &[u8], l: Label, start: u32) -> bool
     requires { ⌜ length (now ssd) ≡ ssdLength l ⌝ }
     requires { ⌜ Limits l ⌝ }
+    requires { ⌜ start % 524288 ≡ 0 ⌝ }
     ensures { λ r. ⌜ r ≡ allFresh start (replicate 16384 0) (storedRows l (metasOf l (now (ssd .entry)))) ⌝ }
 {
     let mut map = [0u32; 16384];

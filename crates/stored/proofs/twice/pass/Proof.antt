@@ -29,7 +29,7 @@ abbrev μ-loop : tie.MeasureT-loop
 μ-loop map₀ ssd l start slots p₀ s₀ map p s = slots - s
 
 loop-holds : tie.Need-loop-holds Inv-loop2 μ-loop2 Inv-loop μ-loop
-loop-holds c = (refl, omega arith, λ h. refl, c .before .before .pre .0, refl)
+loop-holds c = (refl, omega arith, λ h. refl, c .before .before .pre .0 .0, refl)
 
 meta-page-requires : tie.Need-meta-page-requires Inv-loop2 μ-loop2 Inv-loop μ-loop
 meta-page-requires c κs =
