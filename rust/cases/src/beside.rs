@@ -27,9 +27,12 @@ pub struct Beside {
 }
 
 impl Beside {
-    /// "what a format's last step left"
     pub fn formatted(geometry: Geometry) -> Self {
-        let rig = Rig::formatted(geometry);
+        Beside::of(geometry, Rig::formatted(geometry))
+    }
+
+    /// "what a format's last step left"
+    pub fn of(geometry: Geometry, rig: Rig) -> Self {
         Beside {
             geometry,
             disk: PlainDisk::new(&rig.images.hdd),
@@ -49,7 +52,8 @@ impl Beside {
             Call::Reopen => self.outside(),
             _ => Vec::new(),
         };
-        let flushes = self.serves() && *call == Call::Flush;
+        let stamps_left = self.rig.record.newest() < u32::MAX;
+        let flushes = self.serves() && stamps_left && *call == Call::Flush;
         let said = self.attempt(call);
         assert!(
             said.is_ok() || !flushes,

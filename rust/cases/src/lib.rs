@@ -2,16 +2,32 @@
 
 pub mod beside;
 pub mod disk;
+mod generated;
 pub mod kept;
+mod listed;
+mod lists;
 mod mending;
 mod paper;
 pub mod random;
+mod refusals;
 mod reopening;
 pub mod rig;
 mod say;
+mod stamps;
 pub mod stored;
+mod windows;
 
 /// What the fixed lists come to, a line for each case; `expected.txt` was written from document 01.
 pub fn lines() -> Vec<String> {
-    [paper::lines(), mending::lines(), reopening::lines()].concat()
+    [
+        paper::lines(),
+        mending::lines(),
+        reopening::lines(),
+        lists::lines(),
+        refusals::lines(),
+        windows::lines(),
+        stamps::lines(),
+        generated::lines(),
+    ]
+    .concat()
 }

@@ -3,7 +3,7 @@
 use crate::beside::Beside;
 use crate::rig::{differing, Call, Rig};
 use crate::say;
-use crate::stored::{label, label_page, page, ssd_of, Meta, Metas, LANDED_PAGES};
+use crate::stored::{label, label_page, named, page, ssd_of, Meta, Metas};
 use ferjulm::{Block, Geometry, Images, PAGE};
 
 const SMALL: Geometry = Geometry {
@@ -15,17 +15,12 @@ pub fn lines() -> Vec<String> {
     vec![p1(), p2(), p3(), p4(), p5(), p6(), p7(), p8(), p9(), p10()]
 }
 
-/// The pages to be landed, by their names.
-fn named(name: char) -> Vec<u8> {
-    page(LANDED_PAGES + name as u64)
-}
-
 /// What a block reads as: "A" and "B" were landed, "HDD" was on its block before the format.
 fn reading(b: &mut Beside, block: u32) -> String {
     let found = say::said(b.rig.make(&Call::LookUp(Block(block))));
     let cache = b.rig.cache();
     let read = cache.view(Block(block)).expect("a view").to_vec();
-    let landed = ['A', 'B'].into_iter().find(|&name| named(name) == read);
+    let landed = ["A", "B"].into_iter().find(|&name| named(name) == read);
     let name = match landed {
         Some(name) => name.to_string(),
         None if read == page(block as u64) => "HDD".to_string(),
@@ -88,7 +83,7 @@ fn offered() -> (Beside, String) {
 /// The box of P2, with A landed.
 fn landed() -> Beside {
     let (mut b, _) = offered();
-    assert_eq!(say::said(b.make(&Call::Land(Block(5), named('A')))), "done");
+    assert_eq!(say::said(b.make(&Call::Land(Block(5), named("A")))), "done");
     b
 }
 
@@ -138,7 +133,7 @@ fn p6() -> String {
 fn p7() -> String {
     let (mut b, _) = flushed();
     let offer = say::said(b.make(&Call::Offer(Block(5))));
-    let land = say::said(b.make(&Call::Land(Block(5), named('B'))));
+    let land = say::said(b.make(&Call::Land(Block(5), named("B"))));
     let stored = say::place(b.stored);
     let (cut, read) = (cut(&mut b), reading(&mut b, 5));
     format!(
@@ -164,7 +159,7 @@ fn p8() -> String {
     });
     let calls = [
         ("offer 0", Call::Offer(Block(0))),
-        ("land A", Call::Land(Block(0), named('A'))),
+        ("land A", Call::Land(Block(0), named("A"))),
         ("offer 1", Call::Offer(Block(1))),
     ];
     let said = run(&mut b, &calls);

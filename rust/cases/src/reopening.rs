@@ -2,7 +2,7 @@
 
 use crate::rig::{Call, Rig};
 use crate::say;
-use crate::stored::{label, label_page, ssd_of, Meta};
+use crate::stored::{ssd_of, Meta};
 use ferjulm::{Geometry, Images, PAGE};
 
 const SMALL: Geometry = Geometry {
@@ -15,7 +15,7 @@ const TWO_PAGES: Geometry = Geometry {
 };
 
 pub fn lines() -> Vec<String> {
-    let mut lines = labels();
+    let mut lines = vec![reopened("after P6's second offer", small())];
     lines.extend(formats());
     lines.extend(lengths());
     lines.extend(pages());
@@ -68,27 +68,6 @@ fn rows(rig: &Rig) -> String {
     let rows = rig.table.chunks(2).enumerate();
     let rows = rows.filter(|(_, row)| row != &[0, 0]);
     say::list(rows.map(|(slot, row)| format!("{slot}:{}/{}", row[0], row[1])))
-}
-
-/// A small box whose SSD is another.
-fn with_ssd(ssd: Vec<u8>) -> Rig {
-    let mut rig = small();
-    rig.images.ssd = ssd;
-    rig
-}
-
-fn labels() -> Vec<String> {
-    let mut other = small().images.ssd;
-    other[..PAGE].copy_from_slice(&label_page(&label(SMALL).replace("layout=1", "layout=01")));
-    vec![
-        reopened("after P6's second offer", small()),
-        reopened("SSD of 0 bytes", with_ssd(Vec::new())),
-        reopened(
-            "SSD of 4095 bytes",
-            with_ssd(small().images.ssd[..PAGE - 1].to_vec()),
-        ),
-        reopened("layout=01", with_ssd(other)),
-    ]
 }
 
 /// A format of a used box, cut after each of its stores: a label stands only before the first and after the last.

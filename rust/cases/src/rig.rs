@@ -1,6 +1,6 @@
 //! A box with everything that it is lent, owned; and its calls as values.
 
-use crate::stored::page;
+use crate::stored::{named, page};
 use ferjulm::{Answer, Block, Cache, Geometry, Images, Phase, Record, Refusal, Slot, PAGE};
 
 /// A call with its arguments.
@@ -17,6 +17,35 @@ pub enum Call {
     View(Block),
     WriteBack(Block),
     Flush,
+}
+
+impl Call {
+    /// The call of a text: its name, then its numbers (`look up 5`, `format 4 8`), then the name of the page to be landed
+    /// (`land 5 A`).
+    pub fn of(text: &str) -> Self {
+        let at = text.find(char::is_numeric).unwrap_or(text.len());
+        let (name, arguments) = text.split_at(at);
+        let arguments: Vec<&str> = arguments.split(' ').collect();
+        let number = |at: usize| arguments[at].parse().expect("a number");
+        let block = || Block(number(0));
+        match name.trim_end() {
+            "format" => Call::Format(Geometry {
+                slots: number(0),
+                blocks: number(1),
+            }),
+            "step" => Call::Step,
+            "reopen" => Call::Reopen,
+            "offer" => Call::Offer(block()),
+            "land" => Call::Land(block(), named(arguments[1])),
+            "fetch" => Call::Fetch(block()),
+            "land fetch" => Call::LandFetch(block()),
+            "look up" => Call::LookUp(block()),
+            "view" => Call::View(block()),
+            "write back" => Call::WriteBack(block()),
+            "flush" => Call::Flush,
+            _ => panic!("no call: {text}"),
+        }
+    }
 }
 
 /// What a call says.
@@ -95,6 +124,13 @@ impl Rig {
         self.record = Record::from_words(std::array::from_fn(|_| word()));
     }
 
+    /// Puts another number into the record, at one of the places of [`word`].
+    pub fn set(&mut self, place: usize, number: u32) {
+        let mut words = *self.record.words();
+        words[place] = number;
+        self.record = Record::from_words(words);
+    }
+
     pub fn ready(&self) -> bool {
         self.record.phase() == Some(Phase::Ready)
     }
@@ -114,6 +150,17 @@ impl Rig {
     pub fn slot_page(&self, geometry: Geometry, slot: Slot) -> &[u8] {
         &self.images.ssd[geometry.slot_at(slot)..][..PAGE]
     }
+}
+
+/// The places of a record's numbers among its words.
+pub mod word {
+    pub const SLOTS: usize = 0;
+    pub const HAND: usize = 2;
+    pub const NEWEST: usize = 3;
+    pub const PHASE: usize = 4;
+    pub const STEPS: usize = 5;
+    pub const COUNT: usize = 7;
+    pub const WINDOW: usize = 8;
 }
 
 /// The pages in which two pairs of images differ.

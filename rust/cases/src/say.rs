@@ -1,19 +1,55 @@
 //! What the lines say, in document 01's words.
 
 use crate::rig::{Place, Said};
-use ferjulm::{Answer, Slot};
+use ferjulm::{Answer, Phase, Record, Slot};
 
 /// An answer, or a refusal with its number.
 pub fn said(said: Said) -> String {
     match said {
         Ok(Answer::Done) => "done".to_string(),
-        Ok(Answer::Announced(Slot(slot))) => format!("announced slot {slot}"),
+        Ok(Answer::Announced(Slot(slot))) => format!("announced {slot}"),
         Ok(Answer::Overwrite) => "overwrite".to_string(),
         Ok(Answer::CopiedOut) => "copied out".to_string(),
         Ok(Answer::InSlot(Slot(slot))) => format!("in slot {slot}"),
         Ok(Answer::OnDisk) => "on disk".to_string(),
         Ok(Answer::NothingToDo) => "nothing to do".to_string(),
-        Err(refusal) => format!("refused by {}", refusal.number()),
+        Err(refusal) => format!("refused {}", refusal.number()),
+    }
+}
+
+/// A record's phase.
+pub fn phase(record: &Record) -> String {
+    match record.phase() {
+        Some(Phase::Formatting(steps)) => format!("formatting {steps}"),
+        Some(Phase::Mending) => "mending".to_string(),
+        Some(Phase::Ready) => "ready".to_string(),
+        None => "no phase".to_string(),
+    }
+}
+
+/// Hand, newest stamp, how many slots are open (and which, if few), and whether it is settled.
+pub fn record(record: &Record) -> String {
+    let (hand, newest) = (record.hand().0, record.newest());
+    let open: Vec<Slot> = record.window().collect();
+    let few = if open.len() <= 4 { &open[..] } else { &[] };
+    let few: String = few.iter().map(|slot| format!(" #{}", slot.0)).collect();
+    let settled = if record.unsettled() {
+        "unsettled"
+    } else {
+        "settled"
+    };
+    format!(
+        "hand {hand} newest {newest} open {}{few} {settled}",
+        open.len()
+    )
+}
+
+/// Whether a refused call left all that it was lent.
+pub fn unchanged(same: bool) -> &'static str {
+    if same {
+        "unchanged"
+    } else {
+        "CHANGED"
     }
 }
 

@@ -128,6 +128,12 @@ pub const SLOT_PAGES: u64 = 1 << 40;
 /// The first number of the pages to be landed; below are those that the HDD has at first.
 pub const LANDED_PAGES: u64 = 1 << 41;
 
+/// The page to be landed that has a name: one character.
+pub fn named(name: &str) -> Vec<u8> {
+    let name: char = name.parse().expect("one character");
+    page(LANDED_PAGES + name as u64)
+}
+
 /// A page for each number, no two alike.
 pub fn page(number: u64) -> Vec<u8> {
     let mut bytes = Vec::with_capacity(PAGE);

@@ -1,7 +1,11 @@
-//! The fixed lists: P1 to P10 of document 01, mending cut at each store, reopenings refused and taken.
+//! The fixed lists of `rust/cases`, line by line.
 
 #[test]
 fn fixed_lists_come_to_what_document_01_says() {
+    let lines = cases::lines();
     let expected: Vec<&str> = include_str!("../../cases/expected.txt").lines().collect();
-    assert_eq!(cases::lines(), expected);
+    for (at, (line, expected)) in lines.iter().zip(&expected).enumerate() {
+        assert_eq!(line, expected, "line {} of expected.txt", at + 1);
+    }
+    assert_eq!(lines.len(), expected.len(), "lines of expected.txt");
 }

@@ -1,20 +1,13 @@
 //! The largest box: 57,600 slots, 240 metadata pages.
 
-use cases::rig::{Call, Rig};
+use cases::rig::{word, Call, Rig};
 use cases::stored::{label, label_page, page, Meta, Metas, LANDED_PAGES};
-use ferjulm::{Answer, Block, Geometry, Images, Record, Slot, PAGE};
+use ferjulm::{Answer, Block, Geometry, Images, Slot, PAGE};
 
 const WHOLE: Geometry = Geometry {
     slots: 57_600,
     blocks: 60_000,
 };
-
-/// Puts the hand elsewhere: any slot is a legal hand.
-fn move_hand(rig: &mut Rig, slot: u32) {
-    let mut words = *rig.record.words();
-    words[2] = slot;
-    rig.record = Record::from_words(words);
-}
 
 fn offer(rig: &mut Rig, block: u32, slot: u32) {
     let said = rig.make(&Call::Offer(Block(block)));
@@ -51,7 +44,8 @@ const OPEN: [(u32, u32); 4] = [
 /// Sixty-three offers from slot 57,570 on, past the last slot; all but three landed and flushed; a further one open.
 fn written() -> Rig {
     let mut rig = formatted();
-    move_hand(&mut rig, 57_570);
+    // any slot is a legal hand
+    rig.set(word::HAND, 57_570);
     for k in 0..63 {
         offer(&mut rig, 59_000 + k, (57_570 + k) % 57_600);
     }
@@ -63,7 +57,7 @@ fn written() -> Rig {
     closed.for_each(|block| land(&mut rig, block));
     assert_eq!(rig.make(&Call::Flush), Ok(Answer::Done));
     assert_eq!(rig.make(&Call::Flush), Ok(Answer::NothingToDo));
-    move_hand(&mut rig, 24_000);
+    rig.set(word::HAND, 24_000);
     offer(&mut rig, 200, 24_000);
     rig
 }

@@ -1,7 +1,7 @@
 //! What a call is given: boxes in every phase, spoilt at random.
 
 use cases::random::Random;
-use cases::rig::{Call, Rig};
+use cases::rig::{word, Call, Rig};
 use cases::stored::page;
 use ferjulm::{Block, Geometry, PAGE};
 
@@ -160,6 +160,6 @@ pub fn full() -> Input {
 /// The box with its newest stamp near the last.
 pub fn late(input: &Input, stamp: u32) -> Input {
     let mut input = input.clone();
-    input.record[3] = stamp;
+    input.record[word::NEWEST] = stamp;
     input
 }
