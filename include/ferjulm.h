@@ -43,18 +43,18 @@ enum {
     FERJULM_SLOTS = 0,
     FERJULM_BLOCKS = 1,
     FERJULM_HAND = 2,
-    FERJULM_NEWEST = 3,    /* the newest stamp */
-    FERJULM_PHASE = 4,     /* FERJULM_FORMATTING, FERJULM_MENDING or FERJULM_READY */
-    FERJULM_STEPS = 5,     /* steps done while formatting, else 0 */
-    FERJULM_UNSETTLED = 6, /* 1 if unsettled, else 0 */
-    FERJULM_COUNT = 7,     /* how many slots the window has */
+    FERJULM_NEWEST = 3,      /* the newest stamp */
+    FERJULM_PHASE = 4,       /* FERJULM_FORMATTING, FERJULM_RECOVERING or FERJULM_READY */
+    FERJULM_STEPS = 5,       /* steps done while formatting, else 0 */
+    FERJULM_UNCONFIRMED = 6, /* 1 if an open slot was landed with no metadata store after it (document 01: unsettled), else 0 */
+    FERJULM_COUNT = 7,       /* how many slots the window has */
     FERJULM_WINDOW = 8
 };
 
 /* The phases. */
 enum {
     FERJULM_FORMATTING = 0,
-    FERJULM_MENDING = 1,
+    FERJULM_RECOVERING = 1, /* after a reopening, while slots are pending (document 01: mending) */
     FERJULM_READY = 2
 };
 
@@ -80,7 +80,7 @@ enum {
  *   1  format: slots or blocks outside the limits
  *   2  reopen: SSD under a page, or first page no legal label
  *   3  a record number out of range, window repeated or not zero past its length; a record of other than 71 words, a phase
- *      above 2, steps outside formatting, unsettled above 1
+ *      above 2, steps outside formatting, unconfirmed above 1
  *   4  an image, table or data page of the wrong length
  *   5  a metadata page (reopen) or table row (others) breaks its rule, or rows, window and phase don't agree; a block in two
  *      rows is judged at reopen only, elsewhere its lowest slot counts
@@ -130,14 +130,14 @@ uint32_t ferjulm_format(const uint8_t *ssd, size_t ssd_len, const uint8_t *hdd, 
                         size_t table_len, uint32_t *record, size_t record_len, uint32_t slots, uint32_t blocks,
                         uint32_t *slot);
 
-/* Makes one step of a format or of mending: one store. The record's phase tells whether it was the last. Refuses with 6 when
- * ready. May refuse with 13 while mending.
+/* Makes one step of a format or of a recovery: one store. The record's phase tells whether it was the last. Refuses with 6
+ * when ready. May refuse with 13 while recovering.
  */
 uint32_t ferjulm_step(uint8_t *ssd, size_t ssd_len, const uint8_t *hdd, size_t hdd_len, const uint32_t *table,
                       size_t table_len, uint32_t *record, size_t record_len, uint32_t *slot);
 
-/* Reopens a box from its images after a cut, or at any other time: fills table and record. Phase ready, or mending, to be
- * ended by steps, at most 63. It stores nothing. The record handed in and the table's contents are not judged. May refuse
+/* Reopens a box from its images after a cut, or at any other time: fills table and record. Phase ready, or recovering, to
+ * be ended by steps, at most 63. It stores nothing. The record handed in and the table's contents are not judged. May refuse
  * with 2, 3 (a record of other than 71 words), 4 and 5, and with no other number.
  */
 uint32_t ferjulm_reopen(const uint8_t *ssd, size_t ssd_len, const uint8_t *hdd, size_t hdd_len, uint32_t *table,
@@ -187,7 +187,7 @@ uint32_t ferjulm_view(const uint8_t *ssd, size_t ssd_len, const uint8_t *hdd, si
 uint32_t ferjulm_write_back(const uint8_t *ssd, size_t ssd_len, uint8_t *hdd, size_t hdd_len, uint32_t *table,
                             size_t table_len, uint32_t *record, size_t record_len, uint32_t block, uint32_t *slot);
 
-/* Flushes: stores metadata page 0 if unsettled, so that everything landed lasts; else FERJULM_NOTHING_TO_DO. May refuse
+/* Flushes: stores metadata page 0 if unconfirmed, so that everything landed lasts; else FERJULM_NOTHING_TO_DO. May refuse
  * with 13.
  */
 uint32_t ferjulm_flush(uint8_t *ssd, size_t ssd_len, const uint8_t *hdd, size_t hdd_len, const uint32_t *table,

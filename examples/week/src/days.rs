@@ -116,7 +116,7 @@ pub fn saturday(field: &mut FieldBox) -> Done {
     field.call(|cache| cache.reopen())??;
     assert_eq!(
         field.read(|cache| cache.record().phase()),
-        Some(Phase::Mending)
+        Some(Phase::Recovering)
     );
     let early = field.read(|cache| cache.view(Block(SURVEY.start)).map(|_| ()));
     println!(

@@ -1,5 +1,5 @@
 //! A surveyor's week on a field box: a survey is saved, read, crowded out, corrected and flushed; power fails, the box
-//! reopens and mends, and the file that is copied to the office is Thursday's. Each day checks itself and shows the listing
+//! reopens and recovers, and the file that is copied to the office is Thursday's. Each day checks itself and shows the listing
 //! of the SSD. `run` beside this builds what is needed first.
 
 mod days;

@@ -6,7 +6,7 @@ use crate::proved::Proved;
 use crate::report::{grouped, Table};
 use crate::timing::{alternate, compared, per_call, Times};
 use crate::world::{meta_pages, Call, Side, World};
-use crate::world::{COUNT, HAND, MENDING, PHASE, STEPS};
+use crate::world::{COUNT, HAND, PHASE, RECOVERING, STEPS};
 
 /// Slots, blocks, boxes that are timed together, turns.
 const SIZES: [(u32, u32, usize, usize); 4] = [
@@ -106,7 +106,7 @@ fn clean_again<S: Side>(b: &mut Bench, next: u32) {
     b.spare = next;
 }
 
-/// Format and steps. The steps' rows are zero, but for mending, where slot 0 alone is pending.
+/// Format and steps. The steps' rows are zero, but for a recovery, where slot 0 alone is pending.
 fn formatted<S: Side>(b: &mut Bench) {
     let (slots, blocks) = (b.boxes[0].record[0], b.boxes[0].record[1]);
     b.time::<S>("format", 0, Call::Format(slots, blocks));
@@ -117,7 +117,7 @@ fn formatted<S: Side>(b: &mut Bench) {
     b.set(|w| {
         w.table = (0..slots).flat_map(|s| [s, 1]).collect();
         w.table[1] = 0;
-        w.record[PHASE] = MENDING;
+        w.record[PHASE] = RECOVERING;
         w.record[COUNT] = 1;
     });
     b.time::<S>("step, mending", 0, Call::Step);

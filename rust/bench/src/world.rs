@@ -12,7 +12,7 @@ pub const PHASE: usize = 4;
 pub const STEPS: usize = 5;
 pub const COUNT: usize = 7;
 
-pub const MENDING: u32 = 1;
+pub const RECOVERING: u32 = 1;
 pub const READY: u32 = 2;
 
 pub fn meta_pages(slots: u32) -> u32 {

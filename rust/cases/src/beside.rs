@@ -20,7 +20,7 @@ pub struct Beside {
     kept: Vec<Kept>,
     /// Whether record and table are lost.
     lost: bool,
-    /// Mending steps since the last reopening.
+    /// Steps of recovery since the last reopening.
     steps: u32,
     /// The call before, if it was answered "copied out".
     copied_out: Option<Call>,
@@ -95,10 +95,10 @@ impl Beside {
     }
 
     /// Steps until the box is ready: how many.
-    pub fn mend(&mut self) -> u32 {
-        while self.mending() {
+    pub fn recover(&mut self) -> u32 {
+        while self.recovering() {
             self.make(&Call::Step)
-                .expect("no step of mending is refused");
+                .expect("no step of a recovery is refused");
         }
         self.steps
     }
@@ -108,9 +108,9 @@ impl Beside {
         !self.lost && self.rig.ready()
     }
 
-    /// Whether it is mending, with record and table at hand.
-    pub fn mending(&self) -> bool {
-        !self.lost && self.rig.mending()
+    /// Whether it is recovering, with record and table at hand.
+    pub fn recovering(&self) -> bool {
+        !self.lost && self.rig.recovering()
     }
 
     /// Makes a call on the images in memory: at most one page changes, and nothing at all if it is refused.

@@ -6,9 +6,9 @@ mod generated;
 pub mod kept;
 mod listed;
 mod lists;
-mod mending;
 mod paper;
 pub mod random;
+mod recovery;
 mod refusals;
 mod reopening;
 pub mod rig;
@@ -21,7 +21,7 @@ mod windows;
 pub fn lines() -> Vec<String> {
     [
         paper::lines(),
-        mending::lines(),
+        recovery::lines(),
         reopening::lines(),
         lists::lines(),
         refusals::lines(),

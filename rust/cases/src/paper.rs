@@ -29,11 +29,11 @@ fn reading(b: &mut Beside, block: u32) -> String {
     format!("{block} {found} reads {name}")
 }
 
-/// Power fails; the box is reopened and mended: each of its stores with its stamp.
+/// Power fails; the box is reopened and recovers: each of its stores with its stamp.
 fn cut(b: &mut Beside) -> String {
     b.cut(|| 0xffff_ffff);
     let mut line = format!("reopen {}", say::said(b.make(&Call::Reopen)));
-    while b.mending() {
+    while b.recovering() {
         let step = say::said(b.make(&Call::Step));
         let stored = say::place(b.stored);
         line += &format!(", step {step} stores {stored} stamp {}", newest(b));

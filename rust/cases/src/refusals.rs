@@ -13,7 +13,7 @@ const SMALL: Geometry = Geometry {
 
 /// The numbers of the phases.
 const FORMATTING: u32 = 0;
-const MENDING: u32 = 1;
+const RECOVERING: u32 = 1;
 
 pub fn lines() -> Vec<String> {
     [
@@ -160,7 +160,7 @@ fn number_5_agree() -> Vec<String> {
         },
     );
     list.spoilt("mending, the window empty: ", "flush", |rig| {
-        set_phase(rig, MENDING, 0)
+        set_phase(rig, RECOVERING, 0)
     });
     list.spoilt("formatting, a row not zero: ", "flush", |rig| {
         set_row(rig, 5, 1);
@@ -174,7 +174,7 @@ fn number_6() -> Vec<String> {
     for call in ["view 5", "offer 5", "flush"] {
         list.spoilt("mending: ", call, |rig| {
             set_window(rig, 1, [0, 0]);
-            set_phase(rig, MENDING, 0)
+            set_phase(rig, RECOVERING, 0)
         });
     }
     list.spoilt("formatting: ", "look up 5", |rig| {

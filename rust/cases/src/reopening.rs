@@ -171,7 +171,7 @@ fn pages() -> Vec<String> {
     lines.collect()
 }
 
-/// A mending step at the last stamps.
+/// A step of a recovery at the last stamps.
 fn stamps() -> Vec<String> {
     [u32::MAX, u32::MAX - 1]
         .map(|stamp| {

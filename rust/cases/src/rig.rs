@@ -135,8 +135,8 @@ impl Rig {
         self.record.phase() == Some(Phase::Ready)
     }
 
-    pub fn mending(&self) -> bool {
-        self.record.phase() == Some(Phase::Mending)
+    pub fn recovering(&self) -> bool {
+        self.record.phase() == Some(Phase::Recovering)
     }
 
     /// A block's slot by the table: the lowest valid row that names it.

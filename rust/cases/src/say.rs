@@ -21,7 +21,7 @@ pub fn said(said: Said) -> String {
 pub fn phase(record: &Record) -> String {
     match record.phase() {
         Some(Phase::Formatting(steps)) => format!("formatting {steps}"),
-        Some(Phase::Mending) => "mending".to_string(),
+        Some(Phase::Recovering) => "mending".to_string(),
         Some(Phase::Ready) => "ready".to_string(),
         None => "no phase".to_string(),
     }
@@ -33,7 +33,7 @@ pub fn record(record: &Record) -> String {
     let open: Vec<Slot> = record.window().collect();
     let few = if open.len() <= 4 { &open[..] } else { &[] };
     let few: String = few.iter().map(|slot| format!(" #{}", slot.0)).collect();
-    let settled = if record.unsettled() {
+    let settled = if record.unconfirmed() {
         "unsettled"
     } else {
         "settled"

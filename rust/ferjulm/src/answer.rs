@@ -18,7 +18,7 @@ pub enum Answer {
     InSlot(Slot),
     /// The block is to be read from the HDD.
     OnDisk,
-    /// The block is not dirty, or the box is settled.
+    /// The block is not dirty, or nothing is unconfirmed.
     NothingToDo,
 }
 

@@ -49,7 +49,7 @@ impl<'a> Cache<'a> {
         call!(self.format(slots, blocks))
     }
 
-    /// One step of a format or of mending; the record's phase tells whether it was the last.
+    /// One step of a format or of a recovery; the record's phase tells whether it was the last.
     pub fn step(&mut self) -> Result<Answer, Refusal> {
         call!(self.step())
     }
@@ -64,7 +64,7 @@ impl<'a> Cache<'a> {
         Ok(steps)
     }
 
-    /// Fills table and record from the SSD: then ready, or mending. Stores nothing. May be called in any phase.
+    /// Fills table and record from the SSD: then ready, or recovering. Stores nothing. May be called in any phase.
     pub fn reopen(&mut self) -> Result<Answer, Refusal> {
         call!(self.reopen())
     }
@@ -117,7 +117,7 @@ impl<'a> Cache<'a> {
         call!(self.write_back(block.0))
     }
 
-    /// Makes everything landed last: `Done` if metadata was stored, `NothingToDo` if the box was settled.
+    /// Makes everything landed last: `Done` if metadata was stored, `NothingToDo` if nothing was unconfirmed.
     pub fn flush(&mut self) -> Result<Answer, Refusal> {
         call!(self.flush())
     }

@@ -45,7 +45,7 @@ macro_rules! calls {
 calls! {
     /// Begins a format.
     format, ferjulm_format(&[u8], &[u8], &mut [u32], slots, blocks);
-    /// Makes one step of a format or of mending.
+    /// Makes one step of a format or of a recovery.
     step, ferjulm_step(&mut [u8], &[u8], &[u32], );
     /// Fills table and record from the SSD.
     reopen, ferjulm_reopen(&[u8], &[u8], &mut [u32], );
@@ -59,7 +59,7 @@ calls! {
     look_up, ferjulm_look_up(&[u8], &[u8], &mut [u32], block);
     /// Writes a block back.
     write_back, ferjulm_write_back(&[u8], &mut [u8], &mut [u32], block);
-    /// Stores metadata page 0 if unsettled.
+    /// Stores metadata page 0 if unconfirmed.
     flush, ferjulm_flush(&mut [u8], &[u8], &[u32], );
 }
 

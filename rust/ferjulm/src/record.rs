@@ -13,8 +13,8 @@ const WINDOW: usize = 8;
 pub enum Phase {
     /// A format has begun, with so many steps done.
     Formatting(u32),
-    /// After a reopening, while slots are pending.
-    Mending,
+    /// After a reopening, while slots are pending: document 01's "mending".
+    Recovering,
     /// The box serves calls.
     Ready,
 }
@@ -36,7 +36,7 @@ impl Record {
         Record(words)
     }
 
-    /// Its words: slots, blocks, hand, newest, phase, steps done, unsettled, count, then the window.
+    /// Its words: slots, blocks, hand, newest, phase, steps done, unconfirmed, count, then the window.
     pub fn words(&self) -> &[u32; RECORD_WORDS] {
         &self.0
     }
@@ -63,18 +63,18 @@ impl Record {
     pub fn phase(&self) -> Option<Phase> {
         match (self.0[4], self.0[5]) {
             (0, steps) => Some(Phase::Formatting(steps)),
-            (1, 0) => Some(Phase::Mending),
+            (1, 0) => Some(Phase::Recovering),
             (2, 0) => Some(Phase::Ready),
             _ => None,
         }
     }
 
-    /// Whether an open slot was landed with no metadata store after it.
-    pub fn unsettled(&self) -> bool {
+    /// Whether an open slot was landed with no metadata store after it: document 01's "unsettled".
+    pub fn unconfirmed(&self) -> bool {
         self.0[6] == 1
     }
 
-    /// The open slots in the order of opening, or while mending the pending ones.
+    /// The open slots in the order of opening, or while recovering the pending ones.
     pub fn window(&self) -> impl Iterator<Item = Slot> + '_ {
         self.0[WINDOW..]
             .iter()

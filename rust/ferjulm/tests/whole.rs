@@ -87,13 +87,13 @@ fn check_reads(rig: &mut Rig) {
 }
 
 #[test]
-fn the_largest_box_is_cut_and_mended() {
+fn the_largest_box_is_cut_and_recovered() {
     let mut rig = written();
     rig.forget(|| 0xffff_ffff);
     assert_eq!(rig.make(&Call::Reopen), Ok(Answer::Done));
     let pending: Vec<u32> = rig.record.window().map(|slot| slot.0).collect();
     assert_eq!(pending, OPEN.map(|open| open.1));
-    assert!(rig.mending() && rig.record.newest() == 65);
+    assert!(rig.recovering() && rig.record.newest() == 65);
     for left in [3, 2, 0] {
         rig.make(&Call::Step).expect("a step");
         assert_eq!(rig.record.window().count(), left);
@@ -102,6 +102,6 @@ fn the_largest_box_is_cut_and_mended() {
     check_reads(&mut rig);
     rig.forget(|| 0);
     assert_eq!(rig.make(&Call::Reopen), Ok(Answer::Done));
-    assert!(rig.ready(), "mended once, nothing is pending");
+    assert!(rig.ready(), "recovered once, nothing is pending");
     check_reads(&mut rig);
 }

@@ -75,7 +75,7 @@ impl Client {
     }
 
     /// Lands what is open for the block, and makes room for one more.
-    fn settle(&mut self, block: u32) {
+    fn make_room(&mut self, block: u32) {
         if let Some(at) = self.open.iter().position(|(b, _)| *b == block) {
             self.finish(at);
         }
@@ -100,7 +100,7 @@ impl Client {
     }
 
     fn write(&mut self, block: u32) {
-        self.settle(block);
+        self.make_room(block);
         let before = self
             .cache
             .world
@@ -119,7 +119,7 @@ impl Client {
     }
 
     fn read(&mut self, block: u32) {
-        self.settle(block);
+        self.make_room(block);
         if self.cache.call(Call::LookUp(block)) == 104 {
             self.hits += 1;
         } else {

@@ -122,7 +122,7 @@ pub fn write_back(w: &mut World, block: u32) -> Answer {
 #[inline(never)]
 pub fn flush(w: &mut World) -> Answer {
     let mut r = serves(w, PAGE, None)?.record;
-    if !r.unsettled {
+    if !r.unconfirmed {
         pack(&mut w.record, &r);
         return Ok(106);
     }

@@ -29,10 +29,10 @@ pub fn store_stamped(w: &mut World, r: &Record, stamp: u32, p: usize) {
     w.ssd[PAGE * (1 + p)..PAGE * (2 + p)].copy_from_slice(&page);
 }
 
-/// A metadata store: the next stamp, and settled.
+/// A metadata store: the next stamp, and nothing is unconfirmed.
 pub fn store_meta(w: &mut World, r: &mut Record, p: usize) {
     r.newest += 1;
-    r.unsettled = false;
+    r.unconfirmed = false;
     store_stamped(w, r, r.newest, p);
 }
 
@@ -60,7 +60,7 @@ pub fn close(w: &mut World, r: &mut Record, slot: u32) {
     r.window.copy_within(at + 1..r.count, at);
     r.count -= 1;
     r.window[r.count] = 0;
-    r.unsettled = true;
+    r.unconfirmed = true;
 }
 
 /// Copies a dirty slot's page to its block and marks it clean.

@@ -9,7 +9,7 @@ pub struct Record {
     pub newest: u32,
     pub phase: u32,
     pub steps: u32,
-    pub unsettled: bool,
+    pub unconfirmed: bool,
     pub window: [u32; 63],
     pub count: usize,
 }
@@ -23,7 +23,7 @@ pub fn begun(slots: u32, blocks: u32, newest: u32, phase: u32) -> Record {
         newest,
         phase,
         steps: 0,
-        unsettled: false,
+        unconfirmed: false,
         window: [0; 63],
         count: 0,
     }
@@ -44,7 +44,7 @@ pub fn unpack(words: &[u32]) -> Option<Record> {
         newest: words[3],
         phase,
         steps,
-        unsettled: words[6] == 1,
+        unconfirmed: words[6] == 1,
         window,
         count: words[7] as usize,
     })
@@ -58,7 +58,7 @@ pub fn pack(words: &mut [u32], r: &Record) {
         r.newest,
         r.phase,
         r.steps,
-        r.unsettled as u32,
+        r.unconfirmed as u32,
         r.count as u32,
     ]);
     words[8..].copy_from_slice(&r.window);

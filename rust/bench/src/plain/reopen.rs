@@ -3,7 +3,7 @@
 use super::judge::lengths_ok;
 use super::record::{begun, pack, within, Record};
 use crate::image::PAGE;
-use crate::world::{meta_pages, World, MENDING, READY, RECORD};
+use crate::world::{meta_pages, World, READY, RECORD, RECOVERING};
 
 /// A number of a label's line, and what comes after it.
 fn number(bytes: &[u8]) -> Option<(u32, &[u8])> {
@@ -140,7 +140,7 @@ pub fn reopen(w: &mut World) -> Result<u32, u32> {
     let newest = newest_page(&w.ssd, slots, blocks).ok_or(5u32)?;
     let page = meta(&w.ssd, newest);
     let count = page[4] as usize;
-    let phase = if count == 0 { READY } else { MENDING };
+    let phase = if count == 0 { READY } else { RECOVERING };
     let mut r = begun(slots, blocks, word(&page[0..4]), phase);
     r.count = count;
     for (s, bytes) in r.window[..count]

@@ -1,10 +1,10 @@
-//! Format, and the steps of a format and of mending.
+//! Format, and the steps of a format and of a recovery.
 
 use super::judge::{lengths_ok, sound};
 use super::moves::{store_meta, store_stamped};
 use super::record::{begun, pack, within, Record};
 use crate::image::PAGE;
-use crate::world::{meta_pages, World, MENDING, READY, RECORD};
+use crate::world::{meta_pages, World, READY, RECORD, RECOVERING};
 use std::io::Write;
 
 #[inline(never)]
@@ -28,8 +28,8 @@ pub fn step(w: &mut World) -> Result<u32, u32> {
     let mut r = sound(w, PAGE, 0)?.record;
     match r.phase {
         READY => return Err(6),
-        MENDING if r.newest == u32::MAX => return Err(13),
-        MENDING => mend(w, &mut r),
+        RECOVERING if r.newest == u32::MAX => return Err(13),
+        RECOVERING => recover(w, &mut r),
         _ => format_on(w, &mut r),
     }
     pack(&mut w.record, &r);
@@ -59,7 +59,7 @@ fn format_on(w: &mut World, r: &mut Record) {
 }
 
 /// Stores the lowest page with a pending slot; the slots of other pages stay pending.
-fn mend(w: &mut World, r: &mut Record) {
+fn recover(w: &mut World, r: &mut Record) {
     let page = r.window[..r.count].iter().map(|s| s / 240).min().unwrap();
     let mut left = [0; 63];
     let mut count = 0;

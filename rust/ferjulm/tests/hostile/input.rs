@@ -113,7 +113,7 @@ fn spoil_word(list: &mut [u32], random: &mut Random) {
 }
 
 /// Boxes in every phase: a format begun, one with a step done, ready and empty, ready with slots open for writing and for
-/// fetch, dirty and clean, and mending.
+/// fetch, dirty and clean, and recovering.
 pub fn boxes(geometry: Geometry) -> Vec<Input> {
     let mut rig = Rig::unformatted(geometry);
     rig.make(&Call::Format(geometry)).expect("a format");

@@ -26,11 +26,11 @@ const CUT_ONCE_IN: [u32; 4] = [10, 30, 100, 300];
 pub struct Counts {
     pub events: u32,
     pub cuts: u32,
-    pub cuts_while_mending: u32,
+    pub cuts_while_recovering: u32,
     pub copied_out: u32,
     pub most_open: usize,
-    /// Reopenings with so many metadata pages to mend.
-    pub mended: [u32; 4],
+    /// Reopenings with so many metadata pages to store.
+    pub recovered: [u32; 4],
     pub refused: BTreeMap<u32, u32>,
 }
 
@@ -191,7 +191,7 @@ impl<'a> List<'a> {
     fn cut(&mut self, call: Option<Call>) {
         self.counts.events += 1;
         self.counts.cuts += 1;
-        self.counts.cuts_while_mending += self.b.mending() as u32;
+        self.counts.cuts_while_recovering += self.b.recovering() as u32;
         let mask = self.random.of(&[u32::MAX, 15, 0]);
         let arrives = self.random.once_in(2);
         let random = &mut self.random;
@@ -203,13 +203,13 @@ impl<'a> List<'a> {
         self.last = None;
     }
 
-    /// Reopens till a reopening is finished; most are cut while mending.
+    /// Reopens till a reopening is finished; most are cut while recovering.
     fn reopen(&mut self) {
         self.must(Call::Reopen);
         let steps = self.pending_pages();
-        self.counts.mended[steps] += 1;
+        self.counts.recovered[steps] += 1;
         let uncut = self.random.once_in(15);
-        while self.b.mending() {
+        while self.b.recovering() {
             match self.random.below(20) {
                 0 => self.make(Call::Offer(Block(0))),
                 1..=3 => self.must(Call::Step),
@@ -218,13 +218,13 @@ impl<'a> List<'a> {
                 _ => return self.cut_and_reopen(Some(Call::Step)),
             }
         }
-        let made = self.b.mend() as usize;
+        let made = self.b.recover() as usize;
         assert_eq!(made, steps, "a step for each page with a pending slot");
     }
 
     /// How many metadata pages have a pending slot.
     fn pending_pages(&self) -> usize {
-        if !self.b.mending() {
+        if !self.b.recovering() {
             return 0;
         }
         let pending = self.b.rig.record.window();

@@ -34,14 +34,14 @@ const SIZES: [Size; 4] = [
 fn random_lists_beside_the_plain_disk() {
     let mut all = Counts::default();
     for size in &SIZES {
-        let before = (all.events, all.cuts, all.cuts_while_mending);
+        let before = (all.events, all.cuts, all.cuts_while_recovering);
         let Size { slots, blocks, .. } = *size;
         for seed in 0..size.lists {
             List::new(Geometry { slots, blocks }, seed, &mut all).run(size.events);
         }
         let (events, cuts) = (all.events - before.0, all.cuts - before.1);
-        let mending = all.cuts_while_mending - before.2;
-        println!("{slots} slots: {events} events, {cuts} cuts, {mending} of them while mending");
+        let recovering = all.cuts_while_recovering - before.2;
+        println!("{slots} slots: {events} events, {cuts} cuts, {recovering} of them while mending");
     }
     println!(
         "{} copied out, at most {} open",
@@ -49,12 +49,14 @@ fn random_lists_beside_the_plain_disk() {
     );
     println!(
         "pages to mend: {:?}; refused by number: {:?}",
-        all.mended, all.refused
+        all.recovered, all.refused
     );
-    assert!(all.events >= 100_000 && all.cuts >= 5_000 && 2 * all.cuts_while_mending >= all.cuts);
+    assert!(
+        all.events >= 100_000 && all.cuts >= 5_000 && 2 * all.cuts_while_recovering >= all.cuts
+    );
     assert!(all.most_open == 63 && all.copied_out > 1_000);
     assert!(
-        all.mended.iter().all(|&count| count >= 10),
+        all.recovered.iter().all(|&count| count >= 10),
         "too few over several pages"
     );
     for number in [1, 4, 6, 7, 8, 9, 10, 11, 12] {

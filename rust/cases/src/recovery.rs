@@ -1,4 +1,4 @@
-//! Mending over two and three metadata pages, cut before and after each of its stores.
+//! Recovery over two and three metadata pages, cut before and after each of its stores.
 
 use crate::beside::Beside;
 use crate::rig::Call;
@@ -41,7 +41,7 @@ fn land(b: &mut Beside, block: u32) {
         .expect("a landing");
 }
 
-/// A line for each store of the mending and for each side of it.
+/// A line for each store of the recovery and for each side of it.
 fn cuts(geometry: Geometry, open: &[u32], steps: u32) -> Vec<String> {
     let mut lines = Vec::new();
     for step in 1..=steps {
@@ -54,7 +54,7 @@ fn cuts(geometry: Geometry, open: &[u32], steps: u32) -> Vec<String> {
             b.cut_in(&Call::Step, arrives, || 0);
             let side = if arrives { "after" } else { "before" };
             let second = reopened(&mut b);
-            let (took, newest) = (b.mend(), b.rig.record.newest());
+            let (took, newest) = (b.recover(), b.rig.record.newest());
             lines.push(format!(
                 "mending {} slots: {first}; cut {side} store {step}: {second}, steps {took}, newest {newest}",
                 geometry.slots
