@@ -1,66 +1,30 @@
-//! Each call at four sizes, made on boxes whose slots are all in use.
+//! Each call at five sizes, made on boxes whose slots are all in use, with few or many of them open.
 
+use crate::boxes::Bench;
 use crate::image::PAGE;
 use crate::plain::Plain;
 use crate::proved::Proved;
 use crate::report::{grouped, Table};
-use crate::timing::{alternate, compared, per_call, Times};
-use crate::world::{meta_pages, Call, Side, World};
-use crate::world::{COUNT, HAND, PHASE, RECOVERING, STEPS};
+use crate::timing::{alternate, compared, Times};
+use crate::world::{meta_pages, Call, Side, PHASE, RECOVERING, STEPS};
 
 /// Slots, blocks, boxes that are timed together, turns.
-const SIZES: [(u32, u32, usize, usize); 4] = [
+type Size = (u32, u32, usize, usize);
+
+/// 65 slots are the fewest with which every call here can be made while 63 are open.
+const SIZES: [Size; 5] = [
     (4, 8, 32, 4_000),
+    (65, 80, 16, 3_000),
     (240, 300, 8, 2_000),
     (5_000, 6_000, 1, 1_000),
     (57_600, 60_000, 1, 400),
 ];
 
+/// The tables, and how many slots are open in their boxes.
+pub const OPEN: [(&str, u32); 3] = [("calls", 0), ("open 16", 16), ("open 63", 63)];
+
 /// The bytes that are landed.
 static LANDED: [u8; PAGE] = [0xa5; PAGE];
-
-/// Boxes that are all alike, what was timed on them, and a block that no slot holds.
-struct Bench {
-    boxes: Vec<World>,
-    times: Times,
-    spare: u32,
-}
-
-impl Bench {
-    #[inline(always)]
-    fn untimed<S: Side>(&mut self, wanted: u32, call: Call) -> f64 {
-        per_call(&mut self.boxes, wanted, |w| S::make(w, call))
-    }
-
-    #[inline(always)]
-    fn time<S: Side>(&mut self, name: &str, wanted: u32, call: Call) {
-        let time = self.untimed::<S>(wanted, call);
-        self.times.note::<S>(name, time);
-    }
-
-    fn set(&mut self, change: impl Fn(&mut World)) {
-        self.boxes.iter_mut().for_each(change);
-    }
-
-    /// The block in a slot of the first box, and so of all.
-    fn block_in(&self, slot: u32) -> u32 {
-        self.boxes[0].table[2 * slot as usize]
-    }
-
-    /// A block held far from the hand: the last slot's, or the first's.
-    fn far(&self) -> u32 {
-        let (slots, hand) = (self.boxes[0].record[0], self.boxes[0].record[HAND]);
-        self.block_in(if hand < slots / 2 { slots - 1 } else { 0 })
-    }
-
-    /// The block in the slot that a sweep takes while none is open: the first from the hand that is not used.
-    fn next_out(&self) -> u32 {
-        let (slots, hand) = (self.boxes[0].record[0], self.boxes[0].record[HAND]);
-        let unused = |s: &u32| self.boxes[0].table[2 * *s as usize + 1] < 8;
-        let slot = (hand..slots).chain(0..hand).find(unused).unwrap_or(hand);
-        self.block_in(slot)
-    }
-}
 
 /// Calls that name a block in a slot, which is clean before and after, or none.
 fn held<S: Side>(b: &mut Bench) {
@@ -68,8 +32,10 @@ fn held<S: Side>(b: &mut Bench) {
     b.time::<S>("look up, on disk", 105, Call::LookUp(b.spare));
     b.time::<S>("look up, in slot", 104, Call::LookUp(block));
     b.time::<S>("view", 0, Call::View(block));
+    b.close_last();
     b.time::<S>("offer, announced (clean)", 101, Call::Offer(block));
     b.time::<S>("land, open", 0, Call::Land(block, &LANDED));
+    b.open_all();
     b.time::<S>("offer, overwrite", 102, Call::Offer(block));
     b.time::<S>("land, dirty", 0, Call::Land(block, &LANDED));
     b.time::<S>("flush", 0, Call::Flush);
@@ -78,6 +44,7 @@ fn held<S: Side>(b: &mut Bench) {
 
 /// Calls that sweep. Each brings in the spare block, and the block that had its slot is the next spare one.
 fn swept<S: Side>(b: &mut Bench) {
+    b.close_last();
     let next = b.next_out();
     b.time::<S>("fetch, announced", 101, Call::Fetch(b.spare));
     b.time::<S>("land a fetch", 0, Call::LandFetch(b.spare));
@@ -89,7 +56,7 @@ fn swept<S: Side>(b: &mut Bench) {
     b.untimed::<S>(101, Call::Offer(next));
     b.untimed::<S>(0, Call::Land(next, &LANDED));
     b.time::<S>("offer, copied out", 103, Call::Offer(b.spare));
-    b.set(|w| w.table.chunks_exact_mut(2).for_each(|row| row[1] = 9));
+    b.set(|w| w.table.chunks_exact_mut(2).for_each(|row| row[1] |= 8));
     let next = b.next_out();
     b.time::<S>(
         "offer, announced (all were used)",
@@ -97,6 +64,7 @@ fn swept<S: Side>(b: &mut Bench) {
         Call::Offer(b.spare),
     );
     clean_again::<S>(b, next);
+    b.open_all();
 }
 
 /// Lands the announced spare block and writes it back; `next` lost its slot.
@@ -106,7 +74,7 @@ fn clean_again<S: Side>(b: &mut Bench, next: u32) {
     b.spare = next;
 }
 
-/// Format and steps. The steps' rows are zero, but for a recovery, where slot 0 alone is pending.
+/// Format and its steps, whose rows are zero.
 fn formatted<S: Side>(b: &mut Bench) {
     let (slots, blocks) = (b.boxes[0].record[0], b.boxes[0].record[1]);
     b.time::<S>("format", 0, Call::Format(slots, blocks));
@@ -114,13 +82,40 @@ fn formatted<S: Side>(b: &mut Bench) {
     b.time::<S>("step, metadata page", 0, Call::Step);
     b.set(|w| w.record[STEPS] = meta_pages(slots) + 1);
     b.time::<S>("step, label", 0, Call::Step);
+}
+
+/// A step of a recovery: the open slots are pending, or slot 0 if there are none, and their rows are zero.
+fn recovered<S: Side>(b: &mut Bench) {
+    let mut pending = b.open.clone();
+    if pending.is_empty() {
+        pending.push(0);
+    }
     b.set(|w| {
-        w.table = (0..slots).flat_map(|s| [s, 1]).collect();
-        w.table[1] = 0;
         w.record[PHASE] = RECOVERING;
-        w.record[COUNT] = 1;
+        w.list(&pending);
+        w.table = (0..w.record[0]).flat_map(|s| [s, 1]).collect();
+        let rows = pending.iter().map(|s| 2 * *s as usize);
+        rows.for_each(|row| w.table[row..row + 2].fill(0));
     });
     b.time::<S>("step, mending", 0, Call::Step);
+}
+
+/// The lists of calls that are timed, each for both sides. A format does not look at open slots: it is timed once, with none.
+fn lists(open: u32) -> Vec<[fn(&mut Bench); 2]> {
+    let mut lists: Vec<[fn(&mut Bench); 2]> = vec![
+        [held::<Proved>, held::<Plain>],
+        [swept::<Proved>, swept::<Plain>],
+    ];
+    if open == 0 {
+        lists.push([formatted::<Proved>, formatted::<Plain>]);
+    }
+    lists.push([recovered::<Proved>, recovered::<Plain>]);
+    lists
+}
+
+/// The sizes of which so many slots can be open.
+fn sizes_for(open: u32) -> impl Iterator<Item = Size> {
+    SIZES.into_iter().filter(move |size| size.0 > open)
 }
 
 /// The median times of every call, for each size.
@@ -128,21 +123,32 @@ pub struct Measured {
     pub sizes: Vec<(u32, Times)>,
 }
 
-pub fn measure() -> Measured {
+pub fn measure(open: u32) -> Measured {
     let mut sizes = Vec::new();
-    for (slots, blocks, count, turns) in SIZES {
-        let boxes = (0..count).map(|_| World::full(slots, blocks)).collect();
-        let mut bench = Bench {
-            boxes,
-            times: Times::default(),
-            spare: slots,
-        };
-        alternate(turns, &mut bench, [held::<Proved>, held::<Plain>]);
-        alternate(turns, &mut bench, [swept::<Proved>, swept::<Plain>]);
-        alternate(turns, &mut bench, [formatted::<Proved>, formatted::<Plain>]);
+    for (slots, blocks, count, turns) in sizes_for(open) {
+        let mut bench = Bench::new(slots, blocks, open, count);
+        for sides in lists(open) {
+            alternate(turns, &mut bench, sides);
+        }
         sizes.push((slots, bench.times));
     }
     Measured { sizes }
+}
+
+/// Each side makes the lists three times on a box of its own; both must be left the same. The largest box is left out, for its
+/// memory.
+pub fn check(open: u32) {
+    for (slots, blocks, ..) in sizes_for(open).filter(|size| size.0 < 57_600) {
+        let [mut ours, mut theirs] = [(); 2].map(|_| Bench::new(slots, blocks, open, 1));
+        for [proved, plain] in lists(open) {
+            for _ in 0..3 {
+                proved(&mut ours);
+                plain(&mut theirs);
+                let same = ours.boxes == theirs.boxes;
+                assert!(same, "{slots} slots, {open} open: not the same");
+            }
+        }
+    }
 }
 
 impl Measured {

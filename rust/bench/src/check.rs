@@ -1,5 +1,7 @@
-//! Both sides make the same random calls on boxes of their own, which must stay the same in every word and byte.
+//! Both sides make the same calls on boxes of their own, which must stay the same in every word and byte: random ones, and those
+//! that are timed.
 
+use crate::calls;
 use crate::image::PAGE;
 use crate::plain::Plain;
 use crate::proved::Proved;
@@ -123,7 +125,7 @@ fn agree(slots: u32, blocks: u32, calls: usize, seen: &mut Seen) {
     }
 }
 
-/// Checks boxes of three sizes. Every answer and every refusal must have come up.
+/// Checks boxes of three sizes. Every answer and every refusal must have come up. Then the calls that are timed.
 pub fn run() -> String {
     let mut seen = Seen::new();
     let sizes = [(4, 8, 40_000), (64, 70, 40_000), (300, 310, 8_000)];
@@ -132,12 +134,13 @@ pub fn run() -> String {
     }
     let all: Vec<u32> = (0..=13).chain(101..=106).collect();
     assert!(seen.keys().eq(&all), "the result codes seen: {seen:?}");
-    let calls: u32 = seen.values().sum();
+    let random: u32 = seen.values().sum();
     let refused: u32 = seen.range(1..100).map(|(_, n)| n).sum();
+    calls::OPEN.iter().for_each(|(_, open)| calls::check(*open));
     format!(
-        "{} random calls, {} of them refused, with every answer and every number from 1 to 13 among them: both sides gave\n\
-         the same code and left the same record, table and images.\n",
-        grouped(calls),
+        "{} random calls, {} of them refused, with every answer and every number from 1 to 13 among them, and the calls\n\
+         that are timed, with 0, 16 and 63 slots open: both sides gave the same code and left the same record, table and images.\n",
+        grouped(random),
         grouped(refused)
     )
 }

@@ -1,5 +1,6 @@
 //! Compares the proved calls with plain Rust that does the same, and times both. README.md has the commands.
 
+mod boxes;
 mod calls;
 mod check;
 mod cost;
@@ -63,9 +64,12 @@ fn main() {
         !options.contains_key("--check") && options.get("--only").is_none_or(|only| only == name)
     };
     let mut sections = vec![("check", check::run())];
-    let calls = only("calls").then(calls::measure);
+    let measured = calls::OPEN.into_iter().filter(|(name, _)| only(name));
+    let measured: Vec<_> = measured
+        .map(|(name, open)| (name, calls::measure(open)))
+        .collect();
     let reopened = only("reopening").then(reopening::measure);
-    sections.extend(calls.as_ref().map(|measured| ("calls", measured.table())));
+    sections.extend(measured.iter().map(|(name, calls)| (*name, calls.table())));
     sections.extend(only("cost").then(|| ("cost", cost::table())));
     sections.extend(only("pages").then(|| ("pages", pages::table())));
     sections.extend(
@@ -82,7 +86,9 @@ fn main() {
         let text = fs::read_to_string(file).expect("the document can be read");
         fs::write(file, document::filled(&text, &sections)).expect("the document can be written");
     }
-    if let (Some(file), Some(calls), Some(reopened)) = (options.get("--plot"), calls, reopened) {
-        fs::write(file, plot::svg(&lines(&calls, &reopened))).expect("the plot can be written");
+    let calls = measured.iter().find(|(name, _)| *name == "calls");
+    if let (Some(file), Some((_, calls)), Some(reopened)) = (options.get("--plot"), calls, reopened)
+    {
+        fs::write(file, plot::svg(&lines(calls, &reopened))).expect("the plot can be written");
     }
 }

@@ -10,7 +10,7 @@ const FRAME: [f64; 4] = [110.0, 60.0, 930.0, 540.0];
 const SLOTS: [f64; 2] = [0.4, 5.0];
 const TIME: [f64; 2] = [0.7, 6.5];
 
-const SIZES: [u32; 4] = [4, 240, 5_000, 57_600];
+const SIZES: [u32; 5] = [4, 65, 240, 5_000, 57_600];
 const TIMES: [&str; 6] = ["10 ns", "100 ns", "1 µs", "10 µs", "100 µs", "1 ms"];
 const COLOURS: [&str; 5] = ["#d55e00", "#0072b2", "#009e73", "#cc79a7", "#333333"];
 /// How a side's line is drawn, and how its points are filled.

@@ -11,6 +11,7 @@ pub const NEWEST: usize = 3;
 pub const PHASE: usize = 4;
 pub const STEPS: usize = 5;
 pub const COUNT: usize = 7;
+pub const WINDOW: usize = 8;
 
 pub const RECOVERING: u32 = 1;
 pub const READY: u32 = 2;
@@ -56,6 +57,13 @@ impl World {
         w.hdd.touch();
         w.table = (0..slots).flat_map(|s| [s, 1]).collect();
         w
+    }
+
+    /// Puts slots into the record's window, and no others.
+    pub fn list(&mut self, slots: &[u32]) {
+        self.record[COUNT] = slots.len() as u32;
+        self.record[WINDOW..].fill(0);
+        self.record[WINDOW..][..slots.len()].copy_from_slice(slots);
     }
 
     /// A box to be reopened: entries that are all valid and closed, clean and dirty by turns, slot s holding `block_of(s)`.

@@ -1,0 +1,82 @@
+//! Boxes that calls are timed on: every slot is in use, and some may be open.
+
+use crate::timing::{per_call, Times};
+use crate::world::{Call, Side, World, HAND};
+
+/// Boxes that are all alike, what was timed on them, a block that no slot holds, and the slots that are open: spread over the box,
+/// and neither the first slot nor the last.
+pub struct Bench {
+    pub boxes: Vec<World>,
+    pub times: Times,
+    pub spare: u32,
+    pub open: Vec<u32>,
+}
+
+impl Bench {
+    pub fn new(slots: u32, blocks: u32, open: u32, count: usize) -> Bench {
+        let mut bench = Bench {
+            boxes: (0..count).map(|_| World::full(slots, blocks)).collect(),
+            times: Times::default(),
+            spare: slots,
+            open: (0..open).map(|i| 1 + i * ((slots - 2) / open)).collect(),
+        };
+        bench.open_all();
+        bench
+    }
+
+    #[inline(always)]
+    pub fn untimed<S: Side>(&mut self, wanted: u32, call: Call) -> f64 {
+        per_call(&mut self.boxes, wanted, |w| S::make(w, call))
+    }
+
+    #[inline(always)]
+    pub fn time<S: Side>(&mut self, name: &str, wanted: u32, call: Call) {
+        let time = self.untimed::<S>(wanted, call);
+        self.times.note::<S>(name, time);
+    }
+
+    pub fn set(&mut self, change: impl Fn(&mut World)) {
+        self.boxes.iter_mut().for_each(change);
+    }
+
+    /// Opens all of the open slots for writing.
+    pub fn open_all(&mut self) {
+        let open = self.open.clone();
+        self.set(|w| {
+            w.list(&open);
+            open.iter().for_each(|s| w.table[2 * *s as usize + 1] |= 6);
+        });
+    }
+
+    /// Closes the last of the open slots, if there is one: the next call opens a slot in its stead.
+    pub fn close_last(&mut self) {
+        let Some((last, others)) = self.open.split_last() else {
+            return;
+        };
+        let (last, others) = (2 * *last as usize + 1, others.to_vec());
+        self.set(|w| {
+            w.list(&others);
+            w.table[last] &= !6;
+        });
+    }
+
+    /// The block in a slot of the first box, and so of all.
+    fn block_in(&self, slot: u32) -> u32 {
+        self.boxes[0].table[2 * slot as usize]
+    }
+
+    /// A block held far from the hand: the last slot's, or the first's.
+    pub fn far(&self) -> u32 {
+        let (slots, hand) = (self.boxes[0].record[0], self.boxes[0].record[HAND]);
+        self.block_in(if hand < slots / 2 { slots - 1 } else { 0 })
+    }
+
+    /// The block in the slot that a sweep takes: the first closed one from the hand that is not used, or the first closed one.
+    pub fn next_out(&self) -> u32 {
+        let (slots, hand) = (self.boxes[0].record[0], self.boxes[0].record[HAND]);
+        let flags = |s: &u32| self.boxes[0].table[2 * *s as usize + 1];
+        let mut closed = (hand..slots).chain(0..hand).filter(|s| flags(s) & 4 == 0);
+        let slot = closed.clone().find(|s| flags(s) < 8).or(closed.next());
+        self.block_in(slot.unwrap())
+    }
+}
