@@ -1,5 +1,7 @@
 // What rust/bench measures, for Rust to call.
 use layout::Slot;
+use layout::WINDOW;
+use layout::Window;
 ghost use mathlib.Core.Path.{_≡_};
 ghost use Prim.Native.Nat.{_≤_, _%_};
 ghost use lib.ListN.{length, take, replicate};
@@ -24,6 +26,10 @@ pub extern "C" fn bench_encode(out: &mut [u8], stamp: u32, slot: u32, rows: &[u3
     requires { ⌜ length (now rows) % 2 ≡ 0 ⌝ }
     ensures { λ _. ⌜ now (out .exit) ≡ encodeMeta stamp (take 63 (replicate 63 (record { 0 = slot }))) (now (rows .entry)) ⌝ }
 {
-    let page = metadata::page::encode_meta(stamp, [Slot(slot); 63], 63, rows);
+    let w = Window {
+        slots: [Slot(slot); WINDOW],
+        count: 63,
+    };
+    let page = metadata::page::encode_meta(stamp, w, rows);
     pages::copy(out, &page);
 }

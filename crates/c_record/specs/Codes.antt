@@ -1,7 +1,7 @@
 -- What an answer becomes at the C interface: the result code, and what the words and the slot become.
 use Prim.Native.Nat.{ℕ}
 use mathlib.Core.List.{List, [], _∷_}
-use Rattle.protocol.specs.declared.Record.{Record}
+use Rattle.record.specs.declared.Record.{Record}
 use Rattle.protocol.specs.Paper.{Paper, refusal, answer}
 use Rattle.c_record.specs.Words.{wordsOf}
 

@@ -6,9 +6,14 @@ use mathlib.Core.Option.{Option, some, none}
 use lib.ListN.{length, getD, drop}
 use lib.Dec.{eqb, leb}
 use Rattle.layout.specs.declared.Slot.{Slot}
-use Rattle.protocol.specs.declared.Record.{Record}
-use Rattle.protocol.specs.declared.Phase.{Phase}
-use Rattle.protocol.specs.declared.Phase.the-variants.{Formatting, Recovering, Ready}
+use Rattle.layout.specs.Places.{labelOf}
+use Rattle.record.specs.declared.Record.{Record}
+use Rattle.record.specs.declared.Phase.{Phase}
+use Rattle.record.specs.declared.Phase.the-variants.{Formatting, Recovering, Ready}
+
+-- the number of the record's words
+abbrev pub recordWords : ℕ
+recordWords = 71
 
 -- a phase's word: 0 formatting, 1 mending, 2 ready
 abbrev pub phaseWord : Phase → ℕ
@@ -24,7 +29,7 @@ stepsWord Ready = 0
 
 -- the word of unsettled
 abbrev pub flagWord : Bool → ℕ
-flagWord unsettled = cond unsettled 1 0
+flagWord unconfirmed = cond unconfirmed 1 0
 
 -- slots as numbers, and numbers as slots
 unfoldable pub numbersOf : List Slot → List ℕ
@@ -36,8 +41,8 @@ slotsOf l = map (λ n. record { 0 = n }) l
 -- packed
 unfoldable pub wordsOf : Record → List ℕ
 wordsOf r =
-    r .slots
-    ∷ r .blocks
+    r .label .slots
+    ∷ r .label .blocks
     ∷ r .hand .0
     ∷ r .newest
     ∷ phaseWord (r .phase)
@@ -53,8 +58,7 @@ phaseIn phase steps = cond (eqb phase 0) (Formatting steps) (cond (eqb phase 1) 
 -- unpacked, whatever the words are
 unfoldable pub unpacked : List ℕ → Record
 unpacked words = record {
-  slots = getD words 0 0;
-  blocks = getD words 1 0;
+  label = labelOf (getD words 0 0) (getD words 1 0);
   hand = record { 0 = getD words 2 0 };
   newest = getD words 3 0;
   phase = phaseIn (getD words 4 0) (getD words 5 0);
@@ -69,7 +73,7 @@ isPhase phase steps = eqb phase 0 || (leb phase 2 && eqb steps 0)
 
 -- words that are a record: 71 of them, a phase, unsettled 0 or 1
 unfoldable pub isRecord : List ℕ → Bool
-isRecord words = eqb (length words) 71 && (isPhase (getD words 4 0) (getD words 5 0) && leb (getD words 6 0) 1)
+isRecord words = eqb (length words) recordWords && (isPhase (getD words 4 0) (getD words 5 0) && leb (getD words 6 0) 1)
 
 -- unpacked, if they are
 abbrev pub recordIn : List ℕ → Option Record

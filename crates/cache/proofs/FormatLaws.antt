@@ -16,10 +16,10 @@ use Rattle.layout.specs.declared.Label.{Label}
 use Rattle.layout.specs.Places.{labelOf, withinLimits, metaPages, metaPlace, ssdLength, hddLength, tableLength}
 use Rattle.layout.specs.LabelPage.{encodeLabel}
 use Rattle.layout.specs.MetaPage.{encodeMeta, rowsOn}
-use Rattle.protocol.specs.declared.Record.{Record}
-use Rattle.protocol.specs.declared.Phase.the-variants.{Formatting}
+use Rattle.record.specs.declared.Record.{Record}
+use Rattle.record.specs.declared.Phase.the-variants.{Formatting}
 use Rattle.protocol.specs.Paper.{Paper, refusal, done}
-use Rattle.protocol.specs.Rows.{labelIn, windowIn, recordOf}
+use Rattle.record.specs.Record.{labelIn, windowIn, recordOf}
 use Rattle.protocol.specs.Plan.{format, plan}
 use Rattle.protocol.specs.Perform.{formatStore, perform}
 use Rattle.protocol.specs.Judge.{lengthsTest, badLimits, wrongLength, lengthTest, test, firstOf, judged}
@@ -43,14 +43,14 @@ cleared-all table i n h k e f =
     sym (take-all i table h) ∙ f ∙ ap (λ (m : ℕ). replicate m 0) q
 
 -- the label page is the store of the last step
-pub label-stored : (ssd table after page : List ℕ) (state : Record) (l : Label) (pages d : ℕ) → d ≢ 0 → l ≡ labelIn state
-    → pages ≡ metaPages l → pages ≤ d - 1 → page ≡ encodeLabel l → after ≡ putPage ssd 0 page
+pub label-stored : (ssd table after page : List ℕ) (state : Record) (pages d : ℕ) → d ≢ 0
+    → pages ≡ metaPages (labelIn state) → pages ≤ d - 1 → page ≡ encodeLabel (labelIn state) → after ≡ putPage ssd 0 page
     → after ≡ putPage ssd (formatStore (labelIn state) table (windowIn state) d .place)
     (formatStore (labelIn state) table (windowIn state) d .bytes)
-label-stored ssd table after page state l pages zero n e f h g k = absurd (n refl)
-label-stored ssd table after page state l pages (suc p) n e f h g k =
-    let m : metaPages (labelIn state) ≤ p = rw (← e, ← f) (omega arith) in
-    rw (k, g, e, formatStore, le-leb _ _ m)
+label-stored ssd table after page state pages zero n f h g k = absurd (n refl)
+label-stored ssd table after page state pages (suc p) n f h g k =
+    let m : metaPages (labelIn state) ≤ p = rw (← f) (omega arith) in
+    rw (k, g, formatStore, le-leb _ _ m)
 
 -- a metadata page is the store of a step before it
 pub meta-step-stored : (ssd table after : List ℕ) (state : Record) (d : ℕ) → d ≢ 0 → d - 1 < metaPages (labelIn state)

@@ -2,14 +2,12 @@
 use layout::Block;
 use protocol::Answer;
 use protocol::Outcome;
-use protocol::Record;
+use record::LARGEST_STAMP;
+use record::Record;
 use serving::answers;
 use serving::judge;
 use serving::moves;
 ghost use mathlib.Core.Path.{_≡_};
-ghost use mathlib.Core.Bool.{Bool, true, false};
-ghost use Prim.Native.Nat.{ℕ, _+_, _*_, _≤_, _<_};
-ghost use lib.ListN.{length};
 ghost use Rattle.protocol.specs.Paper.{paperOf};
 ghost use Rattle.protocol.specs.Calls.{flushOf};
 
@@ -24,7 +22,7 @@ pub fn flush(ssd: &mut [u8], hdd: &[u8], table: &[u32], state: Record) -> Outcom
     if !state.unconfirmed {
         return answers::answered(Answer::NothingToDo, state);
     }
-    if 4294967295 <= state.newest {
+    if LARGEST_STAMP <= state.newest {
         return answers::refused(13, state);
     }
     let next = moves::confirm(ssd, table, state, 0);

@@ -5,22 +5,24 @@ use layout::label_page;
 use layout::places;
 use protocol::Answer;
 use protocol::Outcome;
-use protocol::Phase;
-use protocol::Record;
+use record::Phase;
+use record::Record;
+use record::state;
+use record::window;
 use serving::answers;
 use serving::judge;
 use serving::moves;
 ghost use mathlib.Core.Path.{_≡_};
-ghost use mathlib.Core.Bool.{Bool, true, false};
-ghost use Prim.Native.Nat.{ℕ, _+_, _*_, _≤_, _<_};
+ghost use mathlib.Core.Bool.{true, false};
+ghost use Prim.Native.Nat.{_+_, _≤_, _<_};
 ghost use lib.ListN.{length};
 ghost use Rattle.protocol.specs.Paper.{paperOf};
 ghost use mathlib.Core.List.{[]};
 ghost use lib.ListN.{replicate};
 ghost use Rattle.pages.specs.Pages.{putPage};
 ghost use Rattle.layout.specs.Places.{withinLimits, metaPages};
-ghost use Rattle.protocol.specs.declared.Phase.the-variants.{Formatting};
-ghost use Rattle.protocol.specs.Rows.{labelIn, windowIn, recordOf, withPhase};
+ghost use Rattle.record.specs.declared.Phase.the-variants.{Formatting};
+ghost use Rattle.record.specs.Record.{labelIn, windowIn, recordOf};
 ghost use Rattle.protocol.specs.Perform.{formatStore, formatState};
 ghost use Rattle.protocol.specs.Calls.{formatOf};
 ghost use Rattle.serving.specs.Moves.{Fits};
@@ -55,16 +57,7 @@ pub fn begin(l: Label, ssd: usize, hdd: usize, table: &mut [u32]) -> u32
 pub fn begun(l: Label) -> Record
     ensures { λ r. ⌜ r ≡ recordOf l (record { 0 = 0 }) 0 (Formatting 0) false [] ⌝ }
 {
-    Record {
-        slots: l.slots,
-        blocks: l.blocks,
-        hand: Slot(0),
-        newest: 0,
-        phase: Phase::Formatting(0),
-        unconfirmed: false,
-        window: [Slot(0); 63],
-        count: 0,
-    }
+    state::fresh(l, 0, Phase::Formatting(0), window::empty())
 }
 
 pub fn format(
@@ -96,7 +89,7 @@ fn format_store(ssd: &mut [u8], table: &[u32], state: Record, done: u32)
         pages::clear_page(ssd, 0);
         return;
     }
-    let l = places::label(state.slots, state.blocks);
+    let l = state.label;
     let p = done - 1;
     if places::meta_pages(l) <= p {
         let page = label_page::encode_label(l);
@@ -106,39 +99,17 @@ fn format_store(ssd: &mut [u8], table: &[u32], state: Record, done: u32)
     moves::store_meta(ssd, table, state, 0, p);
 }
 
-// The record in another phase.
-fn with_phase(state: Record, phase: Phase) -> Record
-    ensures { λ r. ⌜ r ≡ withPhase state phase ⌝ }
-{
-    let hand = state.hand;
-    let window = state.window;
-    Record {
-        slots: state.slots,
-        blocks: state.blocks,
-        hand,
-        newest: state.newest,
-        phase,
-        unconfirmed: state.unconfirmed,
-        window,
-        count: state.count,
-    }
-}
-
 // The record after a format's step, after so many of them before it.
 fn format_state(state: Record, done: u32) -> Record
     requires { ⌜ done ≤ metaPages (labelIn state) + 1 ⌝ }
     ensures { λ r. ⌜ r ≡ formatState (labelIn state) state done ⌝ }
 {
-    let l = places::label(state.slots, state.blocks);
+    let l = state.label;
     if places::meta_pages(l) + 1 <= done {
-        let first = Slot(0);
-        let mut next = with_phase(state, Phase::Ready);
-        next.hand = first;
-        next.newest = 0;
-        next.unconfirmed = false;
-        return next;
+        let next = state::with_stamp(state, 0);
+        return state::with_phase(state::with_hand(next, Slot(0)), Phase::Ready);
     }
-    with_phase(state, Phase::Formatting(done + 1))
+    state::with_phase(state, Phase::Formatting(done + 1))
 }
 
 // A step of a format, after so many of them.

@@ -5,28 +5,27 @@ use layout::places;
 use protocol::Answer;
 use protocol::Condition;
 use protocol::Outcome;
-use protocol::Record;
+use record::Record;
 use serving::answers;
 use serving::judge;
 use serving::moves;
 ghost use mathlib.Core.Path.{_≡_};
-ghost use mathlib.Core.Bool.{Bool, true, false};
-ghost use Prim.Native.Nat.{ℕ, _+_, _*_, _≤_, _<_};
+ghost use Prim.Native.Nat.{_<_};
 ghost use lib.ListN.{length};
 ghost use Rattle.protocol.specs.Paper.{paperOf};
 ghost use Rattle.pages.specs.Pages.{putPage};
 ghost use Rattle.layout.specs.Places.{ssdLength, dataPlace};
-ghost use Rattle.protocol.specs.Rows.{labelIn};
+ghost use Rattle.record.specs.Record.{labelIn};
 ghost use Rattle.protocol.specs.Calls.{landOf};
 
 // Stores a slot's page.
 fn store_page(ssd: &mut [u8], state: Record, s: Slot, page: &[u8])
     requires { ⌜ length (now ssd) ≡ ssdLength (labelIn state) ⌝ }
     requires { ⌜ length (now page) ≡ 4096 ⌝ }
-    requires { ⌜ s .0 < state .slots ⌝ }
+    requires { ⌜ s .0 < state .label .slots ⌝ }
     ensures { λ _. ⌜ now (ssd .exit) ≡ putPage (now (ssd .entry)) (dataPlace (labelIn state) s) (now (page .entry)) ⌝ }
 {
-    let l = places::label(state.slots, state.blocks);
+    let l = state.label;
     pages::store(ssd, places::data_place(l, s), page);
 }
 

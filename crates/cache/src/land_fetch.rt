@@ -5,29 +5,28 @@ use layout::places;
 use protocol::Answer;
 use protocol::Condition;
 use protocol::Outcome;
-use protocol::Record;
+use record::Record;
 use serving::answers;
 use serving::judge;
 use serving::moves;
 ghost use mathlib.Core.Path.{_≡_};
-ghost use mathlib.Core.Bool.{Bool, true, false};
-ghost use Prim.Native.Nat.{ℕ, _+_, _*_, _≤_, _<_};
+ghost use Prim.Native.Nat.{_<_};
 ghost use lib.ListN.{length};
 ghost use Rattle.protocol.specs.Paper.{paperOf};
 ghost use Rattle.pages.specs.Pages.{pageAt, putPage};
 ghost use Rattle.layout.specs.Places.{ssdLength, hddLength, dataPlace, blockPlace};
-ghost use Rattle.protocol.specs.Rows.{labelIn};
+ghost use Rattle.record.specs.Record.{labelIn};
 ghost use Rattle.protocol.specs.Calls.{landFetchOf};
 
 // Copies a block's page into a slot.
 fn copy_in(ssd: &mut [u8], hdd: &[u8], state: Record, s: Slot, b: Block)
     requires { ⌜ length (now ssd) ≡ ssdLength (labelIn state) ⌝ }
     requires { ⌜ length (now hdd) ≡ hddLength (labelIn state) ⌝ }
-    requires { ⌜ s .0 < state .slots ⌝ }
-    requires { ⌜ b .0 < state .blocks ⌝ }
+    requires { ⌜ s .0 < state .label .slots ⌝ }
+    requires { ⌜ b .0 < state .label .blocks ⌝ }
     ensures { λ _. ⌜ now (ssd .exit) ≡ putPage (now (ssd .entry)) (dataPlace (labelIn state) s) (pageAt (now (hdd .entry)) (blockPlace (labelIn state) b)) ⌝ }
 {
-    let l = places::label(state.slots, state.blocks);
+    let l = state.label;
     pages::copy_page(
         ssd,
         places::data_place(l, s),

@@ -2,12 +2,9 @@
 use layout::Block;
 use layout::places;
 use protocol::Condition;
-use protocol::Record;
+use record::Record;
 use serving::judge;
 ghost use mathlib.Core.Path.{_≡_};
-ghost use mathlib.Core.Bool.{Bool, true, false};
-ghost use Prim.Native.Nat.{ℕ, _+_, _*_, _≤_, _<_};
-ghost use lib.ListN.{length};
 ghost use Rattle.pages.specs.Parts.{part};
 ghost use Rattle.protocol.specs.Calls.{View, viewOf};
 
@@ -28,7 +25,7 @@ pub fn view<'a>(
     if number != 0 {
         return &ssd[0..0];
     }
-    let l = places::label(state.slots, state.blocks);
+    let l = state.label;
     let condition = seen.condition;
     match condition {
         Condition::NotCached => pages::page_at(hdd, places::block_place(l, block)),

@@ -3,14 +3,11 @@ use layout::Block;
 use protocol::Answer;
 use protocol::Condition;
 use protocol::Outcome;
-use protocol::Record;
+use record::Record;
 use serving::answers;
 use serving::judge;
 use serving::moves;
 ghost use mathlib.Core.Path.{_≡_};
-ghost use mathlib.Core.Bool.{Bool, true, false};
-ghost use Prim.Native.Nat.{ℕ, _+_, _*_, _≤_, _<_};
-ghost use lib.ListN.{length};
 ghost use Rattle.protocol.specs.Paper.{paperOf};
 ghost use Rattle.protocol.specs.Calls.{writeBackOf};
 

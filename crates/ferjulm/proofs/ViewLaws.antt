@@ -12,10 +12,10 @@ use Rattle.pages.specs.Pages.{pageAt}
 use Rattle.pages.specs.Parts.{Part, pagePart}
 use Rattle.layout.specs.declared.Block.{Block}
 use Rattle.layout.specs.declared.Label.{Label}
-use Rattle.protocol.specs.declared.Record.{Record}
+use Rattle.record.specs.declared.Record.{Record}
 use Rattle.protocol.specs.declared.Condition.{Condition}
 use Rattle.protocol.specs.declared.Condition.the-variants.{NotCached, Clean, Dirty, Writing, Fetching}
-use Rattle.protocol.specs.Rows.{labelIn}
+use Rattle.record.specs.Record.{labelIn}
 use Rattle.protocol.specs.Condition.{conditionOf}
 use Rattle.protocol.specs.Plan.{view}
 use Rattle.protocol.specs.Judge.{Reason, firstOf, judged}
@@ -46,14 +46,14 @@ module _ (ssd hdd table : List ℕ) (state : Record) (b : Block) (before : Place
       ap (λ (m : ℕ). record { code = m; place = before }) (n ∙ sym (f .2)) ∙ ap (λ (o : Option Reason). placed o there before) (sym (f .1))
 
   -- it found none
-  pub view-passes : (j : Judged) (l : Label) (p : Place) → Found j → j .number ≡ 0 → l ≡ labelIn state → p ≡ placeFor l b (j .condition)
+  pub view-passes : (j : Judged) (p : Place) → Found j → j .number ≡ 0 → p ≡ placeFor (labelIn state) b (j .condition)
       → record { code = 0; place = p } ≡ viewPlaceOf ssd hdd table state b before
   unfolding viewPlaceOf firstOf
-  view-passes j l p e h f g =
+  view-passes j p e h g =
       let k = looked _ table b e h in
       let o = judged-on (view b) (boxOf ssd hdd table state) _ [] (view-judges ssd hdd table state b) (k .none) in
       ap (λ (t : Place). record { code = 0; place = t })
-      (g ∙ ap (λ (m : Label). placeFor m b (j .condition)) f ∙ ap (placeFor (labelIn state) b) (k .condition-is))
+      (g ∙ ap (placeFor (labelIn state) b) (k .condition-is))
       ∙ ap (λ (q : Option Reason). placed q there before) (sym o)
 
 -- by words that are no record, and by words that are one

@@ -6,12 +6,12 @@ use mathlib.Core.Option.{Option, some, none}
 use lib.ListN.{length}
 use lib.Dec.{eqb}
 use Rattle.layout.specs.Places.{labelOf, withinLimits}
-use Rattle.protocol.specs.declared.Record.{Record}
+use Rattle.record.specs.declared.Record.{Record}
 use Rattle.protocol.specs.Box.{Result}
 use Rattle.protocol.specs.Plan.{Call, format, reopen}
 use Rattle.protocol.specs.Judge.{labelTest}
 use Rattle.protocol.specs.Calls.{resultOf, boxOf}
-use Rattle.c_record.specs.Words.{unpacked, recordIn}
+use Rattle.c_record.specs.Words.{recordWords, unpacked, recordIn}
 use Rattle.c_record.specs.Codes.{codeOf, slotAfter, wordsAfter}
 
 pub record Left : Type 0 where
@@ -48,7 +48,7 @@ cCall c ssd hdd table words slot = onRecord (recordIn words) c ssd hdd table wor
 -- a call that does not judge the record handed in: any 71 words will do, and another length is refused by a number
 unfoldable pub cFresh : ℕ → Call → List ℕ → List ℕ → List ℕ → List ℕ → ℕ → Left
 cFresh n c ssd hdd table words slot =
-    cond (eqb (length words) 71)
+    cond (eqb (length words) recordWords)
     (leftBy (resultOf c (boxOf ssd hdd table (unpacked words))) words slot)
     (kept n ssd hdd table words slot)
 

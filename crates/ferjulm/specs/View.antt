@@ -5,10 +5,10 @@ use mathlib.Core.Option.{Option, some, none}
 use Rattle.layout.specs.declared.Block.{Block}
 use Rattle.layout.specs.declared.Label.{Label}
 use Rattle.layout.specs.Places.{dataPlace, blockPlace}
-use Rattle.protocol.specs.declared.Record.{Record}
+use Rattle.record.specs.declared.Record.{Record}
 use Rattle.protocol.specs.declared.Condition.{Condition}
 use Rattle.protocol.specs.declared.Condition.the-variants.{NotCached, Clean, Dirty, Writing, Fetching}
-use Rattle.protocol.specs.Rows.{labelIn}
+use Rattle.record.specs.Record.{labelIn}
 use Rattle.protocol.specs.Condition.{conditionOf}
 use Rattle.protocol.specs.Plan.{view}
 use Rattle.protocol.specs.Judge.{Reason, numberOf, judged}

@@ -1,6 +1,7 @@
 // The calls but a view: the words are judged and unpacked, the box's call is made, and what it leaves is packed.
+use c_record::RECORD_WORDS;
 use c_record::closing;
-use c_record::record;
+use c_record::words;
 use cache::format;
 use layout::Block;
 use layout::LabelRead;
@@ -26,7 +27,7 @@ pub extern "C" fn ferjulm_format(
     ensures { λ r. ⌜ record { code = r; words = now (words .exit); table = now (table .exit); ssd = now (ssd .entry); hdd = now (hdd .entry); slot = now (slot .exit) } ≡ cFormat slots blocks (now (ssd .entry)) (now (hdd .entry)) (now (table .entry)) (now (words .entry)) (now (slot .entry)) ⌝ }
 {
     let l = places::label(slots, blocks);
-    if words.len() != 71 {
+    if words.len() != RECORD_WORDS {
         if places::within_limits(l) {
             return 3;
         }
@@ -37,7 +38,7 @@ pub extern "C" fn ferjulm_format(
         return number;
     }
     let state = format::begun(l);
-    record::pack(words, state);
+    words::pack(words, state);
     0
 }
 
@@ -53,10 +54,10 @@ pub extern "C" fn ferjulm_offer(
 ) -> u32
     ensures { λ r. ⌜ record { code = r; words = now (words .exit); table = now (table .exit); ssd = now (ssd .exit); hdd = now (hdd .exit); slot = now (slot .exit) } ≡ cCall (offer (record { 0 = block })) (now (ssd .entry)) (now (hdd .entry)) (now (table .entry)) (now (words .entry)) (now (slot .entry)) ⌝ }
 {
-    if !record::is_record(words) {
+    if !words::is_record(words) {
         return 3;
     }
-    let state = record::unpack(words);
+    let state = words::unpack(words);
     let outcome = cache::offer::offer(ssd, hdd, table, state, Block(block));
     closing::closed(words, slot, outcome)
 }
@@ -74,10 +75,10 @@ pub extern "C" fn ferjulm_land(
 ) -> u32
     ensures { λ r. ⌜ record { code = r; words = now (words .exit); table = now (table .exit); ssd = now (ssd .exit); hdd = now (hdd .entry); slot = now (slot .exit) } ≡ cCall (land (record { 0 = block }) (now (page .entry))) (now (ssd .entry)) (now (hdd .entry)) (now (table .entry)) (now (words .entry)) (now (slot .entry)) ⌝ }
 {
-    if !record::is_record(words) {
+    if !words::is_record(words) {
         return 3;
     }
-    let state = record::unpack(words);
+    let state = words::unpack(words);
     let outcome = cache::land::land(ssd, hdd, table, state, Block(block), page);
     closing::closed(words, slot, outcome)
 }
@@ -94,10 +95,10 @@ pub extern "C" fn ferjulm_fetch(
 ) -> u32
     ensures { λ r. ⌜ record { code = r; words = now (words .exit); table = now (table .exit); ssd = now (ssd .exit); hdd = now (hdd .exit); slot = now (slot .exit) } ≡ cCall (fetch (record { 0 = block })) (now (ssd .entry)) (now (hdd .entry)) (now (table .entry)) (now (words .entry)) (now (slot .entry)) ⌝ }
 {
-    if !record::is_record(words) {
+    if !words::is_record(words) {
         return 3;
     }
-    let state = record::unpack(words);
+    let state = words::unpack(words);
     let outcome = cache::fetch::fetch(ssd, hdd, table, state, Block(block));
     closing::closed(words, slot, outcome)
 }
@@ -114,10 +115,10 @@ pub extern "C" fn ferjulm_land_fetch(
 ) -> u32
     ensures { λ r. ⌜ record { code = r; words = now (words .exit); table = now (table .exit); ssd = now (ssd .exit); hdd = now (hdd .entry); slot = now (slot .exit) } ≡ cCall (landFetch (record { 0 = block })) (now (ssd .entry)) (now (hdd .entry)) (now (table .entry)) (now (words .entry)) (now (slot .entry)) ⌝ }
 {
-    if !record::is_record(words) {
+    if !words::is_record(words) {
         return 3;
     }
-    let state = record::unpack(words);
+    let state = words::unpack(words);
     let outcome = cache::land_fetch::land_fetch(ssd, hdd, table, state, Block(block));
     closing::closed(words, slot, outcome)
 }
@@ -134,10 +135,10 @@ pub extern "C" fn ferjulm_look_up(
 ) -> u32
     ensures { λ r. ⌜ record { code = r; words = now (words .exit); table = now (table .exit); ssd = now (ssd .entry); hdd = now (hdd .entry); slot = now (slot .exit) } ≡ cCall (lookUp (record { 0 = block })) (now (ssd .entry)) (now (hdd .entry)) (now (table .entry)) (now (words .entry)) (now (slot .entry)) ⌝ }
 {
-    if !record::is_record(words) {
+    if !words::is_record(words) {
         return 3;
     }
-    let state = record::unpack(words);
+    let state = words::unpack(words);
     let outcome = cache::look_up::look_up(ssd, hdd, table, state, Block(block));
     closing::closed(words, slot, outcome)
 }
@@ -154,10 +155,10 @@ pub extern "C" fn ferjulm_write_back(
 ) -> u32
     ensures { λ r. ⌜ record { code = r; words = now (words .exit); table = now (table .exit); ssd = now (ssd .entry); hdd = now (hdd .exit); slot = now (slot .exit) } ≡ cCall (writeBack (record { 0 = block })) (now (ssd .entry)) (now (hdd .entry)) (now (table .entry)) (now (words .entry)) (now (slot .entry)) ⌝ }
 {
-    if !record::is_record(words) {
+    if !words::is_record(words) {
         return 3;
     }
-    let state = record::unpack(words);
+    let state = words::unpack(words);
     let outcome = cache::write_back::write_back(ssd, hdd, table, state, Block(block));
     closing::closed(words, slot, outcome)
 }
@@ -173,10 +174,10 @@ pub extern "C" fn ferjulm_flush(
 ) -> u32
     ensures { λ r. ⌜ record { code = r; words = now (words .exit); table = now (table .entry); ssd = now (ssd .exit); hdd = now (hdd .entry); slot = now (slot .exit) } ≡ cCall flush (now (ssd .entry)) (now (hdd .entry)) (now (table .entry)) (now (words .entry)) (now (slot .entry)) ⌝ }
 {
-    if !record::is_record(words) {
+    if !words::is_record(words) {
         return 3;
     }
-    let state = record::unpack(words);
+    let state = words::unpack(words);
     let outcome = cache::flush::flush(ssd, hdd, table, state);
     closing::closed(words, slot, outcome)
 }
@@ -192,10 +193,10 @@ pub extern "C" fn ferjulm_step(
 ) -> u32
     ensures { λ r. ⌜ record { code = r; words = now (words .exit); table = now (table .entry); ssd = now (ssd .exit); hdd = now (hdd .entry); slot = now (slot .exit) } ≡ cCall step (now (ssd .entry)) (now (hdd .entry)) (now (table .entry)) (now (words .entry)) (now (slot .entry)) ⌝ }
 {
-    if !record::is_record(words) {
+    if !words::is_record(words) {
         return 3;
     }
-    let state = record::unpack(words);
+    let state = words::unpack(words);
     let outcome = recovery::step::step(ssd, hdd, table, state);
     closing::closed(words, slot, outcome)
 }
@@ -221,10 +222,10 @@ pub extern "C" fn ferjulm_reopen(
 ) -> u32
     ensures { λ r. ⌜ record { code = r; words = now (words .exit); table = now (table .exit); ssd = now (ssd .entry); hdd = now (hdd .entry); slot = now (slot .exit) } ≡ cReopen (now (ssd .entry)) (now (hdd .entry)) (now (table .entry)) (now (words .entry)) (now (slot .entry)) ⌝ }
 {
-    if words.len() != 71 {
+    if words.len() != RECORD_WORDS {
         return unheld(ssd);
     }
-    let state = record::unpack(words);
+    let state = words::unpack(words);
     let outcome = reopen::reopen(ssd, hdd, table, state);
     closing::closed(words, slot, outcome)
 }

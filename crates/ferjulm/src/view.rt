@@ -1,6 +1,6 @@
 // A view: where a block's page lies.
 use crate::Place;
-use c_record::record;
+use c_record::words;
 use layout::Block;
 use layout::Label;
 use layout::Slot;
@@ -57,16 +57,16 @@ pub extern "C" fn ferjulm_view(
 ) -> u32
     ensures { λ r. ⌜ record { code = r; place = record { image = now (image .exit); offset = now (offset .exit) } } ≡ cView (now (ssd .entry)) (now (hdd .entry)) (now (table .entry)) (now (words .entry)) (record { 0 = block }) (record { image = now (image .entry); offset = now (offset .entry) }) ⌝ }
 {
-    if !record::is_record(words) {
+    if !words::is_record(words) {
         return 3;
     }
-    let state = record::unpack(words);
+    let state = words::unpack(words);
     let judged = judge::serves(ssd.len(), hdd.len(), 4096, table, state, Block(block));
     let number = judged.number;
     if number != 0 {
         return number;
     }
-    let l = places::label(state.slots, state.blocks);
+    let l = state.label;
     let condition = judged.condition;
     let place = place_for(l, Block(block), condition);
     *image = place.image;

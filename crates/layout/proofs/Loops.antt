@@ -2,9 +2,9 @@
 use Prim.Native.Nat.{ℕ, _+_, _<_}
 use mathlib.Core.Path.{_≡_, sym, _∙_}
 use mathlib.Core.Bool.{Bool, true, false, _&&_}
-use mathlib.Core.List.{List, _∷_}
+use mathlib.Core.List.{List, _∷_, map}
 use native.Mathlib.Numerals.{add-one}
-use lib.ListN.{length, getD, drop}
+use lib.ListN.{length, getD, drop, length-map}
 use lib.Seq.{drop-cons}
 
 pub left : {A : Type 0} (l : List A) (i : ℕ) (d : A) → i < length l → drop i l ≡ getD l i d ∷ drop (i + 1) l
@@ -16,3 +16,7 @@ go-on t rest inv e h = sym (rw h at e) ∙ inv
 
 pub stop : {whole now : Bool} (t rest : Bool) → now ≡ whole → now ≡ (t && rest) → t ≡ false → false ≡ whole
 stop t rest inv e h = sym (rw h at e) ∙ inv
+
+-- what is known of an array of structs in a struct stands at its mapped list
+pub length-mapped : {A B : Type 0} (f : A → B) (l : List A) (n : ℕ) → length (map f l) ≡ n → length l ≡ n
+length-mapped f l n e = sym (length-map l f) ∙ e

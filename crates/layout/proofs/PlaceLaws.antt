@@ -1,11 +1,14 @@
--- The limits as a test and as propositions.
-use mathlib.Core.Path.{_≡_}
+-- The limits as a test and as propositions; when two labels are one.
+use Prim.Native.Nat.{ℕ, _<_}
+use mathlib.Core.Path.{_≡_, ap, _∙_}
 use mathlib.Core.Logic.{_↔_}
-use mathlib.Core.Bool.{true}
-use lib.Dec.{leb}
-use borrow.Author.Tests.{eq-eqb, ne-eqb, le-leb, lt-leb, le-ltb, lt-ltb, leb-true}
+use mathlib.Core.Bool.{Bool, true, _&&_}
+use native.Mathlib.Omega.{arith}
+use lib.Dec.{eqb, leb}
+use borrow.Author.Tests.{eq-eqb, ne-eqb, le-leb, lt-leb, le-ltb, lt-ltb, leb-true, eqb-true}
+use Rattle.layout.specs.declared.Slot.{Slot}
 use Rattle.layout.specs.declared.Label.{Label}
-use Rattle.layout.specs.Places.{Limits, withinLimits}
+use Rattle.layout.specs.Places.{labelOf, Limits, withinLimits, metaPages, metaOf}
 use Rattle.layout.proofs.Booleans.{and-parts}
 
 -- a test from its fact
@@ -27,3 +30,19 @@ within l = (
       },
   λ h. rw (le-leb 1 (l .slots) (h .some-slot), le-leb (l .slots) 57600 (h .slots-most), le-leb 1 (l .blocks) (h .some-block), le-leb (l .blocks) 16777216 (h .blocks-most)),
 )
+
+-- a slot's metadata page is one of the box
+pub meta-of-low : (l : Label) (s : Slot) → s .0 < l .slots → metaOf s < metaPages l
+unfolding metaPages
+meta-of-low l s h = omega arith
+
+-- labels with the same numbers are one
+unfoldable pub sameLabel : Label → Label → Bool
+sameLabel k l = eqb (k .slots) (l .slots) && eqb (k .blocks) (l .blocks)
+
+pub same-label : (k l : Label) → sameLabel k l ≡ true → k ≡ l
+unfolding sameLabel
+same-label k l h =
+    let p = and-parts (eqb (k .slots) (l .slots)) (eqb (k .blocks) (l .blocks)) h in
+    ap (λ (n : ℕ). labelOf n (k .blocks)) (eqb-true (k .slots) (l .slots) (p .0))
+    ∙ ap (labelOf (l .slots)) (eqb-true (k .blocks) (l .blocks) (p .1))

@@ -19,8 +19,7 @@ use Rattle.layout.specs.declared.Label.{Label}
 use Rattle.layout.specs.declared.Entry.{Entry}
 use Rattle.layout.specs.Places.{slotOn}
 use Rattle.layout.specs.LabelPage.{allZero}
-use Rattle.layout.specs.MetaPage.{slotsBytes, entryBytes, rowsBytes, encodeMeta, stampOf, countOf, slotAt, firsts, windowOf}
-use Rattle.layout.specs.MetaPage.{entryPart, decodeEntry, entryAt, rowsFrom}
+use Rattle.layout.specs.MetaPage.{slotsBytes, entryBytes, rowsBytes, encodeMeta, stampOf, countOf, slotAt, firsts, windowOf, entryPart, decodeEntry, entryAt, rowsFrom}
 use Rattle.layout.specs.PageRule.{countTest, zeroTest, ZeroRule, distinct, inRange, windowTest, LegalFlags, pairTest, PairRule, entryTest, EntryRule, entriesTest, pageTest, PageRule}
 use Rattle.layout.proofs.MetaLaws.{length-slotsBytes, rowsBytes-most, Fit, encode-fields, encode-stamp, encode-count, encode-window, encode-part, window-part, entries-part, decode-bytes, zeros-part}
 use Rattle.layout.proofs.Booleans.{and-of, and-parts, if-of, or-of}

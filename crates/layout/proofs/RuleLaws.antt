@@ -3,10 +3,10 @@ use Prim.Native.Nat.{ℕ, zero, suc, _+_, _-_, _*_, _%_, _≤_, _<_}
 use mathlib.Core.Path.{_≡_, refl, sym, ap, _∙_}
 use mathlib.Core.Logic.{_≢_, _⊎_, inl, inr}
 use mathlib.Core.Bool.{Bool, true, false, not, _&&_, _||_}
-use mathlib.Core.List.{List, _∷_, []}
+use mathlib.Core.List.{List, _∷_}
 use native.Mathlib.Omega.{arith}
 use native.Mathlib.Nat.{add-zero}
-use lib.ListN.{length, getD, take, drop, length-take}
+use lib.ListN.{getD, take, drop, length-take}
 use lib.Seq.{getD-take, getD-drop, drop-drop}
 use lib.Dec.{eqb, ltb}
 use borrow.Author.Tests.{ltb-true, ltb-false, leb-true, eqb-true, eqb-false, not-true, lt-ltb, le-ltb, le-leb, eq-eqb, ne-eqb}
@@ -14,9 +14,7 @@ use Rattle.layout.specs.declared.Slot.{Slot}
 use Rattle.layout.specs.declared.Label.{Label}
 use Rattle.layout.specs.MetaPage.{countOf, slotAt, firsts, windowOf, entryPart, decodeEntry}
 use Rattle.layout.specs.Places.{slotOn}
-use Rattle.layout.specs.PageRule.{countTest, CountRule, zeroTest, ZeroRule, listed, distinct, inRange, windowTest, WindowRule}
-use Rattle.layout.specs.PageRule.{legalFlags, LegalFlags, pairTest, PairRule, entryTest, EntryRule, entriesFrom, entriesTest, EntriesRule}
-use Rattle.layout.specs.PageRule.{RowTest, passes, pageTest, PageRule}
+use Rattle.layout.specs.PageRule.{countTest, CountRule, zeroTest, ZeroRule, listed, distinct, inRange, windowTest, WindowRule, legalFlags, LegalFlags, pairTest, PairRule, entryTest, EntryRule, entriesFrom, entriesTest, EntriesRule, RowTest, passes, pageTest, PageRule}
 use Rattle.layout.proofs.ZeroLaws.{zeros-get, zeros-of}
 use Rattle.layout.proofs.Booleans.{clash, and-of, and-parts, or-cases, or-of, or-use, if-of, if-use, not-of}
 

@@ -1,4 +1,6 @@
+pub mod Numbers
 pub mod Places
+pub mod Window
 pub mod LabelPage
 pub mod LabelScan
 pub mod MetaPage

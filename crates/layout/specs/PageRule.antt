@@ -9,14 +9,14 @@ use lib.ListN.{getD, take, drop}
 use lib.Dec.{eqb, ltb, leb}
 use Rattle.layout.specs.declared.Slot.{Slot}
 use Rattle.layout.specs.declared.Label.{Label}
-use Rattle.layout.specs.declared.Entry.{Entry}
 use Rattle.layout.specs.Places.{slotOn}
 use Rattle.layout.specs.LabelPage.{allZero}
+use Rattle.layout.specs.Window.{windowMost}
 use Rattle.layout.specs.MetaPage.{stampOf, countOf, slotAt, windowOf, entryPart, decodeEntry}
 
 -- 4..5: "window length, 0 to 63"; "Stamp 0 goes with an empty window"
 unfoldable pub countTest : List ℕ → Bool
-countTest page = leb (countOf page) 63 && (not (eqb (stampOf page) 0) || eqb (countOf page) 0)
+countTest page = leb (countOf page) windowMost && (not (eqb (stampOf page) 0) || eqb (countOf page) 0)
 
 pub record CountRule (page : List ℕ) : Type 0 where
   pub most : countOf page ≤ 63

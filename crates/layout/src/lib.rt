@@ -1,6 +1,7 @@
 // What is stored: slot and block numbers, the label, and where each page of the two images lies; the label page, written
 // and read; text and decimal numbers; what a metadata page is (crate metadata has its code).
 pub mod label_page;
+pub mod numbers;
 pub mod places;
 pub mod text;
 pub mod zeros;
@@ -15,6 +16,15 @@ pub struct Block(pub u32);
 pub struct Label {
     pub slots: u32,
     pub blocks: u32,
+}
+
+// The most slots of a window.
+pub const WINDOW: usize = 63;
+
+// A window, as a metadata page and the record have it: slot numbers, and how many of them there are.
+pub struct Window {
+    pub slots: [Slot; WINDOW],
+    pub count: u32,
 }
 
 // An entry of a metadata page: a block, and the stored flags 1 valid, 2 dirty, 4 writing.

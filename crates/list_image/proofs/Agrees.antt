@@ -1,26 +1,25 @@
 -- The listing of an SSD image and a reopening of it.
-use Prim.Native.Nat.{ℕ, _+_, _*_, _%_, _≤_, _<_}
+use Prim.Native.Nat.{ℕ, _+_, _*_, _%_, _<_}
 use mathlib.Core.Path.{_≡_, refl, sym, ap, _∙_}
-use mathlib.Core.Bool.{Bool, true, false, _&&_}
+use mathlib.Core.Bool.{Bool, true, false}
 use mathlib.Core.List.{List, [], _∷_, _++_}
 use native.Mathlib.Omega.{arith}
 use native.Mathlib.Decide.{decLt}
 use lib.ListN.{length, getD, length-append}
-use lib.Dec.{eqb, leb}
+use lib.Dec.{eqb}
 use borrow.Author.Tests.{eq-eqb, eqb-true, le-leb}
 use Rattle.layout.specs.declared.Slot.{Slot}
 use Rattle.layout.specs.declared.Entry.{Entry}
 use Rattle.layout.specs.declared.Label.{Label}
 use Rattle.layout.specs.declared.LabelRead.{LabelRead}
 use Rattle.layout.specs.declared.LabelRead.the-variants.{Legal, Illegal}
-use Rattle.layout.specs.Places.{ssdLength, hddLength, tableLength}
+use Rattle.layout.specs.Places.{ssdLength}
 use Rattle.layout.specs.LabelPage.{decimal}
-use Rattle.layout.specs.PageRule.{listed}
 use Rattle.layout.proofs.Booleans.{Told, told, told-true, told-false, clash}
 use Rattle.layout.proofs.Decimal.{decimal-one, decimal-long}
-use Rattle.protocol.specs.declared.Record.{Record}
-use Rattle.protocol.specs.Paper.{Paper, refusal, refused}
-use Rattle.protocol.specs.Rows.{rowBlock, rowFlags, valid, writing}
+use Rattle.record.specs.declared.Record.{Record}
+use Rattle.protocol.specs.Paper.{refusal, refused}
+use Rattle.protocol.specs.Rows.{rowBlock, rowFlags, valid}
 use Rattle.protocol.specs.Recovery.{metasOf, entryIn, newestOf, pagesTest, recovered, recover}
 use Rattle.protocol.specs.Box.{Result}
 use Rattle.protocol.specs.Judge.{lengthsTest}

@@ -5,7 +5,7 @@ use mathlib.Core.Bool.{true, false}
 use mathlib.Core.List.{List, _++_}
 use native.Mathlib.Omega.{arith}
 use native.Mathlib.Numerals.{add-one}
-use lib.ListN.{length, take}
+use lib.ListN.{length}
 use lib.Dec.{eqb, leb}
 use Rattle.layout.specs.declared.Slot.{Slot}
 use Rattle.layout.specs.declared.Label.{Label}
@@ -13,9 +13,10 @@ use Rattle.layout.specs.declared.LabelRead.{LabelRead}
 use Rattle.layout.specs.declared.LabelRead.the-variants.{Legal, Illegal}
 use Rattle.layout.specs.Places.{ssdLength}
 use Rattle.protocol.specs.Recovery.{metasOf, entryIn, Newest, newestOf, pagesTest}
-use Rattle.protocol.proofs.Windows.{take-array}
-use Rattle.stored.specs.declared.Pending.{Pending}
-use Rattle.stored.specs.Stored.{labelIf, pendingOf}
+use Rattle.record.proofs.WindowLaws.{take-array}
+use Rattle.layout.specs.declared.Window.{Window}
+use Rattle.stored.specs.Stored.{labelIf}
+use Rattle.layout.specs.Window.{slotsIn, windowFrom}
 use Rattle.list_image.specs.Listing.{headText, lineOf, linesOf, imageText, refusalText, textIf, judgedText, listingOf}
 
 -- a slot's line after those of the slots before it
@@ -25,12 +26,12 @@ unfolding linesOf
 lines-more w pages n = rw add-one
 
 -- the newest page as it was found
-pub image-is : (l : Label) (pages : List (List ℕ)) (n : Newest) (stamp : ℕ) (left : Pending) → n ≡ newestOf pages
-    → stamp ≡ newestOf pages .stamp → left ≡ pendingOf (n .window)
-    → headText l stamp (left .count) ++ linesOf (take (left .count) (left .window)) pages (l .slots) ≡ imageText l pages (newestOf pages)
+pub image-is : (l : Label) (pages : List (List ℕ)) (n : Newest) (stamp : ℕ) (left : Window) → n ≡ newestOf pages
+    → stamp ≡ newestOf pages .stamp → left ≡ windowFrom (n .window)
+    → headText l stamp (left .count) ++ linesOf (slotsIn left) pages (l .slots) ≡ imageText l pages (newestOf pages)
 image-is l pages n stamp left N S L =
-    let t : take (left .count) (left .window) ≡ n .window =
-    ap (λ (v : Pending). take (v .count) (v .window)) L ∙ take-array (n .window) in
+    let t : slotsIn left ≡ n .window =
+    ap slotsIn L ∙ take-array (n .window) in
     rw (t, L, S, N)
 
 -- at most 15 data pages

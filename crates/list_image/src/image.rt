@@ -4,39 +4,33 @@ use crate::lines;
 use layout::Label;
 use layout::LabelRead;
 use layout::Slot;
+use layout::Window;
 use layout::places;
 use stored::image;
 use stored::rules;
 ghost use mathlib.Core.Path.{_≡_};
-ghost use mathlib.Core.Bool.{Bool, true, false};
-ghost use mathlib.Core.List.{List};
-ghost use Prim.Native.Nat.{ℕ, _+_, _*_, _≤_, _<_};
-ghost use lib.ListN.{length, take};
+ghost use mathlib.Core.Bool.{true};
+ghost use Prim.Native.Nat.{_+_, _*_, _≤_, _<_};
+ghost use lib.ListN.{length};
+ghost use Rattle.layout.specs.Window.{windowMost, slotsIn};
 ghost use Rattle.layout.specs.Places.{Limits, ssdLength};
 ghost use Rattle.protocol.specs.Recovery.{metasOf, newestOf, pagesTest};
 ghost use Rattle.list_image.specs.Written.{Written, textOf};
 ghost use Rattle.list_image.specs.Listing.{linesOf, imageText, listingOf};
 
 // A line for each valid entry.
-fn put_lines(
-    page: &mut [u8],
-    at: usize,
-    ssd: &[u8],
-    l: Label,
-    window: [Slot; 63],
-    count: u32,
-) -> usize
+fn put_lines(page: &mut [u8], at: usize, ssd: &[u8], l: Label, w: Window) -> usize
     requires { ⌜ at + 63 * l .slots ≤ length (now page) ⌝ }
     requires { ⌜ length (now ssd) ≡ ssdLength l ⌝ }
-    requires { ⌜ count ≤ 63 ⌝ }
-    ensures { λ r. ⌜ Written (now (page .entry)) (now (page .exit)) at r (63 * l .slots) (linesOf (take count window) (metasOf l (now (ssd .entry))) (l .slots)) ⌝ }
+    requires { ⌜ w .count ≤ windowMost ⌝ }
+    ensures { λ r. ⌜ Written (now (page .entry)) (now (page .exit)) at r (63 * l .slots) (linesOf (slotsIn w) (metasOf l (now (ssd .entry))) (l .slots)) ⌝ }
 {
     let slots = l.slots;
     let mut end = at;
     let mut s: u32 = 0;
     while s < slots {
         let entry = image::entry_of(ssd, l, Slot(s));
-        end = lines::put_line(page, end, Slot(s), entry, window, count);
+        end = lines::put_line(page, end, Slot(s), entry, w);
         s += 1;
     }
     end
@@ -52,10 +46,8 @@ fn put_image(page: &mut [u8], ssd: &[u8], l: Label) -> usize
 {
     let found = image::newest(ssd, l);
     let pending = image::pending(ssd, l, found.at);
-    let window = pending.window;
-    let count = pending.count;
-    let at = lines::put_head(page, l, found.stamp, count);
-    put_lines(page, at, ssd, l, window, count)
+    let at = lines::put_head(page, l, found.stamp, pending.count);
+    put_lines(page, at, ssd, l, pending)
 }
 
 // The listing of an image, or its refusal: 2, then 4, then 5.

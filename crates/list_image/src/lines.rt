@@ -2,13 +2,14 @@
 use layout::Entry;
 use layout::Label;
 use layout::Slot;
+use layout::Window;
 use layout::text;
-use table::record;
+use record::window;
 ghost use mathlib.Core.Path.{_≡_};
-ghost use mathlib.Core.Bool.{Bool, true, false};
-ghost use mathlib.Core.List.{List};
-ghost use Prim.Native.Nat.{ℕ, _+_, _*_, _≤_, _<_};
-ghost use lib.ListN.{length, take};
+ghost use mathlib.Core.Bool.{true, false};
+ghost use Prim.Native.Nat.{_+_, _≤_};
+ghost use lib.ListN.{length};
+ghost use Rattle.layout.specs.Window.{windowMost, slotsIn};
 ghost use Rattle.list_image.specs.Written.{Written};
 ghost use Rattle.list_image.specs.Listing.{field, fateText, headText, dropped, entryText, lineOf, refusalText};
 
@@ -47,33 +48,26 @@ fn put_entry(page: &mut [u8], at: usize, s: Slot, entry: Entry, fate: bool) -> u
 }
 
 // Whether a valid entry with these flags is dropped.
-fn is_dropped(flags: u32, s: Slot, window: [Slot; 63], count: u32) -> bool
-    requires { ⌜ count ≤ 63 ⌝ }
-    ensures { λ r. ⌜ r ≡ dropped (take count window) s flags ⌝ }
+fn is_dropped(flags: u32, s: Slot, w: Window) -> bool
+    requires { ⌜ w .count ≤ windowMost ⌝ }
+    ensures { λ r. ⌜ r ≡ dropped (slotsIn w) s flags ⌝ }
 {
     if flags / 4 % 2 != 1 {
         return false;
     }
-    record::listed_from(s, window, count, 0)
+    window::listed_from(s, w, 0)
 }
 
 // The line of an entry, if it is valid.
-pub fn put_line(
-    page: &mut [u8],
-    at: usize,
-    s: Slot,
-    entry: Entry,
-    window: [Slot; 63],
-    count: u32,
-) -> usize
+pub fn put_line(page: &mut [u8], at: usize, s: Slot, entry: Entry, w: Window) -> usize
     requires { ⌜ at + 63 ≤ length (now page) ⌝ }
-    requires { ⌜ count ≤ 63 ⌝ }
-    ensures { λ r. ⌜ Written (now (page .entry)) (now (page .exit)) at r 63 (lineOf (take count window) s entry) ⌝ }
+    requires { ⌜ w .count ≤ windowMost ⌝ }
+    ensures { λ r. ⌜ Written (now (page .entry)) (now (page .exit)) at r 63 (lineOf (slotsIn w) s entry) ⌝ }
 {
     if entry.flags % 2 != 1 {
         return at;
     }
-    let fate = is_dropped(entry.flags, s, window, count);
+    let fate = is_dropped(entry.flags, s, w);
     put_entry(page, at, s, entry, fate)
 }
 

@@ -1,6 +1,8 @@
 // Metadata pages that are legal, and pages with one thing wrong, each judged on a line of its own. Slots 4 and blocks 8
 // unless a line says otherwise.
 use layout::Slot;
+use layout::WINDOW;
+use layout::Window;
 use layout::places;
 use metadata::judge;
 use metadata::page;
@@ -31,23 +33,23 @@ fn changed(name: &[u8], page: [u8; 4096], at: usize, value: u8)
 fn page_of(stamp: u32, first: u32, second: u32, count: u32, block: u32, flags: u32) -> [u8; 4096]
     requires { ⌜ count ≤ 63 ⌝ }
 {
-    let mut window = [Slot(0); 63];
-    window[0] = Slot(first);
-    window[1] = Slot(second);
+    let mut slots = [Slot(0); WINDOW];
+    slots[0] = Slot(first);
+    slots[1] = Slot(second);
     let rows = [block, flags, 0, 0, 0, 0, 0, 0];
-    page::encode_meta(stamp, window, count, &rows)
+    page::encode_meta(stamp, Window { slots, count }, &rows)
 }
 
 // A page whose window lists slots 0 to 62.
 fn wide_page() -> [u8; 4096] {
-    let mut window = [Slot(0); 63];
+    let mut slots = [Slot(0); WINDOW];
     let mut i: usize = 0;
-    while i < 63 {
-        window[i] = Slot(i as u32);
+    while i < WINDOW {
+        slots[i] = Slot(i as u32);
         i += 1;
     }
     let rows = [5, 7, 0, 0];
-    page::encode_meta(7, window, 63, &rows)
+    page::encode_meta(7, Window { slots, count: 63 }, &rows)
 }
 
 // The fields in the page table's order, each zero range at both ends.

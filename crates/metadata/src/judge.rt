@@ -2,12 +2,14 @@
 use crate::page;
 use layout::Label;
 use layout::Slot;
+use layout::WINDOW;
 use layout::zeros;
 ghost use mathlib.Core.Path.{_≡_};
 ghost use mathlib.Core.Bool.{_&&_};
-ghost use Prim.Native.Nat.{ℕ, _+_, _^_, _≤_, _<_};
+ghost use Prim.Native.Nat.{_+_, _^_, _≤_, _<_};
 ghost use lib.ListN.{length, drop};
 ghost use Rattle.layout.specs.Places.{slotOn};
+ghost use Rattle.layout.specs.Window.{windowMost};
 ghost use Rattle.layout.specs.MetaPage.{countOf, windowOf, entryPart};
 ghost use Rattle.layout.specs.PageRule.{countTest, listed, distinct, inRange, windowTest, pairTest, entryTest, entriesTest, pageTest};
 
@@ -17,7 +19,7 @@ fn legal_count(page: &[u8]) -> bool
     ensures { λ r. ⌜ r ≡ countTest (now (page .entry)) ⌝ }
 {
     let count = page::count_of(page);
-    if 63 < count {
+    if (WINDOW as u32) < count {
         return false;
     }
     if page::stamp_of(page) == 0 {
@@ -30,7 +32,7 @@ fn legal_count(page: &[u8]) -> bool
 fn listed_from(s: Slot, page: &[u8], count: u32, k: u32) -> bool
     requires { ⌜ length (now page) ≡ 4096 ⌝ }
     requires { ⌜ count ≡ countOf (now page) ⌝ }
-    requires { ⌜ count ≤ 63 ⌝ }
+    requires { ⌜ count ≤ windowMost ⌝ }
     requires { ⌜ k ≤ count ⌝ }
     ensures { λ r. ⌜ r ≡ listed s (drop k (windowOf (now (page .entry)))) ⌝ }
 {
@@ -49,7 +51,7 @@ fn listed_from(s: Slot, page: &[u8], count: u32, k: u32) -> bool
 fn legal_slots(l: Label, page: &[u8], count: u32) -> bool
     requires { ⌜ length (now page) ≡ 4096 ⌝ }
     requires { ⌜ count ≡ countOf (now page) ⌝ }
-    requires { ⌜ count ≤ 63 ⌝ }
+    requires { ⌜ count ≤ windowMost ⌝ }
     ensures { λ r. ⌜ r ≡ (inRange l (windowOf (now (page .entry))) && distinct (windowOf (now (page .entry)))) ⌝ }
 {
     let mut k: u32 = 0;
@@ -69,7 +71,7 @@ fn legal_slots(l: Label, page: &[u8], count: u32) -> bool
 // 16..267: the window's slots, and zero past its length.
 fn legal_window(l: Label, page: &[u8]) -> bool
     requires { ⌜ length (now page) ≡ 4096 ⌝ }
-    requires { ⌜ countOf (now page) ≤ 63 ⌝ }
+    requires { ⌜ countOf (now page) ≤ windowMost ⌝ }
     ensures { λ r. ⌜ r ≡ windowTest l (now (page .entry)) ⌝ }
 {
     let count = page::count_of(page);

@@ -2,13 +2,15 @@
 use layout::Block;
 use layout::Entry;
 use layout::Slot;
+use layout::Window;
 ghost use mathlib.Core.Path.{_≡_};
 ghost use mathlib.Core.List.{[]};
-ghost use Prim.Native.Nat.{ℕ, _+_, _*_, _%_, _≤_, _<_};
+ghost use Prim.Native.Nat.{_+_, _*_, _%_, _≤_, _<_};
 ghost use lib.ListN.{length, take, drop};
 ghost use borrow.Rule.Slice.PartMut.{putMid};
 ghost use Rattle.pages.specs.Pages.{padded};
 ghost use Rattle.pages.specs.Words.{leBytes, leNumber};
+ghost use Rattle.layout.specs.Window.{windowMost, slotsIn};
 ghost use Rattle.layout.specs.MetaPage.{slotsBytes, entryBytes, rowsBytes, encodeMeta, stampOf, countOf, slotAt, decodeEntry, entryAt};
 
 // Writes a 32-bit number over the four bytes from `at` on.
@@ -19,16 +21,17 @@ fn put_word(bytes: &mut [u8], at: usize, x: u32)
     pages::write_word(&mut bytes[at..at + 4], x);
 }
 
-// Writes the first `count` slot numbers of a window, from byte 16 on.
-fn write_window(page: &mut [u8], window: [Slot; 63], count: u32)
-    requires { ⌜ count ≤ 63 ⌝ }
+// Writes the slot numbers of a window, from byte 16 on.
+fn write_window(page: &mut [u8], w: Window)
+    requires { ⌜ w .count ≤ windowMost ⌝ }
     requires { ⌜ length (now page) ≡ 4096 ⌝ }
-    ensures { λ _. ⌜ now (page .exit) ≡ putMid 16 (4 * count) (now (page .entry)) (slotsBytes (take count window)) ⌝ }
+    ensures { λ _. ⌜ now (page .exit) ≡ putMid 16 (4 * w .count) (now (page .entry)) (slotsBytes (slotsIn w)) ⌝ }
 {
-    let n = count as usize;
+    let slots = w.slots;
+    let n = w.count as usize;
     let mut i: usize = 0;
     while i < n {
-        let s = window[i];
+        let s = slots[i];
         put_word(page, 16 + 4 * i, s.0);
         i += 1;
     }
@@ -59,29 +62,29 @@ fn write_rows(page: &mut [u8], rows: &[u32])
 }
 
 // Writes a metadata page over a page of zeros.
-fn fill_meta(page: &mut [u8], stamp: u32, window: [Slot; 63], count: u32, rows: &[u32])
+fn fill_meta(page: &mut [u8], stamp: u32, w: Window, rows: &[u32])
     requires { ⌜ now page ≡ padded 4096 [] ⌝ }
     requires { ⌜ length (now page) ≡ 4096 ⌝ }
-    requires { ⌜ count ≤ 63 ⌝ }
+    requires { ⌜ w .count ≤ windowMost ⌝ }
     requires { ⌜ length (now rows) ≤ 480 ⌝ }
     requires { ⌜ length (now rows) % 2 ≡ 0 ⌝ }
-    ensures { λ _. ⌜ now (page .exit) ≡ encodeMeta stamp (take count window) (now (rows .entry)) ⌝ }
+    ensures { λ _. ⌜ now (page .exit) ≡ encodeMeta stamp (slotsIn w) (now (rows .entry)) ⌝ }
 {
     put_word(page, 0, stamp);
-    put_word(page, 4, count);
-    write_window(page, window, count);
+    put_word(page, 4, w.count);
+    write_window(page, w);
     write_rows(page, rows);
 }
 
-// The metadata page of a stamp, a window of `count` slots and the table rows of the page's slots.
-pub fn encode_meta(stamp: u32, window: [Slot; 63], count: u32, rows: &[u32]) -> [u8; 4096]
-    requires { ⌜ count ≤ 63 ⌝ }
+// The metadata page of a stamp, a window and the table rows of the page's slots.
+pub fn encode_meta(stamp: u32, w: Window, rows: &[u32]) -> [u8; 4096]
+    requires { ⌜ w .count ≤ windowMost ⌝ }
     requires { ⌜ length (now rows) ≤ 480 ⌝ }
     requires { ⌜ length (now rows) % 2 ≡ 0 ⌝ }
-    ensures { λ r. ⌜ r ≡ encodeMeta stamp (take count window) (now (rows .entry)) ⌝ }
+    ensures { λ r. ⌜ r ≡ encodeMeta stamp (slotsIn w) (now (rows .entry)) ⌝ }
 {
     let mut page = [0u8; 4096];
-    fill_meta(&mut page, stamp, window, count, rows);
+    fill_meta(&mut page, stamp, w, rows);
     page
 }
 
@@ -112,7 +115,7 @@ pub fn count_of(page: &[u8]) -> u32
 // Place k of the page's window.
 pub fn slot_at(page: &[u8], k: u32) -> Slot
     requires { ⌜ length (now page) ≡ 4096 ⌝ }
-    requires { ⌜ k < 63 ⌝ }
+    requires { ⌜ k < windowMost ⌝ }
     ensures { λ r. ⌜ r ≡ slotAt (now (page .entry)) k ⌝ }
 {
     Slot(word_at(page, 16 + 4 * (k as usize)))

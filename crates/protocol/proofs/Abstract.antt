@@ -1,32 +1,27 @@
 -- A box that a list of events can reach, and how the crash argument sees it.
-use Prim.Native.Nat.{ℕ, zero, suc, _+_, _-_, _*_, _/_, _%_, _≤_, _<_}
-use mathlib.Core.Path.{_≡_, refl, sym, ap, subst, _∙_}
+use Prim.Native.Nat.{ℕ, _+_, _<_}
+use mathlib.Core.Path.{_≡_}
 use mathlib.Core.Logic.{_≢_}
-use mathlib.Core.Bool.{Bool, true, false, cond, not, _&&_, _||_}
-use mathlib.Core.List.{List, [], _∷_, _++_}
-use native.Mathlib.Omega.{arith}
+use mathlib.Core.Bool.{Bool, true, false, cond}
+use mathlib.Core.List.{List, []}
 use lib.ListN.{length, getD}
-use lib.Dec.{eqb, ltb}
+use lib.Dec.{ltb}
 use Rattle.pages.specs.Pages.{pageAt}
 use Rattle.layout.specs.declared.Slot.{Slot}
-use Rattle.layout.specs.declared.Block.{Block}
 use Rattle.layout.specs.declared.Label.{Label}
-use Rattle.layout.specs.declared.Entry.{Entry}
-use Rattle.layout.specs.Places.{Limits, withinLimits, metaPages, ssdLength, hddLength, tableLength, labelPlace}
+use Rattle.layout.specs.Places.{Limits, metaPages, ssdLength, hddLength, tableLength}
 use Rattle.layout.specs.LabelPage.{encodeLabel}
 use Rattle.layout.specs.MetaPage.{stampOf}
 use Rattle.layout.specs.PageRule.{pageTest}
-use Rattle.protocol.specs.declared.Record.{Record}
-use Rattle.protocol.specs.declared.Phase.{Phase}
-use Rattle.protocol.specs.declared.Phase.the-variants.{Formatting, Recovering, Ready}
-use Rattle.protocol.specs.Rows.{recordOf}
-use Rattle.protocol.specs.Box.{Images, Box}
+use Rattle.record.specs.declared.Phase.{Phase}
+use Rattle.record.specs.declared.Phase.the-variants.{Recovering, Ready}
+use Rattle.record.specs.Record.{recordOf}
+use Rattle.protocol.specs.Box.{Box}
 use Rattle.protocol.specs.Recovery.{metasOf, entryIn, newestOf}
 use Rattle.protocol.specs.ReferenceDisk.{Disk}
 use Rattle.protocol.specs.Events.{World}
-use Rattle.layout.proofs.Booleans.{Told, told, told-true, told-false, clash}
 use Rattle.protocol.proofs.model.Model as model
-use Rattle.protocol.proofs.model.Model.{Row, Model, Plain, Stored, Mending}
+use Rattle.protocol.proofs.model.Model.{Row, Model, Plain, Mending}
 use Rattle.protocol.proofs.Windows.{nums}
 use Rattle.protocol.proofs.Flags.{rowOf}
 use Rattle.protocol.proofs.Tables.{rowAt, Rows}

@@ -2,18 +2,17 @@
 use Prim.Native.Nat.{ℕ, _+_, _*_}
 use mathlib.Core.Path.{_≡_, refl, ap, _∙_}
 use mathlib.Core.Bool.{Bool, true, false}
-use mathlib.Core.List.{List, [], _∷_, _++_}
+use mathlib.Core.List.{List, [], _∷_}
 use mathlib.Core.Option.{Option, some}
 use lib.ListN.{length, replicate}
-use Rattle.layout.specs.declared.Slot.{Slot}
 use Rattle.layout.specs.declared.Block.{Block}
 use Rattle.layout.specs.declared.Label.{Label}
 use Rattle.layout.specs.Places.{labelOf, metaPages, ssdLength, tableLength}
-use Rattle.protocol.specs.declared.Record.{Record}
-use Rattle.protocol.specs.declared.Phase.the-variants.{Formatting, Recovering, Ready}
+use Rattle.record.specs.declared.Record.{Record}
+use Rattle.record.specs.declared.Phase.the-variants.{Formatting, Recovering, Ready}
 use Rattle.protocol.specs.Paper.{announced, copiedOut, inSlot, done}
-use Rattle.protocol.specs.Rows.{recordOf}
-use Rattle.protocol.specs.Box.{Images, Box, Effect, boxAfter}
+use Rattle.record.specs.Record.{recordOf}
+use Rattle.protocol.specs.Box.{Box, Effect, boxAfter}
 use Rattle.protocol.specs.Plan.{Call, format, step, flush, offer, land, fetch, landFetch, lookUp, plan}
 use Rattle.protocol.specs.Recovery.{Recovered, recoverFrom}
 use Rattle.protocol.specs.Perform.{perform}

@@ -1,33 +1,31 @@
 -- An offer repeated with nothing in between is never "copied out" a second time running.
-use Prim.Native.Nat.{ℕ, zero, suc, _+_, _-_, _*_, _≤_, _<_}
+use Prim.Native.Nat.{ℕ, suc, _+_, _-_, _*_, _<_}
 use mathlib.Core.Path.{_≡_, refl, sym, ap, subst, _∙_}
 use mathlib.Core.Logic.{_≢_}
-use mathlib.Core.Bool.{Bool, true, false, not, _&&_}
-use mathlib.Core.List.{List, [], _∷_}
+use mathlib.Core.Bool.{Bool, true, false, not}
+use mathlib.Core.List.{List}
 use mathlib.Core.Option.{Option, some, none}
 use native.Mathlib.Omega.{arith}
-use lib.ListN.{length, getD, set, length-set}
 use lib.Seq.{getD-set-same}
 use Rattle.layout.specs.declared.Slot.{Slot}
 use Rattle.layout.specs.declared.Block.{Block}
 use Rattle.layout.specs.declared.Label.{Label}
-use Rattle.layout.specs.Places.{tableLength}
 use Rattle.protocol.specs.declared.Condition.{Condition}
 use Rattle.protocol.specs.declared.Condition.the-variants.{NotCached, Clean, Dirty, Writing, Fetching}
-use Rattle.protocol.specs.Paper.{Paper, refusal, answer, refused, copiedOut, overwrite, nothingToDo, announced}
-use Rattle.protocol.specs.Rows.{rowFlags, setFlags, dirty, writing, used, withoutDirty, labelIn}
-use Rattle.protocol.specs.Box.{Images, Box, Effect, Result, left, boxAfter}
+use Rattle.protocol.specs.Paper.{Paper, refusal, answer, copiedOut, overwrite, nothingToDo, announced}
+use Rattle.protocol.specs.Rows.{rowFlags, setFlags, dirty, writing, used, withoutDirty}
+use Rattle.record.specs.Record.{labelIn}
+use Rattle.protocol.specs.Box.{Box, left, boxAfter}
 use Rattle.protocol.specs.Condition.{conditionOf}
 use Rattle.protocol.specs.Sweep.{Victim, sweepFrom, sweep}
-use Rattle.protocol.specs.Plan.{Call, offer, Move, stay, opens, copies, takesAs, takes, sweeps, offering, plan}
+use Rattle.protocol.specs.Plan.{offer, Move, copies, takesAs, takes, offering, plan}
 use Rattle.protocol.specs.Perform.{confirmed, perform}
 use Rattle.protocol.specs.Judge.{Reason, test, judged}
 use Rattle.protocol.specs.Calls.{decided, effectOf, resultOf}
 use Rattle.protocol.specs.Beside.{CopiesOnce}
-use Rattle.layout.proofs.Booleans.{Told, told, told-true, told-false, clash}
-use Rattle.protocol.proofs.model.Base.{and-left}
+use Rattle.layout.proofs.Booleans.{clash}
 use Rattle.protocol.proofs.Flags.{Flags, f0, f1, f3, f5, f7, f9, f11, f13, f15}
-use Rattle.protocol.proofs.Sweeps.{Alike, alike-same, Swept, took, stuck, swept}
+use Rattle.protocol.proofs.Sweeps.{Alike, alike-same, Swept, took, swept}
 use Rattle.protocol.proofs.Reachable.{facts}
 use Rattle.protocol.proofs.Accepted.{Legal, legal-judged}
 
@@ -130,7 +128,7 @@ sweep-first l t s h w u =
 victim-of : {v w : Victim} → some v ≡ some w → v ≡ w
 victim-of e = cc
 
-module _ (b : Block) (x : Box) (L : Legal x) (v : Victim) (low : v .slot .0 < x .state .slots)
+module _ (b : Block) (x : Box) (L : Legal x) (v : Victim) (low : v .slot .0 < x .state .label .slots)
     (w : writing (rowFlags (v .table) (v .slot)) ≡ false) (u : used (rowFlags (v .table) (v .slot)) ≡ false)
     (A : Alike (labelIn (x .state)) (x .table) (v .table)) where
   x′ : Box
@@ -156,7 +154,7 @@ unfolding x′
 copies-once b x e again =
     let L = offer-legal b x (none-copied b x e) in
     go L (left-by x b e)
-    (swept (2 * x .state .slots) (labelIn (x .state)) (x .table) (x .table)
+    (swept (2 * x .state .label .slots) (labelIn (x .state)) (x .table) (x .table)
     (alike-same (labelIn (x .state)) (x .table) (L .table-size) (L .rows)) (x .state .hand) (L .hand-low))
   where
     go : Legal x → (F : Left x b) → Swept (labelIn (x .state)) (x .table) (sweep (labelIn (x .state)) (x .table) (x .state .hand)) → ⊥

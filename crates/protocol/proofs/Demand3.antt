@@ -1,51 +1,44 @@
 -- Demand 3, proved: from what a format's last step leaves, every event keeps the invariant, and the invariant is safe.
-use Prim.Native.Nat.{ℕ, zero, suc, _+_, _*_, _%_, _/_, _^_, _≤_, _<_}
+use Prim.Native.Nat.{ℕ, _+_, _*_, _%_, _/_, _<_}
 use mathlib.Core.Path.{_≡_, refl, sym, ap, subst, _∙_}
-use mathlib.Core.Logic.{_≢_}
 use mathlib.Core.Bool.{Bool, true, false, cond}
-use mathlib.Core.List.{List, [], _∷_, List·Memᴰ, List·Memᴰ·head}
+use mathlib.Core.List.{List, [], _∷_, List·Memᴰ·head}
 use native.Mathlib.Omega.{arith}
 use borrow.Author.Tests.{lt-ltb, le-ltb}
 use lib.ListN.{length, getD, replicate, length-replicate, List·getD-eq-default, getD-replicate}
 use lib.Dec.{ltb}
 use native.Mathlib.Decide.{decLt}
 use Rattle.pages.specs.Pages.{pageAt}
-use Rattle.layout.specs.declared.Slot.{Slot}
-use Rattle.layout.specs.declared.Block.{Block}
 use Rattle.layout.specs.declared.Label.{Label}
-use Rattle.layout.specs.declared.Entry.{Entry}
-use Rattle.layout.specs.Places.{labelOf, metaPages, tableLength, blockPlace}
-use Rattle.layout.specs.MetaPage.{encodeMeta, rowsOn, stampOf, entryAt}
-use Rattle.layout.specs.PageRule.{pageTest}
-use Rattle.protocol.specs.declared.Phase.{Phase}
-use Rattle.protocol.specs.declared.Phase.the-variants.{Ready}
+use Rattle.layout.specs.Places.{labelOf, metaPages, tableLength}
+use Rattle.layout.specs.MetaPage.{encodeMeta, rowsOn, stampOf}
+use Rattle.record.specs.declared.Phase.the-variants.{Ready}
 use Rattle.protocol.specs.Paper.{refused}
 use Rattle.protocol.specs.Rows.{valid}
-use Rattle.protocol.specs.Box.{Images, Box}
+use Rattle.protocol.specs.Box.{Box}
 use Rattle.protocol.specs.Recovery.{metasOf, entryIn, Newest, newestOf}
 use Rattle.protocol.specs.Plan.{format}
-use Rattle.protocol.specs.Judge.{largestStamp}
 use Rattle.protocol.specs.Calls.{resultOf}
-use Rattle.protocol.specs.ReferenceDisk.{Disk, settled}
+use Rattle.protocol.specs.ReferenceDisk.{settled}
 use Rattle.protocol.specs.Events.{World, Event, run, formatted, startOf, AllFit}
 use Rattle.protocol.specs.Demand3.{Safe, Demand3}
 use Rattle.protocol.specs.Beside.{UpdateBeforeData}
 use Rattle.layout.proofs.Booleans.{clash}
-use Rattle.protocol.proofs.model.Base.{Window, nil-window, has, has-nil}
+use Rattle.protocol.proofs.model.Base.{Window, nil-window, has-nil}
 use Rattle.protocol.proofs.model.Model as model
-use Rattle.protocol.proofs.model.Model.{Row, Model, Plain}
+use Rattle.protocol.proofs.model.Model.{Row, Plain}
 use Rattle.protocol.proofs.Windows.{nums}
-use Rattle.protocol.proofs.Flags.{rowOf, Flags, f0, LegalRow}
+use Rattle.protocol.proofs.Flags.{rowOf, f0}
 use Rattle.protocol.proofs.Tables.{rowAt, Rows}
 use Rattle.protocol.proofs.Metas.{metas-at, length-metas, newest-none}
 use Rattle.protocol.proofs.Stores.{page-stamp, page-entry, page-legal}
 use Rattle.protocol.proofs.ReadyCalls.{slot-page}
-use Rattle.protocol.proofs.Formatting.{freeTable, formatBox, Formatted, whole-format}
+use Rattle.protocol.proofs.Formatting.{freeTable, Formatted, whole-format}
 use Rattle.protocol.proofs.Reachable.{run-inv}
 use Rattle.protocol.proofs.Claims.{views-of, reads-of, looks-of, allowed-of, taken-of, mends-of, flushes-of}
 use Rattle.protocol.proofs.Keeps.{keeps-of}
 use Rattle.protocol.proofs.UpdateFirst.{update-first}
-use Rattle.protocol.proofs.Abstract.{Core, boxOfCore, entAt, abs, Pages, ImagesKept, Shape, Agrees, Phased, is-ready, Inv}
+use Rattle.protocol.proofs.Abstract.{Core, boxOfCore, entAt, abs, Pages, Shape, is-ready, Inv}
 
 -- what is safe of every reachable world
 pub safe : (l : Label) (w : World) → Inv l w → Safe l w

@@ -22,18 +22,19 @@ use Rattle.layout.proofs.PlaceLaws.{within}
 use Rattle.layout.proofs.Booleans.{clash, and-parts}
 use Rattle.layout.proofs.LabelLaws as label
 use Rattle.layout.proofs.MetaLaws as meta
-use Rattle.protocol.specs.declared.Phase.{Phase}
-use Rattle.protocol.specs.declared.Phase.the-variants.{Formatting, Ready}
+use Rattle.record.specs.declared.Phase.{Phase}
+use Rattle.record.specs.declared.Phase.the-variants.{Formatting, Ready}
 use Rattle.protocol.specs.Paper.{refused, done}
-use Rattle.protocol.specs.Rows.{windowIn, recordOf}
+use Rattle.record.specs.Record.{windowIn, recordOf}
 use Rattle.protocol.specs.Box.{Box, ssdImage, Store, Effect, left, boxAfter}
 use Rattle.protocol.specs.Plan.{format, step, plan}
 use Rattle.protocol.specs.Perform.{begun, formatStore, formatState, perform}
-use Rattle.protocol.specs.Judge.{Reason, recordTest, lengthsTest, lengthTest, rowTest, eachRow, rowsTest, test, chain, judged}
+use Rattle.protocol.specs.Judge.{Reason, lengthsTest, lengthTest, rowTest, eachRow, rowsTest, test, chain, judged}
+use Rattle.record.specs.Rule.{recordTest}
 use Rattle.protocol.specs.Calls.{decided, effectOf, resultOf}
 use Rattle.protocol.specs.Events.{steps, formatted}
 use Rattle.protocol.specs.Beside.{WholeFormat}
-use Rattle.protocol.proofs.Windows.{length-array, zero-past}
+use Rattle.record.proofs.WindowLaws.{length-array, zero-past}
 use Rattle.protocol.proofs.Tables.{each-of}
 use Rattle.protocol.proofs.Judged.{none-hold, first-none}
 

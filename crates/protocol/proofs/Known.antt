@@ -1,7 +1,7 @@
 -- The reports of Quick.antt, computed without counting the bytes of the images at each call: their lengths are known, and each
 -- store is checked to keep them.
 use Prim.Native.Nat.{ℕ, suc, _+_, _*_, _≤_}
-use mathlib.Core.Path.{_≡_, refl, sym, ap, _∙_}
+use mathlib.Core.Path.{_≡_, refl, ap, _∙_}
 use mathlib.Core.Bool.{Bool, true, false, not, _&&_, false≢true}
 use mathlib.Core.List.{List, [], _∷_}
 use mathlib.Core.Option.{Option, some, none}
@@ -9,17 +9,21 @@ use native.Mathlib.Omega.{arith}
 use lib.ListN.{length}
 use lib.Dec.{eqb, leb}
 use borrow.Author.Tests.{eqb-true, eq-eqb, leb-true}
+use Rattle.layout.proofs.PlaceLaws.{sameLabel, same-label}
 use Rattle.pages.specs.Pages.{putPage, Holds, padded, pageAt, zeroPage}
 use Rattle.pages.proofs.PageLaws.{length-put}
 use Rattle.layout.specs.declared.Block.{Block}
 use Rattle.layout.specs.declared.Label.{Label}
-use Rattle.layout.specs.Places.{labelOf, labelPlace, metaPages, ssdLength, hddLength, tableLength, withinLimits}
+use Rattle.layout.specs.Places.{labelPlace, metaPages, ssdLength, hddLength, tableLength, withinLimits}
 use Rattle.protocol.specs.Paper.{refused}
 use Rattle.protocol.specs.Box.{Images, Box, Image, ssdImage, hddImage, Store, applied, Effect}
 use Rattle.protocol.specs.Condition.{conditionOf, slotFrom}
 use Rattle.protocol.specs.Plan.{Call, reopen, view, lowestFrom, plan}
-use Rattle.protocol.specs.Rows.{labelIn, arrayOf, windowIn, without}
-use Rattle.protocol.specs.Judge.{Reason, badLimits, noLabel, badRecord, wrongLength, badRows, wrongPhase, blockTooHigh, slotOpen, wrongState, hasSlot, windowFull, allOpen, stampsSpent, isLabel, labelFor, lengthsTest, lengthTest, pageLengthTest, test, chain, firstOf, judged, eachRow, eachSlot, labelTest, openRows, recordTest, rowTest, rowsTest, zeroSlots}
+use Rattle.record.specs.Record.{labelIn, windowIn}
+use Rattle.layout.specs.Window.{arrayOf}
+use Rattle.record.specs.Window.{without, eachSlot, zeroSlots}
+use Rattle.protocol.specs.Judge.{Reason, badLimits, noLabel, badRecord, wrongLength, badRows, wrongPhase, blockTooHigh, slotOpen, wrongState, hasSlot, windowFull, allOpen, stampsSpent, isLabel, labelFor, lengthsTest, lengthTest, pageLengthTest, test, chain, firstOf, judged, eachRow, labelTest, openRows, rowTest, rowsTest}
+use Rattle.record.specs.Rule.{recordTest}
 use Rattle.protocol.specs.Calls.{decided, effectOf, viewed, viewOf}
 use Rattle.protocol.specs.Events.{World, Junk, Arrival, old, new, Event, call, reopens, cut, lent, readOf, handed, survived, made}
 use Rattle.protocol.proofs.Report.{Line, lineOf, readsOf, Report, reported, report, diskFrom, labelPage, metaPage, pages, unformatted}
@@ -44,17 +48,6 @@ split : (a b : Bool) → (a && b) ≡ true → Both a b
 split true true h = (refl, refl)
 split true false h = (refl, h)
 split false b h = absurd (false≢true h)
-
--- the label by which a call judges lengths is the known one
-unfoldable pub sameLabel : Label → Label → Bool
-sameLabel k l = eqb (k .slots) (l .slots) && eqb (k .blocks) (l .blocks)
-
-same-label : (k l : Label) → sameLabel k l ≡ true → k ≡ l
-unfolding sameLabel
-same-label k l h =
-    let hs : Both (eqb (k .slots) (l .slots)) (eqb (k .blocks) (l .blocks)) = split _ _ h in
-    ap (λ (n : ℕ). labelOf n (k .blocks)) (eqb-true (k .slots) (l .slots) (hs .0))
-    ∙ ap (labelOf (l .slots)) (eqb-true (k .blocks) (l .blocks) (hs .1))
 
 -- a store is a page within its image
 unfoldable pub within : Label → Image → ℕ → List ℕ → Bool

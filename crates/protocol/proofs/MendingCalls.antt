@@ -1,38 +1,36 @@
 -- A reopening, and the steps of mending, keep the invariant.
-use Prim.Native.Nat.{ℕ, zero, suc, _+_, _-_, _*_, _/_, _%_, _≤_, _<_}
+use Prim.Native.Nat.{ℕ, _<_}
 use mathlib.Core.Path.{_≡_, refl, sym, ap, subst, _∙_}
-use mathlib.Core.Logic.{_≢_}
-use mathlib.Core.Bool.{Bool, true, false, cond, not, _&&_, _||_}
+use mathlib.Core.Bool.{Bool, true, false, not, _||_}
 use mathlib.Core.List.{List, [], _∷_, List·Memᴰ}
-use mathlib.Core.Option.{Option, some, none}
+use mathlib.Core.Option.{Option}
 use native.Mathlib.Omega.{arith}
 use lib.ListN.{length}
 use lib.Dec.{eqb, ltb}
 use Rattle.layout.specs.declared.Slot.{Slot}
-use Rattle.layout.specs.declared.Block.{Block}
 use Rattle.layout.specs.declared.Label.{Label}
 use Rattle.layout.specs.Places.{metaPages, tableLength, metaOf}
 use Rattle.layout.specs.PageRule.{listed}
-use Rattle.protocol.specs.Paper.{refused}
-use Rattle.protocol.specs.Box.{Images, Box, Effect, left, boxAfter}
+use Rattle.protocol.specs.Box.{Box, left, boxAfter}
 use Rattle.protocol.specs.Recovery.{metasOf, newestOf, offPage}
-use Rattle.protocol.specs.Plan.{Call, step, reopen, Move, mends, recovers, lowestFrom, lowestPage, plan}
+use Rattle.protocol.specs.Plan.{step, reopen, Move, mends, recovers, lowestFrom, lowestPage, plan}
 use Rattle.protocol.specs.Perform.{confirmed, perform}
-use Rattle.protocol.specs.Judge.{Reason, isEmpty, isReady, judged}
+use Rattle.protocol.specs.Judge.{Reason, isEmpty, isReady}
 use Rattle.protocol.specs.Calls.{decided}
-use Rattle.protocol.specs.ReferenceDisk.{Disk, settled, fedCall, fed}
-use Rattle.protocol.specs.Events.{World, mayFinish, readsIf, readOf, called}
-use Rattle.layout.proofs.Booleans.{Told, told, told-true, told-false, clash}
+use Rattle.protocol.specs.ReferenceDisk.{Disk, settled, fed}
+use Rattle.protocol.specs.Events.{World, readsIf, readOf, called}
+use Rattle.layout.proofs.Booleans.{clash}
 use Rattle.protocol.proofs.model.Base.{has, metaNo, eqb-same, length-keep-lt}
 use Rattle.protocol.proofs.model.Model as model
-use Rattle.protocol.proofs.model.Model.{Row, Model, Plain, Stored, Mending, mended, reopened, empty}
+use Rattle.protocol.proofs.model.Model.{Model, Plain, Stored, Mending, mended}
 use Rattle.protocol.proofs.model.Rows.{opn-valid}
 use Rattle.protocol.proofs.model.View as seen
 use Rattle.protocol.proofs.model.Reopened.{ready-stored, fixed}
 use Rattle.protocol.proofs.model.Mended.{reopened-mending, mended-mending}
 use Rattle.protocol.proofs.model.Finished.{over-ready, over-allowed}
 use Rattle.protocol.proofs.Windows.{nums, length-nums, has-nums, nums-off}
-use Rattle.protocol.proofs.Performed.{after, storedCore, stored-shape, mended-abs, mends-box, window-in}
+use Rattle.protocol.proofs.Performed.{after, storedCore, stored-shape, mended-abs, mends-box}
+use Rattle.record.proofs.RecordLaws.{window-in}
 use Rattle.protocol.proofs.ReadyCalls.{calledAs, called-as, worldOf, slot-page}
 use Rattle.protocol.proofs.Reopens.{reopenedCore, reopen-judged, reopen-box, reopen-shape, reopen-abs}
 use Rattle.protocol.proofs.Passes.{mending-left, step-judged, pending-rule, some-pending}

@@ -1,39 +1,38 @@
 -- A reachable box passes 3, 4 and 5; and the calls that are never refused.
-use Prim.Native.Nat.{ℕ, zero, suc, _+_, _-_, _*_, _/_, _%_, _^_, _≤_, _<_}
-use mathlib.Core.Path.{_≡_, refl, sym, ap, subst, _∙_}
-use mathlib.Core.Logic.{_≢_}
-use mathlib.Core.Bool.{Bool, true, false, cond, not, _&&_, _||_}
-use mathlib.Core.List.{List, [], _∷_, _++_}
-use mathlib.Core.Option.{Option, some, none}
+use Prim.Native.Nat.{ℕ, zero, _+_, _*_, _%_, _≤_, _<_}
+use mathlib.Core.Path.{_≡_, refl, sym, ap, _∙_}
+use mathlib.Core.Bool.{Bool, true, false, not, _&&_, _||_}
+use mathlib.Core.List.{List, [], _∷_}
+use mathlib.Core.Option.{none}
 use native.Mathlib.Omega.{arith}
 use lib.ListN.{length, getD}
-use lib.Dec.{eqb, ltb, leb}
-use borrow.Author.Tests.{le-leb, lt-leb, eq-eqb, lt-ltb, le-ltb}
+use lib.Dec.{eqb, leb}
+use borrow.Author.Tests.{le-leb, lt-leb, eq-eqb, lt-ltb}
 use Rattle.layout.specs.declared.Slot.{Slot}
 use Rattle.layout.specs.declared.Block.{Block}
 use Rattle.layout.specs.declared.Label.{Label}
-use Rattle.layout.specs.Places.{Limits, withinLimits, metaPages, tableLength}
-use Rattle.layout.specs.PageRule.{listed, distinct, inRange}
+use Rattle.layout.specs.PageRule.{listed}
 use Rattle.layout.proofs.PlaceLaws.{within}
-use Rattle.protocol.specs.declared.Record.{Record}
-use Rattle.protocol.specs.declared.Phase.{Phase}
-use Rattle.protocol.specs.declared.Phase.the-variants.{Formatting, Recovering, Ready}
-use Rattle.protocol.specs.Rows.{rowBlock, rowFlags, valid, dirty, writing, windowIn, recordOf}
-use Rattle.protocol.specs.Box.{Images, Box}
-use Rattle.protocol.specs.Plan.{Call, format, step, flush, reopen, offer, fetch, landFetch, lookUp, view, writeBack, land, lowestPage, flushing, plan, storesMeta}
-use Rattle.protocol.specs.Judge.{largestStamp, stepsTest, recordTest, lengthsTest, lengthTest, rowTest, eachRow, eachSlot, isEmpty, agreeTest, rowsTest, isReady, test, chain, firstOf, judged}
+use Rattle.record.specs.declared.Phase.the-variants.{Ready}
+use Rattle.protocol.specs.Rows.{rowBlock, rowFlags, valid, dirty, writing}
+use Rattle.record.specs.Record.{largestStamp}
+use Rattle.protocol.specs.Plan.{step, flush, lookUp, view, flushing, plan, storesMeta}
+use Rattle.record.specs.Rule.{stepsTest, recordTest}
+use Rattle.protocol.specs.Judge.{lengthsTest, lengthTest, rowTest, eachRow, isEmpty, agreeTest, rowsTest, isReady, test, chain, judged}
+use Rattle.record.specs.Window.{eachSlot}
 use Rattle.protocol.proofs.model.Base as base
 use Rattle.layout.proofs.Booleans.{Told, told, told-true, told-false, clash}
 use Rattle.protocol.proofs.model.Base.{has, Window, eqb-same}
 use Rattle.protocol.proofs.model.Model as model
-use Rattle.protocol.proofs.model.Model.{Row, Model, Plain, Stored, Mending, dty, opn, blk, revived, count}
+use Rattle.protocol.proofs.model.Model.{Row, Plain, Mending, opn, revived}
 use Rattle.protocol.proofs.model.Rows.{opn-valid, shut-opn}
-use Rattle.protocol.proofs.Windows.{nums, length-nums, has-nums, distinct-nums, below-nums, length-array, zero-past, empty-nums}
+use Rattle.protocol.proofs.Windows.{nums, length-nums, has-nums, distinct-nums, below-nums, empty-nums}
+use Rattle.record.proofs.WindowLaws.{length-array, zero-past}
 use Rattle.protocol.proofs.Flags.{rowOf, Flags, f0, f1, f3, f5, f7, f9, f11, f13, f15, LegalRow, row-legal}
-use Rattle.protocol.proofs.Tables.{rowAt, rowAt-out, Rows, each-of, at-open}
-use Rattle.protocol.proofs.Judged.{NoneHold, first-none}
-use Rattle.protocol.proofs.Performed.{window-in}
-use Rattle.protocol.proofs.Abstract.{Core, phaseFor, boxOfCore, abs, ImagesKept, Shape}
+use Rattle.protocol.proofs.Tables.{rowAt, each-of, at-open}
+use Rattle.protocol.proofs.Judged.{first-none}
+use Rattle.record.proofs.RecordLaws.{window-in}
+use Rattle.protocol.proofs.Abstract.{Core, phaseFor, boxOfCore, abs, Shape}
 
 -- a test at each slot of a window
 slots-of : (t : Slot → Bool) (w : List Slot) → ((s : Slot) → listed s w ≡ true → t s ≡ true) → eachSlot t w ≡ true

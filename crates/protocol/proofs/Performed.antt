@@ -1,48 +1,42 @@
 -- Each move on a reachable box: the box that it leaves, and that the crash argument sees the model's move.
-use Prim.Native.Nat.{ℕ, zero, suc, _+_, _-_, _*_, _/_, _%_, _^_, _≤_, _<_}
-use mathlib.Core.Path.{_≡_, refl, sym, ap, subst, _∙_}
-use mathlib.Core.Logic.{_≢_}
-use mathlib.Core.Bool.{Bool, true, false, cond, not, _&&_, _||_, or-true, or-false}
+use Prim.Native.Nat.{ℕ, _+_, _*_, _/_, _%_, _^_, _<_}
+use mathlib.Core.Path.{_≡_, refl, sym, ap, _∙_}
+use mathlib.Core.Bool.{Bool, true, false, cond, not, _||_, or-true, or-false}
 use mathlib.Core.List.{List, [], _∷_, _++_}
-use mathlib.Core.Option.{Option, some, none}
 use native.Mathlib.Omega.{arith}
 use native.Mathlib.Numerals.{add-one}
 use native.Mathlib.Decide.{ℕ-discrete}
 use lib.ListN.{length, getD, set, length-set}
-use lib.Dec.{eqb, ltb}
+use lib.Dec.{eqb}
 use Rattle.pages.specs.Pages.{pageAt, putPage}
 use Rattle.pages.proofs.PageLaws.{length-page}
 use Rattle.layout.specs.declared.Slot.{Slot}
-use Rattle.layout.specs.declared.Block.{Block}
 use Rattle.layout.specs.declared.Label.{Label}
 use Rattle.layout.specs.Places.{metaPages, tableLength}
 use Rattle.layout.specs.MetaPage.{encodeMeta, rowsOn}
 use Rattle.layout.specs.PageRule.{distinct}
-use Rattle.protocol.specs.declared.Phase.{Phase}
+use Rattle.record.specs.declared.Phase.{Phase}
 use Rattle.protocol.specs.Paper.{Paper}
-use Rattle.protocol.specs.Rows.{rowFlags, setFlags, setRow, valid, dirty, writing, withUsed, withoutWriting, withoutDirty, windowIn, arrayOf, recordOf, without}
-use Rattle.protocol.specs.Box.{Images, Box, left, boxAfter}
+use Rattle.protocol.specs.Rows.{rowFlags, setFlags, setRow, valid, dirty, writing, withUsed, withoutWriting, withoutDirty}
+use Rattle.record.specs.Record.{windowIn, recordOf, largestStamp}
+use Rattle.record.specs.Window.{without}
+use Rattle.protocol.specs.Box.{Box, left, boxAfter}
 use Rattle.protocol.specs.Recovery.{metasOf, Newest, newestOf, phaseOf, offPage}
-use Rattle.protocol.specs.Plan.{Move, stay, uses, opens, lands, copies, confirms, mends}
+use Rattle.protocol.specs.Plan.{Move, uses, opens, lands, copies, confirms, mends}
 use Rattle.protocol.specs.Perform.{confirmed, landedAs, perform}
-use Rattle.protocol.specs.Judge.{largestStamp, isEmpty}
+use Rattle.protocol.specs.Judge.{isEmpty}
+use Rattle.record.proofs.RecordLaws.{window-in}
 use Rattle.protocol.proofs.model.Base as base
-use Rattle.layout.proofs.Booleans.{Told, told, told-true, told-false, clash}
+use Rattle.layout.proofs.Booleans.{clash}
 use Rattle.protocol.proofs.model.Base.{upd, upd-same, upd-other, Window, metaNo}
 use Rattle.protocol.proofs.model.Model as model
-use Rattle.protocol.proofs.model.Model.{Row, Model, Plain, dty, opn, blk, shut, cleaned, stored, opened, flushed, landed, copied, mended, Same, same-path}
-use Rattle.protocol.proofs.Windows.{keep-all, nums, nums-append, nums-one, nums-off, nums-without, take-array, empty-nums}
-use Rattle.protocol.proofs.Flags.{rowOf, LegalRow, Changed, changed-row, changed-shut, changed-clean, changed-used}
-use Rattle.protocol.proofs.Tables.{rowAt, Rows, flags-at, flags-rows, set-at, set-rows, length-row, at-open, at-block, at-valid, at-dirty}
+use Rattle.protocol.proofs.model.Model.{Row, opn, blk, shut, cleaned, stored, landed, copied, mended, same-path}
+use Rattle.protocol.proofs.Windows.{keep-all, nums, nums-off, nums-without, empty-nums}
+use Rattle.protocol.proofs.Flags.{rowOf, Changed, changed-row, changed-shut, changed-clean, changed-used}
+use Rattle.protocol.proofs.Tables.{rowAt, Rows, flags-at, flags-rows, at-open, at-block}
 use Rattle.protocol.proofs.Sweeps.{Alike, alike-flags, alike-same}
-use Rattle.protocol.proofs.Metas.{length-metas}
 use Rattle.protocol.proofs.Stores.{put-kept, put-ent, put-newest, put-dat, data-kept, data-metas, data-dat, disk-kept, disk-page}
-use Rattle.protocol.proofs.Abstract.{Core, phaseFor, boxOfCore, entAt, abs, ImagesKept, Shape}
-
--- the window of a record that was made of one
-pub window-in : (l : Label) (h : Slot) (n : ℕ) (ph : Phase) (u : Bool) (w : List Slot) → windowIn (recordOf l h n ph u w) ≡ w
-unfolding windowIn
-window-in l h n ph u w = take-array w
+use Rattle.protocol.proofs.Abstract.{Core, phaseFor, boxOfCore, entAt, abs, Shape}
 
 -- the box that a move leaves
 abbrev pub after : Label → Core → Move → Box

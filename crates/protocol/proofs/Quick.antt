@@ -1,31 +1,17 @@
 -- The reports of Report.antt, computed: each event once, where `linesOf` and `run` would each ask for it, and from what a
 -- format leaves, written out.
-use Prim.Native.Nat.{ℕ}
-use mathlib.Core.Path.{_≡_, refl, sym, ap, _∙_}
+use mathlib.Core.Path.{_≡_, refl, ap, _∙_}
 use mathlib.Core.Bool.{Bool, true, false}
 use mathlib.Core.List.{List, [], _∷_}
-use mathlib.Core.Option.{Option, some, none}
 use Rattle.layout.specs.declared.Block.{Block}
 use Rattle.layout.specs.declared.Label.{Label}
 use Rattle.protocol.specs.Paper.{refused}
-use Rattle.protocol.specs.Box.{Images, Box, Effect, Store, boxAfter, left}
-use Rattle.pages.specs.Pages.{pageAt, putPage, zeroPage, padded}
-use Rattle.pages.specs.Parts.{pagePart}
-use Rattle.pages.specs.Words.{leBytes, leNumber}
-use Rattle.layout.specs.Places.{withinLimits, metaPages}
-use Rattle.layout.specs.LabelPage.{digits, labelText, encodeLabel, after, numberFrom, number, allZero, decodeLabel}
-use Rattle.layout.specs.MetaPage.{slotsBytes, entryBytes, rowsBytes, encodeMeta, stampOf, countOf, slotAt, firsts, windowOf, entryPart, decodeEntry, rowsFrom}
-use Rattle.layout.specs.PageRule.{countTest, zeroTest, listed, distinct, inRange, windowTest, legalFlags, pairTest, entryTest, entriesFrom, entriesTest, passes, pageTest}
-use Rattle.protocol.specs.Rows.{windowIn, arrayOf, without}
-use Rattle.protocol.specs.Condition.{slotFrom, conditionOf}
-use Rattle.protocol.specs.Sweep.{sweepFrom}
-use Rattle.protocol.specs.Plan.{Call, reopen, lowestFrom, plan}
-use Rattle.protocol.specs.Recovery.{metasOf, entryIn, newestFrom, eachLegal, stampIn, stampsDiffer, blockIn, noneTwice, allOpenIn, pagesTest, recover, recoverFrom, offPage}
-use Rattle.protocol.specs.Perform.{confirmed, perform}
-use Rattle.protocol.specs.Judge.{labelTest, zeroSlots, recordTest, lengthTest, rowTest, eachRow, eachSlot, rowsTest, openRows, test, firstOf, judged}
-use Rattle.protocol.specs.Calls.{effectOf, resultOf, viewOf}
-use Rattle.protocol.specs.Events.{World, Junk, Arrival, Event, call, reopens, cut, readOf, called, handed, takenIf, reopened, survived, made, struck, apply, run, steps, formatted}
-use Rattle.protocol.proofs.Report.{Line, lineOf, seen, linesOf, readsOf, Report, reported, report, diskFrom, unformatted, start, metaPage, labelPage, pages}
+use Rattle.protocol.specs.Box.{Images, Box, Effect, boxAfter, left}
+use Rattle.layout.specs.LabelPage.{after}
+use Rattle.protocol.specs.Plan.{Call, reopen}
+use Rattle.protocol.specs.Calls.{effectOf}
+use Rattle.protocol.specs.Events.{World, Junk, Arrival, Event, call, reopens, cut, called, handed, takenIf, reopened, survived, made, struck, apply, run}
+use Rattle.protocol.proofs.Report.{Line, lineOf, seen, linesOf, Report, reported, report}
 
 -- an event's line, and the box after it
 pub record Moved : Type 0 where

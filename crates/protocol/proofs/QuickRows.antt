@@ -1,5 +1,5 @@
 -- The rows of two metadata pages, computed in one walk of each page: `entryIn` reads each entry from the page's start.
-use Prim.Native.Nat.{ℕ, zero, suc, _+_, _*_, _/_, _%_, _<_}
+use Prim.Native.Nat.{ℕ, zero, suc, _+_, _*_, _%_, _<_}
 use native.Mathlib.Nat.{add-zero, zero-add, suc-add, add-suc, mul-suc, mod-eq-of-lt, div-eq-of-lt, add-comm, zero-lt-suc, le-of-suc-le-suc, not-suc-le-zero}
 use native.Mathlib.Omega.{arith}
 use mathlib.Core.Path.{_≡_, refl, sym, ap, _∙_}
@@ -12,9 +12,9 @@ use Rattle.layout.specs.declared.Slot.{Slot}
 use Rattle.layout.specs.declared.Label.{Label}
 use Rattle.layout.specs.declared.Entry.{Entry}
 use Rattle.layout.specs.Places.{labelOf}
-use Rattle.layout.specs.MetaPage.{decodeEntry, entryPart, entryAt, rowsFrom}
-use Rattle.protocol.specs.Rows.{recordOf}
-use Rattle.protocol.specs.Recovery.{entryIn, Newest, newestOf, eachLegal, stampsDiffer, noneTwice, allOpenIn, storedRows, pagesTest, recovered, phaseOf, Recovered, recover, recoverIf, recoverFrom}
+use Rattle.layout.specs.MetaPage.{decodeEntry, entryPart, rowsFrom}
+use Rattle.record.specs.Record.{recordOf}
+use Rattle.protocol.specs.Recovery.{entryIn, Newest, newestOf, eachLegal, stampsDiffer, noneTwice, allOpenIn, pagesTest, recovered, phaseOf, Recovered, recover, recoverIf, recoverFrom}
 
 -- the rows of n entries from slot s on, each in its own 8 of the bytes, after a function of slot and entry
 unfoldable pub walked : (Slot → Entry → Entry) → ℕ → ℕ → List ℕ → List ℕ

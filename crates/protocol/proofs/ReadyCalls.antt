@@ -1,50 +1,50 @@
 -- Each call of a ready box that is not refused leaves a ready box, and the reference disk agrees.
-use Prim.Native.Nat.{ℕ, zero, suc, _+_, _-_, _*_, _/_, _%_, _^_, _≤_, _<_}
+use Prim.Native.Nat.{ℕ, _+_, _-_, _*_, _/_, _%_, _<_}
 use mathlib.Core.Path.{_≡_, refl, sym, ap, subst, _∙_}
 use mathlib.Core.Logic.{_≢_}
-use mathlib.Core.Bool.{Bool, true, false, cond, not, _&&_, _||_}
+use mathlib.Core.Bool.{Bool, true, false, cond, not, _&&_}
 use mathlib.Core.List.{List, [], _∷_, _++_}
-use mathlib.Core.Option.{Option, some, none}
+use mathlib.Core.Option.{Option, some}
 use native.Mathlib.Omega.{arith}
 use lib.ListN.{length, getD}
-use lib.Dec.{eqb, ltb, leb}
-use borrow.Author.Tests.{leb-false, eqb-true}
+use lib.Dec.{eqb, leb}
+use borrow.Author.Tests.{leb-false}
 use Rattle.pages.specs.Pages.{pageAt}
 use Rattle.pages.proofs.PageLaws.{length-page}
 use Rattle.layout.specs.declared.Slot.{Slot}
 use Rattle.layout.specs.declared.Block.{Block}
 use Rattle.layout.specs.declared.Label.{Label}
 use Rattle.layout.specs.Places.{metaPages, tableLength}
-use Rattle.layout.specs.PageRule.{listed, distinct}
+use Rattle.layout.specs.PageRule.{distinct}
 use Rattle.protocol.specs.declared.Condition.{Condition}
-use Rattle.protocol.specs.declared.Condition.the-variants.{NotCached, Clean, Dirty, Writing, Fetching}
 use Rattle.protocol.specs.Paper.{Paper, refused, copiedOut, nothingToDo}
 use Rattle.protocol.specs.Rows.{rowFlags, setRow, valid, dirty, writing, withWriting}
-use Rattle.protocol.specs.Box.{Images, Box, Effect, left, boxAfter, refusing}
+use Rattle.protocol.specs.Box.{Effect, left, boxAfter}
 use Rattle.protocol.specs.Sweep.{nextSlot, Victim, sweep}
-use Rattle.protocol.specs.Recovery.{metasOf, Newest, newestOf}
-use Rattle.protocol.specs.Plan.{Call, format, step, flush, reopen, offer, fetch, landFetch, lookUp, view, writeBack, land, Move, stay, uses, opens, lands, copies, confirms, mends, takesAs, takes, offering, fetching, landing, landingFetch, lookingUp, writingBack, flushing, plan, storesMeta}
+use Rattle.protocol.specs.Recovery.{metasOf, newestOf}
+use Rattle.protocol.specs.Plan.{Call, flush, offer, fetch, landFetch, lookUp, writeBack, land, Move, stay, uses, opens, lands, copies, confirms, takesAs, takes, offering, fetching, landing, landingFetch, lookingUp, writingBack, flushing, storesMeta}
 use Rattle.protocol.specs.Perform.{confirmed, landedAs, perform}
-use Rattle.protocol.specs.Judge.{largestStamp, Reason, firstOf, judged, isOpen, takesWrite, takesFetch, openRows, isReady}
+use Rattle.record.specs.Record.{largestStamp}
+use Rattle.protocol.specs.Judge.{Reason, judged, isOpen, takesWrite, takesFetch, openRows, isReady}
 use Rattle.protocol.specs.Calls.{decided, effectOf}
 use Rattle.protocol.specs.ReferenceDisk.{Disk, settled, written, fedCall, fed}
 use Rattle.protocol.specs.Events.{World, mayFinish, readsIf, called}
 use Rattle.protocol.proofs.model.Base as base
-use Rattle.layout.proofs.Booleans.{Told, told, told-true, told-false, clash}
-use Rattle.protocol.proofs.model.Base.{upd, upd-same, upd-other, Window, metaNo, snoc-window, and-left, and-right, eqb-same, eqb-other}
+use Rattle.layout.proofs.Booleans.{clash}
+use Rattle.protocol.proofs.model.Base.{upd, Window, metaNo, snoc-window}
 use Rattle.protocol.proofs.model.Model as model
-use Rattle.protocol.proofs.model.Model.{Row, Model, Plain, dty, opn, blk, settle, stored, opened, flushed, landed, copied}
+use Rattle.protocol.proofs.model.Model.{Row, Plain, dty, opn, blk, settle, stored, opened, flushed, landed, copied}
 use Rattle.protocol.proofs.model.Rows.{dty-valid, opn-valid}
 use Rattle.protocol.proofs.model.Moves.{Opens, Copies, Lands, landing as modelLanding, opens-ready, copies-ready, lands-ready, fetch-ready}
 use Rattle.protocol.proofs.model.Flushed.{flushed-ready, settled-ready}
-use Rattle.protocol.proofs.Windows.{nums, length-nums, nums-append, nums-one, has-nums, distinct-nums}
-use Rattle.protocol.proofs.Flags.{rowOf, Flags, f5, f7, LegalRow, Changed, changed-open, changed-row}
+use Rattle.protocol.proofs.Windows.{nums, nums-append, nums-one, distinct-nums}
+use Rattle.protocol.proofs.Flags.{rowOf, f5, f7, LegalRow, Changed, changed-open, changed-row}
 use Rattle.protocol.proofs.Tables.{rowAt, Rows, set-at, set-rows, length-row, at-open, at-block, at-valid, at-dirty}
-use Rattle.protocol.proofs.Conditions.{Held, Stands, absent, is-clean, is-dirty, is-writing, is-fetching, stands}
+use Rattle.protocol.proofs.Conditions.{Held, Stands, absent, is-clean, is-dirty, is-writing, is-fetching}
 use Rattle.protocol.proofs.Counting.{window-count}
 use Rattle.protocol.proofs.Sweeps.{Alike, alike-same, next-low, Swept, took, stuck, swept}
-use Rattle.protocol.proofs.Performed.{after, tabled, tabled-abs, tabled-shape, uses-box, uses-alike, storedCore, stored-shape, stored-abs, opens-box, confirms-box, landedCore, lands-box, lands-shape, lands-abs, copiedCore, copies-box, copies-shape, copies-abs}
-use Rattle.protocol.proofs.Abstract.{Core, phaseFor, boxOfCore, abs, Shape, Agrees, Phased, is-ready, Inv}
+use Rattle.protocol.proofs.Performed.{after, tabled-abs, tabled-shape, uses-box, uses-alike, storedCore, stored-shape, stored-abs, opens-box, confirms-box, landedCore, lands-box, lands-shape, lands-abs, copiedCore, copies-box, copies-shape, copies-abs}
+use Rattle.protocol.proofs.Abstract.{Core, boxOfCore, abs, Shape, Agrees, is-ready, Inv}
 
 -- a Boolean's two cases
 pub by-bool {ℓ} : (Q : Bool → Type ℓ) (b : Bool) → (b ≡ true → Q true) → (b ≡ false → Q false) → Q b

@@ -1,48 +1,45 @@
 -- A reopening of images that keep their rules: it is taken, and fills table and record as the model says.
-use Prim.Native.Nat.{ℕ, zero, suc, _+_, _-_, _*_, _/_, _%_, _^_, _≤_, _<_}
-use mathlib.Core.Path.{_≡_, refl, sym, ap, subst, _∙_}
+use Prim.Native.Nat.{ℕ, _+_, _*_, _%_, _<_}
+use mathlib.Core.Path.{_≡_, refl, sym, ap, _∙_}
 use mathlib.Core.Logic.{_≢_}
-use mathlib.Core.Bool.{Bool, true, false, cond, not, _&&_, _||_}
-use mathlib.Core.List.{List, [], _∷_, _++_}
-use mathlib.Core.Option.{Option, some, none}
+use mathlib.Core.Bool.{Bool, true, false, not}
+use mathlib.Core.List.{List}
+use mathlib.Core.Option.{none}
 use native.Mathlib.Omega.{arith}
 use native.Mathlib.Decide.{decLt}
 use lib.ListN.{length, getD}
-use lib.Dec.{eqb, ltb, leb}
-use borrow.Author.Tests.{le-leb, eq-eqb, lt-ltb, le-ltb, ltb-true}
+use borrow.Author.Tests.{le-leb, eq-eqb, le-ltb}
 use Rattle.pages.specs.Pages.{pageAt}
 use Rattle.layout.specs.declared.Slot.{Slot}
 use Rattle.layout.specs.declared.Label.{Label}
 use Rattle.layout.specs.declared.Entry.{Entry}
-use Rattle.layout.specs.declared.LabelRead.{LabelRead}
-use Rattle.layout.specs.declared.LabelRead.the-variants.{Legal, Illegal}
-use Rattle.layout.specs.Places.{Limits, withinLimits, metaPages, ssdLength, hddLength, tableLength}
-use Rattle.layout.specs.LabelPage.{encodeLabel, decodeLabel}
-use Rattle.layout.specs.MetaPage.{stampOf, rowsFrom}
+use Rattle.layout.specs.declared.LabelRead.the-variants.{Legal}
+use Rattle.layout.specs.Places.{tableLength}
+use Rattle.layout.specs.LabelPage.{decodeLabel}
+use Rattle.layout.specs.MetaPage.{rowsFrom}
 use Rattle.layout.specs.PageRule.{listed}
 use Rattle.layout.proofs.PlaceLaws.{within}
 use Rattle.layout.proofs.LabelLaws.{label-back}
-use Rattle.protocol.specs.declared.Record.{Record}
-use Rattle.protocol.specs.declared.Phase.{Phase}
-use Rattle.protocol.specs.Rows.{valid, dirty, writing, recordOf}
+use Rattle.record.specs.declared.Phase.{Phase}
+use Rattle.protocol.specs.Rows.{valid, dirty, writing}
+use Rattle.record.specs.Record.{recordOf}
 use Rattle.protocol.specs.Box.{Images, Box, left, boxAfter}
-use Rattle.protocol.specs.Recovery.{labelRead, labelAt, metasOf, entryIn, Newest, newestOf, storedRows, pagesTest, recovered, phaseOf, Recovered, recover}
+use Rattle.protocol.specs.Recovery.{labelRead, labelAt, metasOf, entryIn, newestOf, storedRows, pagesTest, recovered, recover}
 use Rattle.protocol.specs.Plan.{reopen, recovers}
 use Rattle.protocol.specs.Perform.{perform}
-use Rattle.protocol.specs.Judge.{Reason, labelTest, isLabel, lengthsTest, lengthTest, test, chain, firstOf, judged, isEmpty}
-use Rattle.layout.proofs.Booleans.{Told, told, told-true, told-false, clash}
-use Rattle.protocol.proofs.model.Base.{has, Window}
+use Rattle.protocol.specs.Judge.{labelTest, lengthsTest, lengthTest, test, chain, firstOf, judged, isEmpty}
+use Rattle.protocol.proofs.model.Base.{has}
 use Rattle.protocol.proofs.model.Model as model
-use Rattle.protocol.proofs.model.Model.{Row, Model, Plain, Stored, dty, opn, blk, revived, reopened, Same, same-path}
+use Rattle.protocol.proofs.model.Model.{Row, Plain, Stored, dty, opn, blk, revived, reopened, same-path}
 use Rattle.protocol.proofs.model.Rows.{opn-valid}
 use Rattle.protocol.proofs.Windows.{nums, has-nums, empty-nums}
 use Rattle.protocol.proofs.Flags.{rowOf}
 use Rattle.protocol.proofs.Tables.{rowAt, rowAt-out, Rows}
 use Rattle.protocol.proofs.Metas.{length-metas}
 use Rattle.protocol.proofs.Entries.{length-rows, rows-block, rows-flags, LegalEntry, legal-entry, SameEntry, same-entry, ent-in, recovered-row, recovered-legal, each-legal, stamps-differ, none-twice, all-open}
-use Rattle.protocol.proofs.Judged.{NoneHold, first-none}
+use Rattle.protocol.proofs.Judged.{first-none}
 use Rattle.protocol.proofs.Performed.{phase-empty}
-use Rattle.protocol.proofs.Abstract.{Core, phaseFor, boxOfCore, entAt, abs, Pages, ImagesKept, Shape}
+use Rattle.protocol.proofs.Abstract.{Core, boxOfCore, entAt, abs, ImagesKept, Shape}
 
 revived-free : (h : Bool) → revived h Row.free ≡ Row.free
 revived-free true = refl

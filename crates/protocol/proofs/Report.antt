@@ -1,22 +1,21 @@
 -- What a run of the definitions shows, for the computed cases: each event's answer, store and phase, then the whole box, and
 -- what its blocks read as.
-use Prim.Native.Nat.{ℕ, zero, suc, _+_, _-_, _*_}
-use mathlib.Core.Path.{_≡_}
+use Prim.Native.Nat.{ℕ, zero, suc, _-_}
 use mathlib.Core.Bool.{true, false}
 use mathlib.Core.List.{List, [], _∷_, _++_}
 use mathlib.Core.Option.{Option, some, none}
 use lib.ListN.{length, replicate}
 use lib.Dec.{eqb, leb}
 use Rattle.pages.specs.Pages.{padded}
-use Rattle.layout.specs.declared.Slot.{Slot}
 use Rattle.layout.specs.declared.Block.{Block}
 use Rattle.layout.specs.declared.Label.{Label}
-use Rattle.layout.specs.Places.{metaPages, ssdLength, tableLength}
-use Rattle.protocol.specs.declared.Record.{Record}
-use Rattle.protocol.specs.declared.Phase.{Phase}
-use Rattle.protocol.specs.declared.Phase.the-variants.{Recovering}
+use Rattle.layout.specs.Places.{labelOf, metaPages, ssdLength, tableLength}
+use Rattle.record.specs.Record.{recordWith}
+use Rattle.record.specs.declared.Record.{Record}
+use Rattle.record.specs.declared.Phase.{Phase}
+use Rattle.record.specs.declared.Phase.the-variants.{Recovering}
 use Rattle.protocol.specs.Paper.{Paper}
-use Rattle.protocol.specs.Box.{Images, Box, Image, ssdImage, hddImage, Store, Effect}
+use Rattle.protocol.specs.Box.{Box, Image, ssdImage, hddImage, Store, Effect}
 use Rattle.protocol.specs.Plan.{reopen}
 use Rattle.protocol.specs.Calls.{effectOf}
 use Rattle.protocol.specs.Events.{World, Junk, Event, call, reopens, cut, readOf, handed, struck, apply, run, formatted, startOf}
@@ -95,16 +94,8 @@ diskOf l = diskFrom 64 (l .blocks)
 abbrev pub rubbish : Label → Junk
 rubbish l = record {
   table = replicate (tableLength l) 4294967295;
-  state = record {
-    slots = 0;
-    blocks = 16777217;
-    hand = record { 0 = 57600 };
-    newest = 4294967295;
-    phase = Recovering;
-    unconfirmed = true;
-    window = replicate 63 (record { 0 = 57601 });
-    count = 64;
-  };
+  state = recordWith (labelOf 0 16777217) (record { 0 = 57600 }) 4294967295 Recovering true
+      (record { slots = replicate 63 (record { 0 = 57601 }); count = 64 });
 }
 
 -- "Cut means: lose record and table, reopen, mend": the first two; the steps of mending follow it in the scripts

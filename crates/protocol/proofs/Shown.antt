@@ -6,25 +6,22 @@ use mathlib.Core.Path.{_≡_, refl, _∙_}
 use mathlib.Core.Bool.{Bool, true, false}
 use mathlib.Core.List.{List, [], _∷_, _++_}
 use mathlib.Core.Option.{Option, some, none}
-use lib.ListN.{replicate, set}
+use lib.ListN.{replicate}
 use Rattle.layout.specs.declared.Slot.{Slot}
-use Rattle.layout.specs.declared.Block.{Block}
-use Rattle.layout.specs.declared.Label.{Label}
-use Rattle.layout.specs.Places.{labelOf}
-use Rattle.protocol.specs.declared.Record.{Record}
-use Rattle.protocol.specs.declared.Phase.{Phase}
-use Rattle.protocol.specs.declared.Phase.the-variants.{Formatting, Recovering, Ready}
+use Rattle.record.specs.declared.Record.{Record}
+use Rattle.record.specs.declared.Phase.{Phase}
+use Rattle.record.specs.declared.Phase.the-variants.{Formatting, Recovering, Ready}
 use Rattle.protocol.specs.Paper.{Paper, refusal, announced, overwrite, copiedOut, inSlot, onDisk, nothingToDo, done}
-use Rattle.protocol.specs.Rows.{recordOf}
-use Rattle.protocol.specs.Box.{Images, Box, Image, ssdImage, hddImage, Store, Effect, refusing}
-use Rattle.protocol.specs.Plan.{Call, format, step, flush, reopen, offer, land, fetch, landFetch, lookUp, view, writeBack, plan}
-use Rattle.protocol.specs.Recovery.{Recovered, recoverFrom}
-use Rattle.protocol.specs.Perform.{perform}
-use Rattle.protocol.specs.Judge.{Reason, windowFull, allOpen, labelFor, lengthsTest, lengthTest, test, judged}
+use Rattle.record.specs.Record.{recordOf}
+use Rattle.protocol.specs.Box.{Box, Image, ssdImage, hddImage, Store, Effect, refusing}
+use Rattle.protocol.specs.Plan.{Call, format, step, flush, reopen, offer, land, fetch, landFetch, lookUp, view, writeBack}
+use Rattle.protocol.specs.Recovery.{Recovered}
+use Rattle.protocol.specs.Judge.{windowFull, allOpen, labelFor, lengthsTest, lengthTest, judged}
 use Rattle.protocol.specs.Calls.{effectOf}
-use Rattle.protocol.specs.Events.{World, Event, call}
-use Rattle.protocol.proofs.Report.{nothing, label, meta, slot, block, line, Report, report, diskOf, lost, unformatted, start, filled, metaPage, labelPage, pages}
-use Rattle.protocol.proofs.Known.{sameLabel, effectKnown, effect-known, known}
+use Rattle.protocol.specs.Events.{call}
+use Rattle.protocol.proofs.Report.{nothing, label, meta, slot, block, line, diskOf, lost, start, filled, metaPage, labelPage, pages}
+use Rattle.layout.proofs.PlaceLaws.{sameLabel}
+use Rattle.protocol.proofs.Known.{effectKnown, effect-known, known}
 use Rattle.protocol.proofs.QuickRows.{walked, bothWalked, quickTest, quickRecover, quick-recover}
 use Rattle.protocol.proofs.Cases.{Script, scripted, Case, script, Computed, shows, recovery, effect, move, condition, Holds, AllHold, _also_, usual, one, two, many, textOf, fresh, start-one, start-two, sized-one, sized-two}
 

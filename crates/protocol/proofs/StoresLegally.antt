@@ -1,8 +1,8 @@
 -- Every metadata page that an accepted call stores keeps the page's rule, and says table, window and stamp.
-use Prim.Native.Nat.{ℕ, zero, suc, _+_, _-_, _*_, _/_, _%_, _^_, _≤_, _<_}
+use Prim.Native.Nat.{ℕ, zero, suc, _+_, _-_, _*_, _/_, _^_, _<_}
 use mathlib.Core.Path.{_≡_, refl, sym, ap, subst, _∙_}
 use mathlib.Core.Logic.{_≢_}
-use mathlib.Core.Bool.{Bool, true, false, not, _&&_, _||_}
+use mathlib.Core.Bool.{Bool, true, false, not, _&&_}
 use mathlib.Core.List.{List, [], _∷_, _++_}
 use mathlib.Core.Option.{Option, some, none}
 use native.Mathlib.Omega.{arith}
@@ -17,28 +17,31 @@ use Rattle.layout.specs.LabelPage.{encodeLabel}
 use Rattle.layout.specs.MetaPage.{encodeMeta, rowsOn}
 use Rattle.layout.specs.PageRule.{listed}
 use Rattle.layout.proofs.RuleLaws.{page-rule}
-use Rattle.protocol.specs.declared.Record.{Record}
-use Rattle.protocol.specs.declared.Phase.{Phase}
-use Rattle.protocol.specs.declared.Phase.the-variants.{Formatting, Recovering, Ready}
+use Rattle.record.specs.declared.Record.{Record}
+use Rattle.record.specs.declared.Phase.{Phase}
+use Rattle.record.specs.declared.Phase.the-variants.{Formatting, Recovering, Ready}
 use Rattle.protocol.specs.declared.Condition.{Condition}
 use Rattle.protocol.specs.declared.Condition.the-variants.{NotCached, Clean, Dirty, Writing, Fetching}
-use Rattle.protocol.specs.Paper.{Paper, refused, announced, done}
-use Rattle.protocol.specs.Rows.{rowFlags, setRow, valid, dirty, writing, withWriting, labelIn, windowIn, withHand, withPhase, withStamp, withWindow}
-use Rattle.protocol.specs.Box.{Images, Box, Image, ssdImage, hddImage, Store, Effect, Result, left, boxAfter}
+use Rattle.protocol.specs.Paper.{Paper, announced, done}
+use Rattle.protocol.specs.Rows.{rowFlags, setRow, valid, dirty, writing, withWriting}
+use Rattle.record.specs.Record.{labelIn, windowIn, withHand, withPhase, withStamp, largestStamp}
+use Rattle.protocol.specs.Box.{Box, Image, ssdImage, hddImage, Store, Effect}
 use Rattle.protocol.specs.Condition.{conditionOf}
 use Rattle.protocol.specs.Sweep.{nextSlot, Victim, sweep}
 use Rattle.protocol.specs.Recovery.{offPage}
-use Rattle.protocol.specs.Plan.{Call, format, step, flush, reopen, offer, fetch, landFetch, lookUp, view, writeBack, land, Move, stay, uses, opens, lands, copies, confirms, mends, begins, formats, recovers, takesAs, takes, offering, fetching, landing, landingFetch, lookingUp, writingBack, flushing, lowestPage, stepping, plan, storesMeta}
+use Rattle.protocol.specs.Plan.{Call, format, step, flush, reopen, offer, fetch, landFetch, lookUp, view, writeBack, land, opens, lands, confirms, mends, formats, takesAs, takes, offering, fetching, landing, landingFetch, lookingUp, writingBack, flushing, lowestPage, stepping, plan, storesMeta}
 use Rattle.protocol.specs.Perform.{confirmed, joined, landedAs, mendedAt, formatStore, formatState, perform}
-use Rattle.protocol.specs.Judge.{largestStamp, Reason, eachSlot, isEmpty, agreeTest, openRows, test, judged, isReady}
-use Rattle.protocol.specs.Calls.{decided, effectOf, resultOf}
+use Rattle.protocol.specs.Judge.{Reason, isEmpty, agreeTest, openRows, test, judged, isReady}
+use Rattle.record.specs.Window.{eachSlot}
+use Rattle.protocol.specs.Calls.{decided, effectOf}
 use Rattle.protocol.specs.Beside.{stampStored, MetaStored, StoresLegally}
 use Rattle.layout.proofs.Booleans.{Told, told, told-true, told-false, clash}
 use Rattle.protocol.proofs.model.Base.{Window, keep-window, snoc-window, has, and-left, and-right}
-use Rattle.protocol.proofs.Windows.{nums, length-nums, nums-append, nums-one, nums-off, has-nums, take-array}
-use Rattle.protocol.proofs.Flags.{Flags, f5, f7, LegalRow, Changed, changed-open, changed-row}
-use Rattle.protocol.proofs.Tables.{rowAt, Rows, set-rows, length-row, at-open, at-dirty}
-use Rattle.protocol.proofs.Conditions.{Held, Stands, absent, is-clean, is-dirty, is-writing, is-fetching, stands}
+use Rattle.protocol.proofs.Windows.{nums, nums-append, nums-one, nums-off, has-nums}
+use Rattle.record.proofs.WindowLaws.{take-array}
+use Rattle.protocol.proofs.Flags.{Flags, f5, f7, LegalRow, changed-open, changed-row}
+use Rattle.protocol.proofs.Tables.{Rows, set-rows, length-row, at-open}
+use Rattle.protocol.proofs.Conditions.{Stands, absent, is-clean, is-dirty, is-writing, is-fetching, stands}
 use Rattle.protocol.proofs.Counting.{window-count}
 use Rattle.protocol.proofs.Sweeps.{Alike, alike-same, Swept, took, stuck, swept}
 use Rattle.protocol.proofs.Stores.{page-stamp, page-window, page-entry, page-legal}
@@ -162,7 +165,7 @@ module _ (x : Box) (L : Legal x) (on : x .state .phase ≡ Ready) where
   listed-open : (s : ℕ) → has (nums (windowIn (x .state))) s ≡ true
       → (2 * s + 1 < length (x .table)) × (writing (getD (x .table) (2 * s + 1) 0) ≡ true)
   listed-open s h =
-      let i : s < x .state .slots = below-get (x .state .slots) (nums (windowIn (x .state))) (L .window-rule .in-slots) s h in (
+      let i : s < x .state .label .slots = below-get (x .state .label .slots) (nums (windowIn (x .state))) (L .window-rule .in-slots) s h in (
         omega (arith, L .table-size),
         slots-get (λ u. writing (rowFlags (x .table) u)) (windowIn (x .state))
             (and-left (eachSlot (λ u. writing (rowFlags (x .table) u)) (windowIn (x .state))) _ agreed) s
@@ -184,7 +187,7 @@ module _ (x : Box) (L : Legal x) (on : x .state .phase ≡ Ready) where
   unfolding windowIn
   joined-window s hand = take-array (windowIn (x .state) ++ (record { 0 = s } ∷ []))
 
-  opens-stores : (s b f : ℕ) (v : List ℕ) (hand : Slot) → s < x .state .slots → Alike lab (x .table) v → LegalRow lab b f
+  opens-stores : (s b f : ℕ) (v : List ℕ) (hand : Slot) → s < x .state .label .slots → Alike lab (x .table) v → LegalRow lab b f
       → writing (getD (x .table) (2 * s + 1) 0) ≡ false
       → openRows (x .table) < 63 → x .state .newest < largestStamp - 63
       → Stores lab (x .state .phase) (perform (opens (record { 0 = s }) (record { 0 = b }) f v hand) x)
@@ -192,11 +195,11 @@ module _ (x : Box) (L : Legal x) (on : x .state .phase ≡ Ready) where
   opens-stores s b f v hand low T R w few left-over =
       confirmed-stores lab (L .limits) (joined (record { 0 = s }) hand (x .state)) refl (setRow v (record { 0 = s }) (record { 0 = b }) f)
       (length-row lab v (T .size) s b f low) (set-rows lab v (T .size) s b f low (T .legal) R) (omega arith)
-      (subst (λ (z : List Slot). Window (x .state .slots) (nums z)) (sym (joined-window s hand))
-      (subst (λ (z : List ℕ). Window (x .state .slots) z)
+      (subst (λ (z : List Slot). Window (x .state .label .slots) (nums z)) (sym (joined-window s hand))
+      (subst (λ (z : List ℕ). Window (x .state .label .slots) z)
       (sym (nums-append (windowIn (x .state)) (record { 0 = s } ∷ [])
       ∙ ap (λ (z : List ℕ). nums (windowIn (x .state)) ++ z) (nums-one (record { 0 = s }))))
-      (snoc-window (x .state .slots) (nums (windowIn (x .state))) s low (not-listed s w) (room few) (L .window-rule))))
+      (snoc-window (x .state .label .slots) (nums (windowIn (x .state))) s low (not-listed s w) (room few) (L .window-rule))))
       (x .state .phase) serving (s / 240) (announced (record { 0 = s }))
 
   confirms-stores : x .state .newest < largestStamp → Stores lab (x .state .phase) (perform confirms x)
@@ -205,7 +208,7 @@ module _ (x : Box) (L : Legal x) (on : x .state .phase ≡ Ready) where
       (x .state .phase) serving 0 done
 
   -- a sweep
-  takes-stores : (b f : ℕ) → b < x .state .blocks → LegalRow lab b f → openRows (x .table) < 63 → {o : Option Victim}
+  takes-stores : (b f : ℕ) → b < x .state .label .blocks → LegalRow lab b f → openRows (x .table) < 63 → {o : Option Victim}
       → Swept lab (x .table) o
       → (storesMeta (takes lab (record { 0 = b }) f o) && leb (largestStamp - 63) (x .state .newest)) ≡ false
       → Stores lab (x .state .phase) (perform (takes lab (record { 0 = b }) f o) x)
@@ -222,14 +225,14 @@ module _ (x : Box) (L : Legal x) (on : x .state .phase ≡ Ready) where
       ∙ at-open lab (v .table) (T .legal) (v .slot .0) low ∙ shut)
       few (leb-false _ _ spent))
 
-  row-of : (b : ℕ) {f : ℕ} → Flags f → valid f ≡ true → b < x .state .blocks → LegalRow lab b f
+  row-of : (b : ℕ) {f : ℕ} → Flags f → valid f ≡ true → b < x .state .label .blocks → LegalRow lab b f
   row-of b k v h = record { flags = k; low = λ _. h; free = λ e. clash v e }
 
   sweep-here : Swept lab (x .table) (sweep lab (x .table) (x .state .hand))
-  sweep-here = swept (2 * x .state .slots) lab (x .table) (x .table) (alike-same lab (x .table) (L .table-size) (L .rows))
+  sweep-here = swept (2 * x .state .label .slots) lab (x .table) (x .table) (alike-same lab (x .table) (L .table-size) (L .rows))
       (x .state .hand) (L .hand-low)
 
-  offer-stores : (b : Block) → b .0 < x .state .blocks → {z : Condition} → Stands lab (x .table) (b .0) z
+  offer-stores : (b : Block) → b .0 < x .state .label .blocks → {z : Condition} → Stands lab (x .table) (b .0) z
       → (not (Rattle.protocol.specs.Judge.takesWrite z) && leb 63 (openRows (x .table))) ≡ false
       → (storesMeta (offering x b z) && leb (largestStamp - 63) (x .state .newest)) ≡ false
       → Stores lab (x .state .phase) (perform (offering x b z) x)
@@ -245,7 +248,7 @@ module _ (x : Box) (L : Legal x) (on : x .state .phase ≡ Ready) where
   offer-stores b bl (is-writing s H w d) full spent = λ s g. no-store g
   offer-stores b bl (is-fetching s H w d) full spent = λ s g. no-store g
 
-  fetch-stores : (b : Block) → b .0 < x .state .blocks → {z : Condition} → Stands lab (x .table) (b .0) z
+  fetch-stores : (b : Block) → b .0 < x .state .label .blocks → {z : Condition} → Stands lab (x .table) (b .0) z
       → leb 63 (openRows (x .table)) ≡ false
       → (storesMeta (fetching x b z) && leb (largestStamp - 63) (x .state .newest)) ≡ false
       → Stores lab (x .state .phase) (perform (fetching x b z) x)
@@ -321,9 +324,9 @@ module _ (x : Box) (L : Legal x) where
   mends-stores on n =
       let q : ℕ = lowestPage (windowIn (x .state)) in
       confirmed-stores (labelIn (x .state)) (L .limits) (mendedAt q (x .state)) refl (x .table) (L .table-size) (L .rows) n
-      (subst (λ (z : List Slot). Window (x .state .slots) (nums z)) (sym (mended-window q))
-      (subst (λ (z : List ℕ). Window (x .state .slots) z) (sym (nums-off q (windowIn (x .state))))
-      (keep-window _ (x .state .slots) (nums (windowIn (x .state))) (L .window-rule))))
+      (subst (λ (z : List Slot). Window (x .state .label .slots) (nums z)) (sym (mended-window q))
+      (subst (λ (z : List ℕ). Window (x .state .label .slots) z) (sym (nums-off q (windowIn (x .state))))
+      (keep-window _ (x .state .label .slots) (nums (windowIn (x .state))) (L .window-rule))))
       (x .state .phase) (rw on recovering) q done
 
   -- while formatting nothing is open

@@ -1,25 +1,19 @@
 -- Windows of slots, as the model's lists of numbers.
-use Prim.Native.Nat.{ℕ, zero, suc, _+_, _-_, _/_, _≤_, _<_}
+use Prim.Native.Nat.{ℕ, suc, _/_, _≤_}
 use mathlib.Core.Path.{_≡_, refl, sym, ap, _∙_}
-use mathlib.Core.Logic.{_≢_}
-use mathlib.Core.Bool.{Bool, true, false, cond, not, _&&_, _||_}
+use mathlib.Core.Bool.{Bool, true, false, cond, not}
 use mathlib.Core.List.{List, [], _∷_, _++_}
-use native.Mathlib.Omega.{arith}
-use lib.ListN.{length, take, drop, replicate, length-append, length-replicate}
-use lib.Seq.{take-at, drop-at}
-use lib.Dec.{eqb, ltb}
+use lib.ListN.{length}
+use lib.Dec.{eqb}
 use Rattle.layout.specs.declared.Slot.{Slot}
 use Rattle.layout.specs.declared.Label.{Label}
-use Rattle.layout.specs.Places.{metaOf}
 use Rattle.layout.specs.PageRule.{listed, distinct, inRange}
-use Rattle.protocol.specs.declared.Record.{Record}
-use Rattle.protocol.specs.declared.Phase.{Phase}
-use Rattle.protocol.specs.Rows.{windowIn, arrayOf, recordOf, withWindow, without}
+use Rattle.record.specs.Window.{without}
 use Rattle.protocol.specs.Recovery.{offPage}
-use Rattle.protocol.specs.Judge.{zeroSlots, isEmpty}
+use Rattle.protocol.specs.Judge.{isEmpty}
 use Rattle.protocol.proofs.model.Base as base
 use Rattle.layout.proofs.Booleans.{Told, told, told-true, told-false, clash}
-use Rattle.protocol.proofs.model.Base.{has, keep, off, metaNo, Window, eqb-same, eqb-is, eqb-other, and-left, and-right, not-true, keep-window}
+use Rattle.protocol.proofs.model.Base.{has, keep, off, metaNo, Window, eqb-same, eqb-is, eqb-other, and-left, and-right, not-true}
 
 -- the numbers of a window
 unfoldable pub nums : List Slot → List ℕ
@@ -92,33 +86,6 @@ nums-without s (t ∷ w) d = go (told (eqb (t .0) (s .0))) (nums-without s w (an
         (has-nums w (t .0) ∙ not-true (listed t w) (and-left (not (listed t w)) (distinct w) d)) in
         rw e (sym (keep-all (nums w) (s .0) k))
     go (told-false e) ih = rw e (ap (λ (l : List ℕ). t .0 ∷ l) ih)
-
-pub length-without : (s : Slot) (w : List Slot) → length (without s w) ≤ length w
-unfolding without
-length-without s [] = omega arith
-length-without s (t ∷ w) = go (eqb (t .0) (s .0)) (length-without s w)
-  where
-    go : (b : Bool) → length (without s w) ≤ length w → length {A = Slot} (elim b [ true ↦ w | false ↦ t ∷ without s w ]) ≤ suc (length w)
-    go true h = omega arith
-    go false h = omega arith
-
--- a window put into a record reads back
-pub take-array : (w : List Slot) → take (length w) (arrayOf w) ≡ w
-unfolding arrayOf
-take-array w = take-at w _ (length w) refl
-
-pub length-array : (w : List Slot) → length w ≤ 63 → length (arrayOf w) ≡ 63
-unfolding arrayOf
-length-array w h = length-append w _ ∙ rw length-replicate (omega arith)
-
-zero-slots : (n : ℕ) → zeroSlots (replicate n (record { 0 = 0 })) ≡ true
-unfolding zeroSlots
-zero-slots zero = refl
-zero-slots (suc n) = zero-slots n
-
-pub zero-past : (w : List Slot) → zeroSlots (drop (length w) (arrayOf w)) ≡ true
-unfolding arrayOf
-zero-past w = rw (drop-at w (replicate (63 - length w) (record { 0 = 0 })) (length w) refl) (zero-slots (63 - length w))
 
 -- the model's window rule, from the tests
 pub window-of : (l : Label) (w : List Slot) → length w ≤ 63 → distinct w ≡ true → inRange l w ≡ true → Window (l .slots) (nums w)

@@ -1,6 +1,5 @@
 -- Why a call says no: each test says what document 01 says, and each number is used exactly there.
 pub mod Basics
-pub mod Each
 pub mod Records
 pub mod RowsRules
 pub mod PagesRules

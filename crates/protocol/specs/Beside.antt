@@ -1,30 +1,28 @@
 -- What holds beside demand 3.
-use Prim.Native.Nat.{ℕ, zero, suc, _+_, _*_, _%_, _≤_, _<_}
+use Prim.Native.Nat.{ℕ, _+_, _%_, _≤_, _<_}
 use mathlib.Core.Path.{_≡_}
 use mathlib.Core.Logic.{_≢_}
-use mathlib.Core.Bool.{Bool, true, false}
+use mathlib.Core.Bool.{true, false}
 use mathlib.Core.List.{List}
 use mathlib.Core.Option.{Option, some, none}
-use lib.ListN.{getD}
 use Rattle.layout.specs.declared.Slot.{Slot}
 use Rattle.layout.specs.declared.Block.{Block}
 use Rattle.layout.specs.declared.Label.{Label}
-use Rattle.layout.specs.declared.Entry.{Entry}
 use Rattle.layout.specs.Places.{labelOf, formatSteps, metaPages, metaPlace, slotOn}
 use Rattle.layout.specs.MetaPage.{stampOf, windowOf, entryAt}
 use Rattle.layout.specs.PageRule.{PageRule, listed}
-use Rattle.protocol.specs.declared.Record.{Record}
-use Rattle.protocol.specs.declared.Phase.{Phase}
-use Rattle.protocol.specs.declared.Phase.the-variants.{Formatting, Recovering, Ready}
-use Rattle.protocol.specs.declared.Condition.{Condition}
-use Rattle.protocol.specs.declared.Condition.the-variants.{NotCached, Clean, Dirty, Writing, Fetching}
+use Rattle.record.specs.declared.Record.{Record}
+use Rattle.record.specs.declared.Phase.{Phase}
+use Rattle.record.specs.declared.Phase.the-variants.{Formatting, Recovering, Ready}
+use Rattle.protocol.specs.declared.Condition.the-variants.{Dirty, Writing, Fetching}
 use Rattle.protocol.specs.Paper.{refused, copiedOut, done}
-use Rattle.protocol.specs.Rows.{rowBlock, rowFlags, valid, dirty, writing, labelIn, windowIn}
+use Rattle.protocol.specs.Rows.{rowBlock, rowFlags, valid, dirty, writing}
+use Rattle.record.specs.Record.{labelIn, windowIn}
 use Rattle.protocol.specs.Box.{Images, Box, ssdImage, Store, Effect, refusing, boxAfter}
 use Rattle.protocol.specs.Condition.{conditionOf}
 use Rattle.protocol.specs.Plan.{Call, format, step, reopen, offer, land, landFetch}
 use Rattle.protocol.specs.Recovery.{labelAt, metasOf, entryIn, Recovered, recoverFrom}
-use Rattle.protocol.specs.Judge.{Reason, noLabel, wrongLength, test, isReady}
+use Rattle.protocol.specs.Judge.{noLabel, wrongLength, test}
 use Rattle.protocol.specs.Calls.{effectOf, resultOf}
 use Rattle.protocol.specs.Events.{World, Event, run, steps, formatted, startOf, AllFit}
 use Rattle.protocol.specs.Demand3.{storedWindow}

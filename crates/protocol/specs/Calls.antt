@@ -3,15 +3,14 @@ use Prim.Native.Nat.{ℕ}
 use mathlib.Core.List.{List, []}
 use mathlib.Core.Option.{Option, some, none}
 use Rattle.pages.specs.Parts.{Part, pagePart}
-use Rattle.layout.specs.declared.Slot.{Slot}
 use Rattle.layout.specs.declared.Block.{Block}
 use Rattle.layout.specs.declared.Label.{Label}
 use Rattle.layout.specs.Places.{dataPlace, blockPlace}
-use Rattle.protocol.specs.declared.Record.{Record}
+use Rattle.record.specs.declared.Record.{Record}
 use Rattle.protocol.specs.declared.Condition.{Condition}
 use Rattle.protocol.specs.declared.Condition.the-variants.{NotCached, Clean, Dirty, Writing, Fetching}
-use Rattle.protocol.specs.Rows.{labelIn}
-use Rattle.protocol.specs.Box.{Images, Box, Effect, Result, refusing, left}
+use Rattle.record.specs.Record.{labelIn}
+use Rattle.protocol.specs.Box.{Box, Effect, Result, refusing, left}
 use Rattle.protocol.specs.Condition.{conditionOf}
 use Rattle.protocol.specs.Plan.{Call, format, step, flush, reopen, offer, fetch, landFetch, lookUp, view, writeBack, land, plan}
 use Rattle.protocol.specs.Perform.{perform}

@@ -1,8 +1,8 @@
 -- Demand 3: the claim about every list of calls, cuts and reopenings.
-use Prim.Native.Nat.{ℕ, zero, suc, _≤_, _<_}
+use Prim.Native.Nat.{ℕ, _≤_, _<_}
 use mathlib.Core.Path.{_≡_}
 use mathlib.Core.Logic.{_≢_}
-use mathlib.Core.Bool.{Bool, true, false, not, _&&_}
+use mathlib.Core.Bool.{Bool, true, false, not}
 use mathlib.Core.List.{List, [], _∷_}
 use mathlib.Core.Option.{Option, some, none}
 use lib.ListN.{length}
@@ -11,21 +11,18 @@ use Rattle.pages.specs.Pages.{pageAt}
 use Rattle.layout.specs.declared.Slot.{Slot}
 use Rattle.layout.specs.declared.Block.{Block}
 use Rattle.layout.specs.declared.Label.{Label}
-use Rattle.layout.specs.Places.{withinLimits, labelOf, dataPlace, blockPlace, ssdLength, hddLength, tableLength}
+use Rattle.layout.specs.Places.{labelOf, dataPlace, blockPlace, tableLength}
 use Rattle.layout.specs.PageRule.{listed}
-use Rattle.protocol.specs.declared.Record.{Record}
-use Rattle.protocol.specs.declared.Phase.{Phase}
-use Rattle.protocol.specs.declared.Phase.the-variants.{Formatting, Recovering, Ready}
 use Rattle.protocol.specs.Paper.{Paper, refusal, answer, refused, inSlot}
-use Rattle.protocol.specs.Rows.{rowBlock, rowFlags, valid, dirty, writing, labelIn}
-use Rattle.protocol.specs.Box.{Images, Box, Result, boxAfter}
+use Rattle.protocol.specs.Rows.{rowBlock, rowFlags, valid, dirty, writing}
+use Rattle.protocol.specs.Box.{Images, Box}
 use Rattle.protocol.specs.Condition.{slotOf}
 use Rattle.protocol.specs.Plan.{Call, format, step, flush, reopen, lookUp}
 use Rattle.protocol.specs.Recovery.{metasOf, entryIn, newestOf, storedRows}
 use Rattle.protocol.specs.Judge.{isReady}
 use Rattle.protocol.specs.Calls.{resultOf, viewOf}
-use Rattle.protocol.specs.ReferenceDisk.{Disk, MayBe}
-use Rattle.protocol.specs.Events.{World, Junk, Arrival, Event, call, reopens, cut, called, handed, reopened, struck, lent, readOf, finished, apply, run, steps, formatted, startOf, AllFit, Fits}
+use Rattle.protocol.specs.ReferenceDisk.{MayBe}
+use Rattle.protocol.specs.Events.{World, Junk, Arrival, Event, call, reopens, cut, handed, reopened, struck, lent, readOf, finished, apply, run, steps, formatted, startOf, AllFit, Fits}
 
 -- the newest stored window: "the largest stamp's"
 abbrev pub storedWindow : Label → Images → List Slot

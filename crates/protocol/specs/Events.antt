@@ -10,9 +10,9 @@ use Rattle.pages.specs.Parts.{Part}
 use Rattle.layout.specs.declared.Block.{Block}
 use Rattle.layout.specs.declared.Label.{Label}
 use Rattle.layout.specs.Places.{labelOf, blockPlace, formatSteps, tableLength}
-use Rattle.protocol.specs.declared.Record.{Record}
+use Rattle.record.specs.declared.Record.{Record}
 use Rattle.protocol.specs.Paper.{refused}
-use Rattle.protocol.specs.Box.{Images, Box, Store, applied, Effect, Result, boxAfter}
+use Rattle.protocol.specs.Box.{Images, Box, Store, applied, Result, boxAfter}
 use Rattle.protocol.specs.Plan.{Call, format, step, flush, reopen, offer, fetch, landFetch, lookUp, view, writeBack, land}
 use Rattle.protocol.specs.Judge.{isReady}
 use Rattle.protocol.specs.Calls.{effectOf, resultOf, viewOf}

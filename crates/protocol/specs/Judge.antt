@@ -1,9 +1,9 @@
 -- Why a call says no: one test for each number of document 01's table, and each call's chain of them, "Least number first".
-use Prim.Native.Nat.{ℕ, zero, suc, _+_, _-_, _*_, _/_, _%_}
+use Prim.Native.Nat.{ℕ, zero, suc, _-_, _%_}
 use mathlib.Core.Bool.{Bool, true, false, not, _&&_, _||_}
 use mathlib.Core.List.{List, [], _∷_}
 use mathlib.Core.Option.{Option, some, none}
-use lib.ListN.{length, drop}
+use lib.ListN.{length}
 use lib.Dec.{eqb, ltb, leb}
 use Rattle.pages.specs.Pages.{pageAt}
 use Rattle.layout.specs.declared.Slot.{Slot}
@@ -11,23 +11,22 @@ use Rattle.layout.specs.declared.Block.{Block}
 use Rattle.layout.specs.declared.Label.{Label}
 use Rattle.layout.specs.declared.LabelRead.{LabelRead}
 use Rattle.layout.specs.declared.LabelRead.the-variants.{Legal, Illegal}
-use Rattle.layout.specs.Places.{labelOf, withinLimits, metaPages, labelPlace, ssdLength, hddLength, tableLength}
+use Rattle.layout.specs.Places.{labelOf, withinLimits, labelPlace, ssdLength, hddLength, tableLength}
 use Rattle.layout.specs.LabelPage.{decodeLabel}
-use Rattle.layout.specs.PageRule.{pairTest, listed, distinct, inRange}
-use Rattle.protocol.specs.declared.Record.{Record}
-use Rattle.protocol.specs.declared.Phase.{Phase}
-use Rattle.protocol.specs.declared.Phase.the-variants.{Formatting, Recovering, Ready}
+use Rattle.layout.specs.PageRule.{pairTest, listed}
+use Rattle.record.specs.declared.Record.{Record}
+use Rattle.record.specs.declared.Phase.{Phase}
+use Rattle.record.specs.declared.Phase.the-variants.{Formatting, Recovering, Ready}
 use Rattle.protocol.specs.declared.Condition.{Condition}
 use Rattle.protocol.specs.declared.Condition.the-variants.{NotCached, Clean, Dirty, Writing, Fetching}
-use Rattle.protocol.specs.Rows.{rowBlock, rowFlags, valid, writing, used, labelIn, windowIn}
+use Rattle.protocol.specs.Rows.{rowBlock, rowFlags, valid, writing, used}
+use Rattle.record.specs.Window.{eachSlot}
+use Rattle.record.specs.Record.{largestStamp, labelIn, windowIn}
+use Rattle.record.specs.Rule.{recordTest}
 use Rattle.protocol.specs.Box.{Images, Box}
 use Rattle.protocol.specs.Condition.{conditionOf}
 use Rattle.protocol.specs.Plan.{Call, format, step, flush, reopen, offer, fetch, landFetch, lookUp, view, writeBack, land, plan, storesMeta}
 use Rattle.protocol.specs.Recovery.{labelAt, metasOf, pagesTest}
-
--- the largest stamp
-abbrev pub largestStamp : ℕ
-largestStamp = 4294967295
 
 -- the rows of document 01's table
 pub data Reason : Type 0 where
@@ -85,25 +84,6 @@ isLabel Illegal = false
 unfoldable pub labelTest : List ℕ → Bool
 labelTest ssd = leb 4096 (length ssd) && isLabel (decodeLabel (pageAt ssd labelPlace))
 
--- 3: "a record number out of range, window repeated or not zero past its length" (the window is an array of 63)
-abbrev pub stepsTest : Label → Phase → Bool
-stepsTest l (Formatting d) = leb d (metaPages l + 1)
-stepsTest l Recovering = true
-stepsTest l Ready = true
-
-unfoldable pub zeroSlots : List Slot → Bool
-zeroSlots [] = true
-zeroSlots (s ∷ w) = eqb (s .0) 0 && zeroSlots w
-
-unfoldable pub recordTest : Record → Bool
-recordTest r =
-    withinLimits (labelIn r)
-    && (ltb (r .hand .0) (r .slots)
-    && (stepsTest (labelIn r) (r .phase)
-    && (leb (r .count) 63
-    && (eqb (length (r .window)) 63
-    && (inRange (labelIn r) (windowIn r) && (distinct (windowIn r) && zeroSlots (drop (r .count) (r .window))))))))
-
 -- 4: "an image, table or data page of the wrong length"
 abbrev pub pageLengthTest : Call → Bool
 pageLengthTest (format slots blocks) = true
@@ -132,11 +112,6 @@ unfoldable pub eachRow : (ℕ → ℕ → ℕ → Bool) → ℕ → List ℕ →
 eachRow test s [] = true
 eachRow test s (block ∷ []) = true
 eachRow test s (block ∷ flags ∷ rows) = test s block flags && eachRow test (suc s) rows
-
--- a test at each slot of a window
-unfoldable pub eachSlot : (Slot → Bool) → List Slot → Bool
-eachSlot test [] = true
-eachSlot test (s ∷ w) = test s && eachSlot test w
 
 abbrev pub isEmpty : List Slot → Bool
 isEmpty [] = true
@@ -280,7 +255,7 @@ test badRecord c x = not (recordTest (x .state))
 test wrongLength c x = not (lengthTest (labelFor c x) (x .images) (x .table) && pageLengthTest c)
 test badRows c x = not (contentsTest c x)
 test wrongPhase c x = not (phaseTest c (x .state .phase))
-test blockTooHigh c x = leb (x .state .blocks) (blockFor c .0)
+test blockTooHigh c x = leb (x .state .label .blocks) (blockFor c .0)
 test slotOpen c x = isOpen (conditionOf (x .table) (blockFor c))
 test wrongState c x = not (stateTest c (conditionOf (x .table) (blockFor c)))
 test hasSlot c x = isCached (conditionOf (x .table) (blockFor c))

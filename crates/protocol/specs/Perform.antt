@@ -1,23 +1,23 @@
 -- What each move leaves: the answer, the record, the table, and at most one store.
-use Prim.Native.Nat.{ℕ, zero, suc, _+_, _-_}
+use Prim.Native.Nat.{ℕ, zero, suc, _+_}
 use mathlib.Core.Bool.{Bool, true, false}
 use mathlib.Core.List.{List, [], _∷_, _++_}
-use mathlib.Core.Option.{Option, some, none}
-use lib.ListN.{length, replicate}
-use lib.Dec.{eqb, leb}
+use mathlib.Core.Option.{some, none}
+use lib.ListN.{replicate}
+use lib.Dec.{leb}
 use Rattle.pages.specs.Pages.{pageAt, zeroPage}
 use Rattle.layout.specs.declared.Slot.{Slot}
-use Rattle.layout.specs.declared.Block.{Block}
 use Rattle.layout.specs.declared.Label.{Label}
 use Rattle.layout.specs.Places.{metaPages, labelPlace, metaPlace, dataPlace, blockPlace, metaOf, tableLength}
 use Rattle.layout.specs.LabelPage.{encodeLabel}
 use Rattle.layout.specs.MetaPage.{encodeMeta, rowsOn}
-use Rattle.protocol.specs.declared.Record.{Record}
-use Rattle.protocol.specs.declared.Phase.{Phase}
-use Rattle.protocol.specs.declared.Phase.the-variants.{Formatting, Recovering, Ready}
+use Rattle.record.specs.declared.Record.{Record}
+use Rattle.record.specs.declared.Phase.the-variants.{Formatting, Ready}
 use Rattle.protocol.specs.Paper.{Paper, announced, inSlot, done}
-use Rattle.protocol.specs.Rows.{rowBlock, rowFlags, setFlags, setRow, writing, withUsed, withoutWriting, withoutDirty, labelIn, windowIn, recordOf, withHand, withPhase, withStamp, withWindow, without}
-use Rattle.protocol.specs.Box.{Images, Box, ssdImage, hddImage, Store, Effect}
+use Rattle.protocol.specs.Rows.{rowBlock, rowFlags, setFlags, setRow, writing, withUsed, withoutWriting, withoutDirty}
+use Rattle.record.specs.Record.{labelIn, windowIn, recordOf, withHand, withPhase, withStamp, withWindow}
+use Rattle.record.specs.Window.{without}
+use Rattle.protocol.specs.Box.{Box, ssdImage, hddImage, Store, Effect}
 use Rattle.protocol.specs.Recovery.{labelAt, metasOf, recover, phaseOf, offPage}
 use Rattle.protocol.specs.Plan.{Move, stay, uses, opens, lands, copies, confirms, mends, begins, formats, recovers}
 

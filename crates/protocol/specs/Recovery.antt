@@ -1,14 +1,13 @@
 -- What a reopening reads of the metadata pages: the newest window, the rules between pages, the table and the record
 -- (document 01, "Reopen" and the rules under the page table).
-use Prim.Native.Nat.{ℕ, zero, suc, _*_, _%_}
+use Prim.Native.Nat.{ℕ, zero, suc, _%_}
 use mathlib.Core.Bool.{Bool, true, false, not, _&&_, _||_}
-use mathlib.Core.List.{List, [], _∷_, _++_}
+use mathlib.Core.List.{List, [], _∷_}
 use mathlib.Core.Option.{Option, some, none}
-use lib.ListN.{length, getD}
+use lib.ListN.{getD}
 use lib.Dec.{eqb, ltb}
 use Rattle.pages.specs.Pages.{pageAt}
 use Rattle.layout.specs.declared.Slot.{Slot}
-use Rattle.layout.specs.declared.Block.{Block}
 use Rattle.layout.specs.declared.Label.{Label}
 use Rattle.layout.specs.declared.Entry.{Entry}
 use Rattle.layout.specs.declared.LabelRead.{LabelRead}
@@ -17,10 +16,11 @@ use Rattle.layout.specs.Places.{labelOf, metaPages, metaPlace, metaOf, entryOf,
 use Rattle.layout.specs.LabelPage.{decodeLabel}
 use Rattle.layout.specs.MetaPage.{stampOf, windowOf, entryAt, firsts, rowsFrom}
 use Rattle.layout.specs.PageRule.{pageTest, listed}
-use Rattle.protocol.specs.declared.Record.{Record}
-use Rattle.protocol.specs.declared.Phase.{Phase}
-use Rattle.protocol.specs.declared.Phase.the-variants.{Formatting, Recovering, Ready}
-use Rattle.protocol.specs.Rows.{valid, writing, recordOf}
+use Rattle.record.specs.declared.Record.{Record}
+use Rattle.record.specs.declared.Phase.{Phase}
+use Rattle.record.specs.declared.Phase.the-variants.{Recovering, Ready}
+use Rattle.protocol.specs.Rows.{valid, writing}
+use Rattle.record.specs.Record.{recordOf}
 
 -- the label of an SSD image (of one that has none, a label of nothing)
 abbrev pub labelRead : LabelRead → Label

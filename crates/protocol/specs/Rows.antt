@@ -1,15 +1,12 @@
 -- The table's rows, their flags, and the record's window (document 01, "Table in memory" and "Record").
-use Prim.Native.Nat.{ℕ, suc, _+_, _-_, _*_, _/_, _%_}
-use mathlib.Core.Bool.{Bool, true, false, cond, not, _&&_, _||_}
-use mathlib.Core.List.{List, [], _∷_, _++_}
-use lib.ListN.{length, getD, set, take, replicate}
+use Prim.Native.Nat.{ℕ, _+_, _-_, _*_, _/_, _%_}
+use mathlib.Core.Bool.{Bool, cond}
+use mathlib.Core.List.{List}
+use lib.ListN.{getD, set}
 use lib.Dec.{eqb}
 use Rattle.layout.specs.declared.Slot.{Slot}
 use Rattle.layout.specs.declared.Block.{Block}
-use Rattle.layout.specs.declared.Label.{Label}
-use Rattle.layout.specs.Places.{labelOf}
-use Rattle.protocol.specs.declared.Record.{Record}
-use Rattle.protocol.specs.declared.Phase.{Phase}
+use Rattle.record.specs.declared.Record.{Record}
 
 -- "lent 32-bit words, two for each slot: block and flags"
 abbrev pub rowBlock : List ℕ → Slot → Block
@@ -53,83 +50,3 @@ withUsed flags = cond (used flags) flags (flags + 8)
 -- a clean row's flags as it is opened for writing: dirty and writing, too
 abbrev pub withWriting : ℕ → ℕ
 withWriting flags = flags + 6
-
--- the label of a record
-abbrev pub labelIn : Record → Label
-labelIn r = labelOf (r .slots) (r .blocks)
-
--- the record's window: its slots, up to its length
-unfoldable pub windowIn : Record → List Slot
-windowIn r = take (r .count) (r .window)
-
--- a window as the record's array, "zero past its length"
-unfoldable pub arrayOf : List Slot → List Slot
-arrayOf w = w ++ replicate (63 - length w) (record { 0 = 0 })
-
--- a record of a label
-abbrev pub recordOf : Label → Slot → ℕ → Phase → Bool → List Slot → Record
-recordOf l hand newest phase unconfirmed window = record {
-  slots = l .slots;
-  blocks = l .blocks;
-  hand = hand;
-  newest = newest;
-  phase = phase;
-  unconfirmed = unconfirmed;
-  window = arrayOf window;
-  count = length window;
-}
-
--- the record with another hand; with another phase; with the stamp of a metadata store ("it clears unsettled"); with
--- another window and unconfirmed
-abbrev pub withHand : Record → Slot → Record
-withHand r hand = record {
-  slots = r .slots;
-  blocks = r .blocks;
-  hand = hand;
-  newest = r .newest;
-  phase = r .phase;
-  unconfirmed = r .unconfirmed;
-  window = r .window;
-  count = r .count;
-}
-
-abbrev pub withPhase : Record → Phase → Record
-withPhase r phase = record {
-  slots = r .slots;
-  blocks = r .blocks;
-  hand = r .hand;
-  newest = r .newest;
-  phase = phase;
-  unconfirmed = r .unconfirmed;
-  window = r .window;
-  count = r .count;
-}
-
-abbrev pub withStamp : Record → ℕ → Record
-withStamp r newest = record {
-  slots = r .slots;
-  blocks = r .blocks;
-  hand = r .hand;
-  newest = newest;
-  phase = r .phase;
-  unconfirmed = false;
-  window = r .window;
-  count = r .count;
-}
-
-abbrev pub withWindow : Record → Bool → List Slot → Record
-withWindow r unconfirmed window = record {
-  slots = r .slots;
-  blocks = r .blocks;
-  hand = r .hand;
-  newest = r .newest;
-  phase = r .phase;
-  unconfirmed = unconfirmed;
-  window = arrayOf window;
-  count = length window;
-}
-
--- a window without a slot
-unfoldable pub without : Slot → List Slot → List Slot
-without s [] = []
-without s (t ∷ w) = elim (eqb (t .0) (s .0)) [ true ↦ w | false ↦ t ∷ without s w ]

@@ -1,23 +1,24 @@
 -- Why a call says no, in document 01's words: the proposition of each row of its table.
-use Prim.Native.Nat.{ℕ, suc, _+_, _*_, _%_, _≤_, _<_}
+use Prim.Native.Nat.{ℕ, _+_, _*_, _%_, _≤_, _<_}
 use mathlib.Core.Path.{_≡_}
-use mathlib.Core.Logic.{_≢_, _⊎_, _↔_}
-use mathlib.Core.Bool.{Bool, true, false}
+use mathlib.Core.Logic.{_≢_, _⊎_}
+use mathlib.Core.Bool.{true, false}
 use mathlib.Core.List.{List, [], _∷_}
 use lib.ListN.{length, getD}
 use Rattle.pages.specs.Pages.{pageAt}
 use Rattle.layout.specs.declared.Slot.{Slot}
 use Rattle.layout.specs.declared.Block.{Block}
 use Rattle.layout.specs.declared.Label.{Label}
-use Rattle.layout.specs.declared.Entry.{Entry}
-use Rattle.layout.specs.Places.{Limits, labelOf, metaPages, metaPlace, labelPlace, ssdLength, hddLength, tableLength, slotOn}
+use Rattle.layout.specs.Places.{Limits, labelPlace, ssdLength, hddLength, tableLength}
 use Rattle.layout.specs.LabelPage.{encodeLabel}
 use Rattle.layout.specs.MetaPage.{stampOf, countOf, slotAt}
 use Rattle.layout.specs.PageRule.{PageRule, PairRule, listed}
-use Rattle.protocol.specs.declared.Record.{Record}
-use Rattle.protocol.specs.declared.Phase.{Phase}
-use Rattle.protocol.specs.declared.Phase.the-variants.{Formatting, Recovering, Ready}
-use Rattle.protocol.specs.Rows.{rowBlock, rowFlags, valid, dirty, writing, used, labelIn, windowIn}
+use Rattle.record.specs.declared.Record.{Record}
+use Rattle.record.specs.declared.Phase.{Phase}
+use Rattle.record.specs.declared.Phase.the-variants.{Formatting, Recovering, Ready}
+use Rattle.protocol.specs.Rows.{rowBlock, rowFlags, valid, dirty, writing, used}
+use Rattle.record.specs.Record.{labelIn, windowIn}
+use Rattle.record.specs.Rule.{RecordRule}
 use Rattle.protocol.specs.Box.{Images, Box}
 use Rattle.protocol.specs.Plan.{Call, format, step, flush, reopen, offer, fetch, landFetch, lookUp, view, writeBack, land, plan, storesMeta}
 use Rattle.protocol.specs.Recovery.{labelAt, metasOf, entryIn}
@@ -29,17 +30,6 @@ pub record HasLabel (ssd : List ℕ) : Type 0 where
   pub limits : Limits label
   pub whole : 4096 ≤ length ssd
   pub page : pageAt ssd labelPlace ≡ encodeLabel label
-
--- 3: every number of the record in range, the window's slots in range, none repeated, zero past its length
-pub record RecordRule (r : Record) : Type 0 where
-  pub limits : Limits (labelIn r)
-  pub hand : r .hand .0 < r .slots
-  pub steps : (d : ℕ) → r .phase ≡ Formatting d → d ≤ metaPages (labelIn r) + 1
-  pub count : r .count ≤ 63
-  pub array : length (r .window) ≡ 63
-  pub in-range : (k : ℕ) → k < r .count → getD (r .window) k (record { 0 = 0 }) .0 < r .slots
-  pub apart : (k m : ℕ) → k < m → m < r .count → getD (r .window) k (record { 0 = 0 }) .0 ≢ getD (r .window) m (record { 0 = 0 }) .0
-  pub past : (k : ℕ) → r .count ≤ k → getD (r .window) k (record { 0 = 0 }) .0 ≡ 0
 
 -- 4
 abbrev pub PageLength : Call → Type 0
@@ -179,7 +169,7 @@ Why badRecord c x = RecordRule (x .state) → ⊥
 Why wrongLength c x = Lengths (labelFor c x) c (x .images) (x .table) → ⊥
 Why badRows c x = Contents c x → ⊥
 Why wrongPhase c x = RightPhase c (x .state .phase) → ⊥
-Why blockTooHigh c x = x .state .blocks ≤ blockFor c .0
+Why blockTooHigh c x = x .state .label .blocks ≤ blockFor c .0
 Why slotOpen c x = (s : SlotOf (x .table) (blockFor c)) × (writing (rowFlags (x .table) (s .slot)) ≡ true)
 Why wrongState c x = RightState c (x .table) → ⊥
 Why hasSlot c x = SlotOf (x .table) (blockFor c)

@@ -14,16 +14,18 @@ use Rattle.layout.specs.declared.Entry.{Entry}
 use Rattle.layout.specs.declared.Label.{Label}
 use Rattle.layout.specs.MetaPage.{rowsFrom}
 use Rattle.layout.specs.PageRule.{listed, inRange}
-use Rattle.protocol.specs.declared.Record.{Record}
+use Rattle.record.specs.declared.Record.{Record}
 use Rattle.protocol.specs.Rows.{valid, writing, setRow}
 use Rattle.protocol.specs.Recovery.{entryIn, Newest, newestOf, allOpenIn, freeEntry, recovered, recover}
 use Rattle.layout.proofs.Booleans.{Told, told, told-true, told-false, clash}
 use Rattle.protocol.proofs.model.Base.{and-left, and-right, eqb-is}
-use Rattle.protocol.proofs.Windows.{take-array}
-use Rattle.table.proofs.WindowLaws.{window-left, window-end}
-use Rattle.stored.specs.declared.Pending.{Pending}
-use Rattle.stored.specs.Stored.{pendingOf}
-use Rattle.recovery.specs.Fill.{keptEntry, freed, reopenedAs}
+use Rattle.record.proofs.WindowLaws.{take-array, window-left, window-end}
+use Rattle.layout.specs.declared.Window.{Window}
+use Rattle.layout.specs.Window.{slotsIn, windowFrom}
+use Rattle.record.specs.declared.Phase.{Phase}
+use Rattle.record.specs.Record.{recordWith}
+use Rattle.recovery.specs.Fill.{keptEntry, freed}
+use Rattle.recovery.specs.Pending.{phaseAt}
 use Rattle.recovery.proofs.MendLaws.{phase-at}
 
 -- one row more
@@ -156,14 +158,14 @@ unfolding rowsFrom
 rows-none f = refl
 
 -- table and record
-pub recovered-is : (l : Label) (pages : List (List ℕ)) (n : Newest) (stamp : ℕ) (left : Pending) (table : List ℕ) (state : Record)
-    → n ≡ newestOf pages → stamp ≡ newestOf pages .stamp → left ≡ pendingOf (n .window) → inRange l (n .window) ≡ true
+pub recovered-is : (l : Label) (pages : List (List ℕ)) (n : Newest) (stamp : ℕ) (left : Window) (table : List ℕ) (phase : Phase)
+    (state : Record)
+    → n ≡ newestOf pages → stamp ≡ newestOf pages .stamp → left ≡ windowFrom (n .window) → inRange l (n .window) ≡ true
     → allOpenIn pages (n .window) ≡ true
-    → table ≡ freed (take (left .count) (left .window)) (rowsFrom (l .slots) (λ s. keptEntry (entryIn pages (record { 0 = s }))))
-    → state ≡ reopenedAs l stamp (left .window) (left .count)
+    → table ≡ freed (slotsIn left) (rowsFrom (l .slots) (λ s. keptEntry (entryIn pages (record { 0 = s }))))
+    → phase ≡ phaseAt (left .count) → state ≡ recordWith l (record { 0 = 0 }) stamp phase false left
     → record { table = table; state = state } ≡ recover l pages
 unfolding recover
-recovered-is l pages n stamp left table state N S L r o T R =
-    let t : take (left .count) (left .window) ≡ n .window =
-    ap (λ (v : Pending). take (v .count) (v .window)) L ∙ take-array (n .window) in
-    rw (R, T, t, table-recovered l pages (n .window) r o, L, S, phase-at (n .window), N)
+recovered-is l pages n stamp left table phase state N S L r o T P R =
+    let t : slotsIn left ≡ n .window = ap slotsIn L ∙ take-array (n .window) in
+    rw (R, P, T, t, table-recovered l pages (n .window) r o, L, S, phase-at (n .window), N)

@@ -6,7 +6,7 @@ use mathlib.Core.Bool.{Bool, true, false}
 use mathlib.Core.List.{List, [], _∷_, _++_}
 use native.Mathlib.Omega.{arith}
 use native.Mathlib.Numerals.{add-one}
-use lib.ListN.{length, getD, take, drop, replicate, length-take, length-append}
+use lib.ListN.{length, getD, take, drop}
 use lib.Seq.{take-suc}
 use lib.Dec.{eqb, ltb}
 use borrow.Author.Tests.{ltb-true}
@@ -14,27 +14,27 @@ use Rattle.layout.specs.declared.Slot.{Slot}
 use Rattle.layout.specs.declared.Label.{Label}
 use Rattle.layout.specs.Places.{metaPages, metaOf}
 use Rattle.layout.specs.PageRule.{inRange}
-use Rattle.protocol.specs.declared.Record.{Record}
-use Rattle.protocol.specs.declared.Phase.{Phase}
-use Rattle.protocol.specs.declared.Phase.the-variants.{Recovering}
-use Rattle.protocol.specs.Rows.{labelIn, windowIn, arrayOf}
+use Rattle.record.specs.declared.Record.{Record}
+use Rattle.record.specs.declared.Phase.{Phase}
+use Rattle.record.specs.declared.Phase.the-variants.{Recovering}
+use Rattle.record.specs.Record.{labelIn, windowOf, windowIn, withPhase, putWindow}
+use Rattle.layout.specs.Window.{slotsIn, windowFrom}
 use Rattle.protocol.specs.Recovery.{offPage, phaseOf}
 use Rattle.protocol.specs.Plan.{lowestFrom, lowestPage}
 use Rattle.protocol.specs.Perform.{mendedAt}
-use Rattle.protocol.specs.Judge.{recordTest}
+use Rattle.record.specs.Rule.{recordTest}
 use Rattle.protocol.proofs.model.Base.{and-left, and-right}
-use Rattle.table.proofs.RecordLaws.{array-more, kept, window-is, window-length}
-use Rattle.table.proofs.WindowLaws.{window-left, window-end}
+use Rattle.record.proofs.WindowLaws.{take-array, window-left, window-end}
+use Rattle.record.proofs.RecordLaws.{parts, window-is, window-length}
 use Rattle.serving.specs.Moves.{Fits}
-use Rattle.serving.proofs.MoveLaws.{meta-of-low}
-use Rattle.table.specs.Scan.{orElse}
-use Rattle.stored.specs.declared.Pending.{Pending}
-use Rattle.stored.specs.Stored.{pendingOf}
-use Rattle.recovery.specs.Pending.{keptIf, keptOff, lower, phaseAt}
+use Rattle.layout.proofs.PlaceLaws.{meta-of-low}
+use Rattle.layout.specs.Numbers.{choose, least}
+use Rattle.layout.specs.declared.Window.{Window}
+use Rattle.recovery.specs.Pending.{moreIf, moreOff, phaseAt}
 
 -- the lowest page, by the slots that are left
 module _ (w : List Slot) (n i : ℕ) (d : Slot) (h : i < n) (m : n ≤ length w) where
-  pub lowest-left : (p : ℕ) → lowestFrom p (drop i (take n w)) ≡ lowestFrom (lower p (metaOf (getD w i d))) (drop (i + 1) (take n w))
+  pub lowest-left : (p : ℕ) → lowestFrom p (drop i (take n w)) ≡ lowestFrom (least (metaOf (getD w i d)) p) (drop (i + 1) (take n w))
   unfolding lowestFrom
   lowest-left p = rw (window-left w n i d h m) (go (ltb (metaOf (getD w i d)) p))
     where
@@ -42,7 +42,7 @@ module _ (w : List Slot) (n i : ℕ) (d : Slot) (h : i < n) (m : n ≤ length w)
       rest = drop (i + 1) (take n w)
 
       go : (b : Bool) → elim b [ true ↦ lowestFrom (metaOf (getD w i d)) rest | false ↦ lowestFrom p rest ]
-          ≡ lowestFrom (orElse b (metaOf (getD w i d)) p) rest
+          ≡ lowestFrom (choose b (metaOf (getD w i d)) p) rest
       go true = refl
       go false = refl
 
@@ -54,25 +54,20 @@ pub lowest-end : (w : List Slot) (n i p : ℕ) → n ≤ i → lowestFrom p (dro
 unfolding lowestFrom
 lowest-end w n i p h = rw (window-end w n i h)
 
-abbrev pick : Bool → List Slot → List Slot → List Slot
-pick true v w = v
-pick false v w = w
-
 -- one slot more
 off-more : (p : ℕ) (w : List Slot) (s : Slot)
-    → offPage p (w ++ (s ∷ [])) ≡ pick (eqb (metaOf s) p) (offPage p w) (offPage p w ++ (s ∷ []))
+    → offPage p (w ++ (s ∷ [])) ≡ moreOff p (offPage p w) s
 unfolding offPage
 off-more p [] s = go (eqb (metaOf s) p)
   where
-    go : (b : Bool) → _≡_ {A = List Slot} (elim b [ true ↦ [] | false ↦ s ∷ [] ]) (pick b [] (s ∷ []))
+    go : (b : Bool) → _≡_ {A = List Slot} (elim b [ true ↦ [] | false ↦ s ∷ [] ]) (moreIf b [] s)
     go true = refl
     go false = refl
 off-more p (t ∷ w) s = go (eqb (metaOf t) p) (eqb (metaOf s) p) (off-more p w s)
   where
-    go : (a b : Bool) → offPage p (w ++ (s ∷ [])) ≡ pick b (offPage p w) (offPage p w ++ (s ∷ []))
+    go : (a b : Bool) → offPage p (w ++ (s ∷ [])) ≡ moreIf b (offPage p w) s
         → _≡_ {A = List Slot} (elim a [ true ↦ offPage p (w ++ (s ∷ [])) | false ↦ t ∷ offPage p (w ++ (s ∷ [])) ])
-        (pick b (elim a [ true ↦ offPage p w | false ↦ t ∷ offPage p w ])
-        (elim a [ true ↦ offPage p w | false ↦ t ∷ offPage p w ] ++ (s ∷ [])))
+        (moreIf b (elim a [ true ↦ offPage p w | false ↦ t ∷ offPage p w ]) s)
     go true true e = e
     go true false e = e
     go false true e = ap (λ (v : List Slot). t ∷ v) e
@@ -88,30 +83,19 @@ off-most p (t ∷ w) = go (eqb (metaOf t) p) (off-most p w)
     go true e = omega arith
     go false e = omega arith
 
-pending-more : (w : List Slot) (s : Slot) (p : ℕ) → length w < 63
-    → keptOff (pendingOf w) s p ≡ pendingOf (pick (eqb (metaOf s) p) w (w ++ (s ∷ [])))
-pending-more w s p h = go (eqb (metaOf s) p)
-  where
-    go : (b : Bool) → keptIf b (pendingOf w) s ≡ pendingOf (pick b w (w ++ (s ∷ [])))
-    go true = refl
-    go false = rw (array-more w s h, length-append w (s ∷ []))
+pub off-one : (p : ℕ) (slots : List Slot) (i : ℕ) (d : Slot) → i < length slots
+    → moreOff p (offPage p (take i slots)) (getD slots i d) ≡ offPage p (take (i + 1) slots)
+off-one p slots i d h =
+    sym (off-more p (take i slots) (getD slots i d))
+    ∙ ap (offPage p) (sym (take-suc slots i d h) ∙ ap (λ (m : ℕ). take m slots) (sym (add-one i)))
 
-pub pending-one : (p : ℕ) (window : List Slot) (i : ℕ) (d : Slot) → i < length window → i < 63
-    → keptOff (pendingOf (offPage p (take i window))) (getD window i d) p ≡ pendingOf (offPage p (take (i + 1) window))
-pending-one p window i d h k =
-    let n : length (offPage p (take i window)) < 63 = omega (arith, off-most p (take i window), length-take i window) in
-    pending-more (offPage p (take i window)) (getD window i d) p n
-    ∙ ap pendingOf (sym (off-more p (take i window) (getD window i d)))
-    ∙ ap (λ (v : List Slot). pendingOf (offPage p v)) (sym (take-suc window i d h) ∙ ap (λ (m : ℕ). take m window) (sym (add-one i)))
+pub more-from : (p : ℕ) (next left : Window) (w : List Slot) (s : Slot) → left ≡ windowFrom w
+    → next ≡ windowFrom (moreOff p (slotsIn left) s) → next ≡ windowFrom (moreOff p w s)
+more-from p next left w s e f = f ∙ ap (λ (v : List Slot). windowFrom (moreOff p v s)) (ap slotsIn e ∙ take-array w)
 
 pub phase-some : (n : ℕ) → n ≢ 0 → Recovering ≡ phaseAt n
 phase-some zero h = absurd (h refl)
 phase-some (suc n) h = refl
-
-pub pending-none : (p : ℕ) (w : List Slot)
-    → record { window = replicate 63 (record { 0 = 0 }); count = 0 } ≡ pendingOf (offPage p (take 0 w))
-unfolding offPage arrayOf
-pending-none p w = refl
 
 pub phase-at : (w : List Slot) → phaseAt (length w) ≡ phaseOf w
 phase-at [] = refl
@@ -139,26 +123,15 @@ lowest-low l (s ∷ w) h e =
     low-from l (metaOf s) w (meta-of-low l s low) (and-right (ltb (s .0) (l .slots)) (inRange l w) e)
 
 -- the record with the pending slots of other pages
-pub mended-is : (r : Record) (p : ℕ) (left : Pending) (phase : Phase) → left ≡ pendingOf (offPage p (take (r .count) (r .window)))
-    → phase ≡ phaseAt (left .count)
-    → record {
-      slots = r .slots;
-      blocks = r .blocks;
-      hand = r .hand;
-      newest = r .newest;
-      phase = phase;
-      unconfirmed = r .unconfirmed;
-      window = left .window;
-      count = left .count;
-    }
-    ≡ mendedAt p r
-mended-is r p left phase e f = rw (f, e, window-is r, phase-at (offPage p (windowIn r)))
+pub mended-is : (r next q : Record) (p : ℕ) (w left : Window) (phase : Phase) → w ≡ windowOf r → left ≡ windowFrom (offPage p (slotsIn w))
+    → next ≡ putWindow r (r .unconfirmed) left → phase ≡ phaseAt (left .count) → q ≡ withPhase next phase → q ≡ mendedAt p r
+mended-is r next q p w left phase e f g h k = rw (k, h, g, f, e, window-is r, phase-at (offPage p (windowIn r)))
 
 -- lengths fit it too
 pub mended-fits : (ssd table : ℕ) (r next : Record) (p : ℕ) → Fits ssd table r → recordTest r ≡ true → next ≡ mendedAt p r
     → Fits ssd table next
 mended-fits ssd table r next p F t e =
-    let n : length (windowIn r) ≡ r .count = window-length r (kept r t) in
+    let n : length (windowIn r) ≡ r .count = window-length r (parts r t) in
     rw e (record {
       ssd-size = F .ssd-size;
       table-size = F .table-size;
@@ -168,5 +141,5 @@ mended-fits ssd table r next p F t e =
 
 pub mends-low : (r : Record) → recordTest r ≡ true → 1 ≤ r .count → lowestPage (windowIn r) < metaPages (labelIn r)
 mends-low r t h =
-    let n : length (windowIn r) ≡ r .count = window-length r (kept r t) in
-    lowest-low (labelIn r) (windowIn r) (omega arith) (kept r t .ranged)
+    let n : length (windowIn r) ≡ r .count = window-length r (parts r t) in
+    lowest-low (labelIn r) (windowIn r) (omega arith) (parts r t .ranged)

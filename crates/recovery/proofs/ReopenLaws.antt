@@ -10,7 +10,7 @@ use borrow.Author.Tests.{eqb-true}
 use Rattle.layout.specs.declared.Label.{Label}
 use Rattle.layout.specs.declared.LabelRead.the-variants.{Legal, Illegal}
 use Rattle.layout.specs.Places.{ssdLength, hddLength, tableLength}
-use Rattle.protocol.specs.declared.Record.{Record}
+use Rattle.record.specs.declared.Record.{Record}
 use Rattle.protocol.specs.Paper.{done}
 use Rattle.protocol.specs.Box.{Box, Result, refusing, left}
 use Rattle.protocol.specs.Recovery.{labelRead, labelAt, metasOf, pagesTest, Recovered, recover}

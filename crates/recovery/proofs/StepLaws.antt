@@ -10,15 +10,16 @@ use borrow.Author.Tests.{leb-true}
 use Rattle.pages.specs.Pages.{putPage}
 use Rattle.layout.specs.declared.Slot.{Slot}
 use Rattle.layout.specs.Places.{metaPages}
-use Rattle.protocol.specs.declared.Record.{Record}
-use Rattle.protocol.specs.declared.Phase.{Phase}
-use Rattle.protocol.specs.declared.Phase.the-variants.{Formatting, Recovering, Ready}
+use Rattle.record.specs.declared.Record.{Record}
+use Rattle.record.specs.declared.Phase.{Phase}
+use Rattle.record.specs.declared.Phase.the-variants.{Formatting, Recovering, Ready}
 use Rattle.protocol.specs.Paper.{done}
-use Rattle.protocol.specs.Rows.{labelIn, windowIn}
+use Rattle.record.specs.Record.{labelIn, windowIn, largestStamp}
 use Rattle.protocol.specs.Box.{Box, Result, refusing, left}
 use Rattle.protocol.specs.Plan.{step, formats, mends, lowestPage, stepping, storesMeta, plan}
 use Rattle.protocol.specs.Perform.{formatStore, formatState, perform}
-use Rattle.protocol.specs.Judge.{badRecord, wrongLength, badRows, wrongPhase, stampsSpent, largestStamp, isReady, isEmpty, stepsTest, agreeTest, lengthTest, test, firstOf, judged}
+use Rattle.protocol.specs.Judge.{badRecord, wrongLength, badRows, wrongPhase, stampsSpent, isReady, isEmpty, agreeTest, lengthTest, test, firstOf, judged}
+use Rattle.record.specs.Rule.{stepsTest}
 use Rattle.protocol.specs.Calls.{boxOf, stepOf}
 use Rattle.layout.proofs.Booleans.{Told, told, told-true, told-false, clash}
 use Rattle.protocol.proofs.model.Base.{and-left}

@@ -4,19 +4,20 @@ use layout::Block;
 use layout::Entry;
 use layout::Label;
 use layout::Slot;
-use protocol::Record;
+use layout::Window;
+use record::Record;
+use record::state;
 use stored::image;
 ghost use mathlib.Core.Path.{_≡_};
-ghost use mathlib.Core.Bool.{Bool, true, false};
-ghost use mathlib.Core.List.{List};
-ghost use Prim.Native.Nat.{ℕ, _+_, _*_, _≤_, _<_};
-ghost use lib.ListN.{length, take};
+ghost use mathlib.Core.Bool.{true};
+ghost use Prim.Native.Nat.{_+_, _*_, _≤_, _<_};
+ghost use lib.ListN.{length};
 ghost use Rattle.layout.specs.Places.{Limits, ssdLength, tableLength};
 ghost use Rattle.layout.specs.MetaPage.{rowsFrom};
 ghost use Rattle.layout.specs.PageRule.{inRange};
-ghost use Rattle.protocol.specs.Rows.{recordOf};
-ghost use Rattle.protocol.specs.Recovery.{metasOf, entryIn, pagesTest, phaseOf, recover};
-ghost use Rattle.recovery.specs.Fill.{keptEntry, freed, reopenedAs};
+ghost use Rattle.layout.specs.Window.{windowMost, slotsIn};
+ghost use Rattle.protocol.specs.Recovery.{metasOf, entryIn, pagesTest, recover};
+ghost use Rattle.recovery.specs.Fill.{keptEntry, freed};
 
 // An entry as it is kept: without the writing flag.
 fn kept(entry: Entry) -> Entry
@@ -55,38 +56,21 @@ fn fill(ssd: &[u8], table: &mut [u32], l: Label)
 }
 
 // Zeroes the rows of the window's slots.
-fn free_rows(table: &mut [u32], l: Label, window: [Slot; 63], count: u32)
+fn free_rows(table: &mut [u32], l: Label, w: Window)
     requires { ⌜ length (now table) ≡ tableLength l ⌝ }
-    requires { ⌜ count ≤ 63 ⌝ }
-    requires { ⌜ inRange l (take count window) ≡ true ⌝ }
-    ensures { λ _. ⌜ now (table .exit) ≡ freed (take count window) (now (table .entry)) ⌝ }
+    requires { ⌜ w .count ≤ windowMost ⌝ }
+    requires { ⌜ inRange l (slotsIn w) ≡ true ⌝ }
+    ensures { λ _. ⌜ now (table .exit) ≡ freed (slotsIn w) (now (table .entry)) ⌝ }
 {
-    let n = count as usize;
+    let slots = w.slots;
+    let n = w.count as usize;
     let mut i: usize = 0;
     while i < n {
-        let s = window[i];
+        let s = slots[i];
         let k = 2 * (s.0 as usize);
         table[k] = 0;
         table[k + 1] = 0;
         i += 1;
-    }
-}
-
-// The record of a reopened box.
-fn reopened(l: Label, stamp: u32, window: [Slot; 63], count: u32) -> Record
-    ensures { λ r. ⌜ r ≡ reopenedAs l stamp window count ⌝ }
-{
-    let hand = Slot(0);
-    let phase = step::phase_of(count);
-    Record {
-        slots: l.slots,
-        blocks: l.blocks,
-        hand,
-        newest: stamp,
-        phase,
-        unconfirmed: false,
-        window,
-        count,
     }
 }
 
@@ -101,8 +85,6 @@ pub fn recover(ssd: &[u8], table: &mut [u32], l: Label) -> Record
     fill(ssd, table, l);
     let found = image::newest(ssd, l);
     let pending = image::pending(ssd, l, found.at);
-    let window = pending.window;
-    let count = pending.count;
-    free_rows(table, l, window, count);
-    reopened(l, found.stamp, window, count)
+    free_rows(table, l, pending);
+    state::fresh(l, found.stamp, step::phase_of(pending.count), pending)
 }

@@ -2,90 +2,79 @@
 use cache::format;
 use layout::Block;
 use layout::Slot;
+use layout::Window;
+use layout::numbers::least;
 use layout::places;
 use protocol::Answer;
 use protocol::Outcome;
-use protocol::Phase;
-use protocol::Record;
+use record::LARGEST_STAMP;
+use record::Phase;
+use record::Record;
+use record::state;
+use record::window;
 use serving::answers;
 use serving::judge;
 use serving::moves;
-use stored::Pending;
 ghost use mathlib.Core.Path.{_≡_};
-ghost use mathlib.Core.Bool.{Bool, true, false};
-ghost use mathlib.Core.List.{List};
-ghost use Prim.Native.Nat.{ℕ, _+_, _*_, _≤_, _<_};
-ghost use lib.ListN.{length, take};
+ghost use mathlib.Core.Bool.{true};
+ghost use Prim.Native.Nat.{_+_, _≤_, _<_};
+ghost use lib.ListN.{length};
 ghost use Rattle.pages.specs.Pages.{putPage};
-ghost use Rattle.layout.specs.Places.{metaPlace, metaOf};
+ghost use Rattle.layout.specs.Places.{metaPlace};
 ghost use Rattle.layout.specs.MetaPage.{encodeMeta, rowsOn};
 ghost use Rattle.protocol.specs.Paper.{paperOf};
-ghost use Rattle.protocol.specs.Rows.{labelIn, windowIn, withStamp};
+ghost use Rattle.record.specs.Record.{largestStamp, labelIn, windowIn, withStamp};
 ghost use Rattle.protocol.specs.Recovery.{offPage};
 ghost use Rattle.protocol.specs.Plan.{lowestPage};
 ghost use Rattle.protocol.specs.Perform.{mendedAt};
-ghost use Rattle.protocol.specs.Judge.{recordTest};
+ghost use Rattle.record.specs.Rule.{recordTest};
 ghost use Rattle.protocol.specs.Calls.{stepOf};
 ghost use Rattle.serving.specs.Moves.{Fits};
-ghost use Rattle.stored.specs.Stored.{pendingOf};
-ghost use Rattle.recovery.specs.Pending.{keptOff, lower, phaseAt};
-
-// The lower of two page numbers.
-fn lower_of(p: u32, q: u32) -> u32
-    ensures { λ r. ⌜ r ≡ lower p q ⌝ }
-{
-    if q < p {
-        return q;
-    }
-    p
-}
+ghost use Rattle.layout.specs.Window.{windowMost, slotsIn, windowFrom, ZeroPast};
+ghost use Rattle.recovery.specs.Pending.{moreOff, phaseAt};
 
 // The lowest-numbered metadata page with a pending slot.
-fn lowest_page(window: [Slot; 63], count: u32) -> u32
-    requires { ⌜ (1 ≤ count) × (count ≤ 63) ⌝ }
-    ensures { λ r. ⌜ r ≡ lowestPage (take count window) ⌝ }
+fn lowest_page(w: Window) -> u32
+    requires { ⌜ (1 ≤ w .count) × (w .count ≤ windowMost) ⌝ }
+    ensures { λ r. ⌜ r ≡ lowestPage (slotsIn w) ⌝ }
 {
-    let n = count as usize;
-    let first = window[0];
+    let slots = w.slots;
+    let n = w.count as usize;
+    let first = slots[0];
     let mut p = places::meta_of(first);
     let mut i: usize = 1;
     while i < n {
-        let s = window[i];
-        p = lower_of(p, places::meta_of(s));
+        let s = slots[i];
+        p = least(places::meta_of(s), p);
         i += 1;
     }
     p
 }
 
 // A slot more, unless it is on page p.
-fn kept_off(pending: Pending, s: Slot, p: u32) -> Pending
-    requires { ⌜ pending .count < 63 ⌝ }
-    ensures { λ r. ⌜ r ≡ keptOff pending s p ⌝ }
+fn more_off(w: Window, s: Slot, p: u32) -> Window
+    requires { ⌜ ZeroPast w ⌝ }
+    requires { ⌜ w .count < windowMost ⌝ }
+    ensures { λ r. ⌜ r ≡ windowFrom (moreOff p (slotsIn w) s) ⌝ }
 {
     if places::meta_of(s) == p {
-        return pending;
+        return w;
     }
-    let at = pending.count;
-    let mut next = pending;
-    next.window[at as usize] = s;
-    next.count = at + 1;
-    next
+    window::join(w, s)
 }
 
 // The pending slots of other pages than p.
-fn off_page(window: [Slot; 63], count: u32, p: u32) -> Pending
-    requires { ⌜ count ≤ 63 ⌝ }
-    ensures { λ r. ⌜ r ≡ pendingOf (offPage p (take count window)) ⌝ }
+fn off_page(w: Window, p: u32) -> Window
+    requires { ⌜ w .count ≤ windowMost ⌝ }
+    ensures { λ r. ⌜ r ≡ windowFrom (offPage p (slotsIn w)) ⌝ }
 {
-    let n = count as usize;
-    let mut left = Pending {
-        window: [Slot(0); 63],
-        count: 0,
-    };
+    let slots = w.slots;
+    let n = w.count as usize;
+    let mut left = window::empty();
     let mut i: usize = 0;
     while i < n {
-        let s = window[i];
-        left = kept_off(left, s, p);
+        let s = slots[i];
+        left = more_off(left, s, p);
         i += 1;
     }
     left
@@ -103,24 +92,12 @@ pub fn phase_of(count: u32) -> Phase
 
 // The record with the pending slots of other pages than p alone.
 fn mended(state: Record, p: u32) -> Record
-    requires { ⌜ state .count ≤ 63 ⌝ }
+    requires { ⌜ state .count ≤ windowMost ⌝ }
     ensures { λ r. ⌜ r ≡ mendedAt p state ⌝ }
 {
-    let all = state.window;
-    let left = off_page(all, state.count, p);
-    let hand = state.hand;
-    let phase = phase_of(left.count);
-    let window = left.window;
-    Record {
-        slots: state.slots,
-        blocks: state.blocks,
-        hand,
-        newest: state.newest,
-        phase,
-        unconfirmed: state.unconfirmed,
-        window,
-        count: left.count,
-    }
+    let left = off_page(state::window_of(state), p);
+    let next = state::with_window(state, state.unconfirmed, left);
+    state::with_phase(next, phase_of(left.count))
 }
 
 // Stores the lowest-numbered page with a pending slot, with the pending slots of other pages.
@@ -128,11 +105,10 @@ fn mend(ssd: &mut [u8], table: &[u32], state: Record) -> Record
     requires { ⌜ Fits (length (now ssd)) (length (now table)) state ⌝ }
     requires { ⌜ recordTest state ≡ true ⌝ }
     requires { ⌜ 1 ≤ state .count ⌝ }
-    requires { ⌜ state .newest < 4294967295 ⌝ }
+    requires { ⌜ state .newest < largestStamp ⌝ }
     ensures { λ r. ⌜ (r ≡ withStamp (mendedAt (lowestPage (windowIn state)) state) (state .newest + 1)) × (now (ssd .exit) ≡ putPage (now (ssd .entry)) (metaPlace (labelIn state) (lowestPage (windowIn state))) (encodeMeta (state .newest + 1) (windowIn (mendedAt (lowestPage (windowIn state)) state)) (rowsOn (lowestPage (windowIn state)) (now (table .entry))))) ⌝ }
 {
-    let window = state.window;
-    let p = lowest_page(window, state.count);
+    let p = lowest_page(state::window_of(state));
     let next = mended(state, p);
     moves::confirm(ssd, table, next, p)
 }
@@ -153,7 +129,7 @@ pub fn step(ssd: &mut [u8], hdd: &[u8], table: &[u32], state: Record) -> Outcome
             answers::answered(Answer::Done, next)
         }
         Phase::Recovering => {
-            if 4294967295 <= state.newest {
+            if LARGEST_STAMP <= state.newest {
                 return answers::refused(13, state);
             }
             let next = mend(ssd, table, state);

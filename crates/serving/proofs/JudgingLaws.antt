@@ -11,10 +11,11 @@ use borrow.Author.Tests.{eq-eqb, ne-eqb, eqb-true}
 use Rattle.layout.specs.declared.Block.{Block}
 use Rattle.layout.specs.declared.Label.{Label}
 use Rattle.layout.specs.Places.{ssdLength, hddLength, tableLength}
-use Rattle.protocol.specs.declared.Record.{Record}
-use Rattle.protocol.specs.Rows.{labelIn, windowIn}
+use Rattle.record.specs.declared.Record.{Record}
+use Rattle.record.specs.Record.{labelIn, windowIn}
 use Rattle.protocol.specs.Condition.{conditionOf}
-use Rattle.protocol.specs.Judge.{recordTest, lengthsTest, rowsTest, agreeTest, isReady, openRows}
+use Rattle.record.specs.Rule.{recordTest}
+use Rattle.protocol.specs.Judge.{lengthsTest, rowsTest, agreeTest, isReady, openRows}
 use Rattle.protocol.proofs.model.Base.{and-right}
 use Rattle.table.specs.Scan.{legalRows}
 use Rattle.serving.specs.declared.Judged.{Judged}
@@ -101,7 +102,7 @@ module _ (ssd hdd page : ℕ) (t : List ℕ) (r : Record) where
   ready-asks = then-asks sound-asks (refuse-asks (not (isReady (r .phase))) 5)
 
   pub serves-asks : (b : Block) → Asks (servesThen ssd hdd page t r b)
-  serves-asks b = then-asks ready-asks (refuse-asks (leb (r .blocks) (b .0)) 6)
+  serves-asks b = then-asks ready-asks (refuse-asks (leb (r .label .blocks) (b .0)) 6)
 
 -- what is found of a number is that number
 pub number-is : (n : ℕ) (t : List ℕ) (b : Block) → judgedBy n t b .number ≡ n

@@ -13,14 +13,15 @@ use Rattle.pages.specs.Pages.{putPage, Holds}
 use Rattle.layout.specs.declared.Slot.{Slot}
 use Rattle.layout.specs.declared.Block.{Block}
 use Rattle.layout.specs.declared.Label.{Label}
-use Rattle.layout.specs.Places.{metaPages, metaPlace, dataPlace, blockPlace, metaOf, ssdLength, hddLength}
+use Rattle.layout.specs.Places.{metaPages, metaPlace, dataPlace, blockPlace, ssdLength, hddLength}
 use Rattle.layout.specs.MetaPage.{encodeMeta, rowsOn}
-use Rattle.protocol.specs.declared.Record.{Record}
-use Rattle.protocol.specs.Rows.{labelIn, windowIn, setRow}
-use Rattle.protocol.specs.Judge.{recordTest}
+use Rattle.record.specs.declared.Record.{Record}
+use Rattle.record.specs.Record.{labelIn, windowIn}
+use Rattle.protocol.specs.Rows.{setRow}
+use Rattle.record.specs.Rule.{recordTest}
 use Rattle.protocol.specs.Perform.{joined}
 use Rattle.layout.proofs.Booleans.{Told, told, told-true, told-false}
-use Rattle.table.proofs.RecordLaws.{kept, window-is, window-length}
+use Rattle.record.proofs.RecordLaws.{parts, window-is, window-length}
 use Rattle.serving.specs.Moves.{Fits, rowsEnd}
 
 -- the rows of a metadata page, the last of which may be cut short by the table's end
@@ -50,25 +51,21 @@ pub meta-low : (l : Label) (p : ℕ) → p < metaPages l → 240 * p < l .slots
 unfolding metaPages
 meta-low l p h = omega arith
 
-pub meta-of-low : (l : Label) (s : Slot) → s .0 < l .slots → metaOf s < metaPages l
-unfolding metaPages
-meta-of-low l s h = omega arith
-
 -- a slot's page lies within the SSD image, a block's within the HDD image
-pub data-holds : (ssd : List ℕ) (state : Record) (l : Label) (s : Slot) (place : ℕ) → length ssd ≡ ssdLength (labelIn state)
-    → s .0 < state .slots → l ≡ labelIn state → place ≡ dataPlace l s → Holds ssd place
-data-holds ssd state l s place size h e f = rw (f, e) (omega arith)
+pub data-holds : (ssd : List ℕ) (l : Label) (s : Slot) (place : ℕ) → length ssd ≡ ssdLength l → s .0 < l .slots → place ≡ dataPlace l s
+    → Holds ssd place
+data-holds ssd l s place size h e = rw e (omega arith)
 
-pub block-holds : (hdd : List ℕ) (state : Record) (l : Label) (b : Block) (place : ℕ) → length hdd ≡ hddLength (labelIn state)
-    → b .0 < state .blocks → place ≡ blockPlace l b → Holds hdd place
-block-holds hdd state l b place size h e = omega arith
+pub block-holds : (hdd : List ℕ) (l : Label) (b : Block) (place : ℕ) → length hdd ≡ hddLength l → b .0 < l .blocks → place ≡ blockPlace l b
+    → Holds hdd place
+block-holds hdd l b place size h e = omega arith
 
 -- a row is set and its slot joins the window: the lengths still fit
 pub joined-fits : (ssd : ℕ) (table after : List ℕ) (state next : Record) (s hand : Slot) (b : Block) (flags : ℕ)
     → Fits ssd (length table) state → recordTest state ≡ true → state .count < 63 → after ≡ setRow table s b flags
     → next ≡ joined s hand state → Fits ssd (length after) next
 joined-fits ssd table after state next s hand b flags F t h e f =
-    let n : length (windowIn state) ≡ state .count = window-length state (kept state t) in
+    let n : length (windowIn state) ≡ state .count = window-length state (parts state t) in
     rw (f, e) (record {
       ssd-size = F .ssd-size;
       table-size = simp length-set (F .table-size);

@@ -11,18 +11,21 @@ use borrow.Author.Tests.{eqb-true, leb-false, not-false}
 use Rattle.layout.specs.declared.Slot.{Slot}
 use Rattle.layout.specs.declared.Block.{Block}
 use Rattle.layout.specs.PageRule.{listed}
-use Rattle.protocol.specs.declared.Record.{Record}
-use Rattle.protocol.specs.declared.Phase.{Phase}
-use Rattle.protocol.specs.declared.Phase.the-variants.{Formatting, Recovering, Ready}
-use Rattle.protocol.specs.Rows.{rowFlags, writing, labelIn, windowIn}
-use Rattle.protocol.specs.Judge.{recordTest, lengthsTest, lengthTest, rowsTest, eachSlot, agreeTest, isReady, openRows}
+use Rattle.record.specs.declared.Record.{Record}
+use Rattle.record.specs.declared.Phase.{Phase}
+use Rattle.record.specs.declared.Phase.the-variants.{Formatting, Recovering, Ready}
+use Rattle.protocol.specs.Rows.{rowFlags, writing}
+use Rattle.record.specs.Record.{labelIn, windowIn}
+use Rattle.record.specs.Rule.{recordTest}
+use Rattle.protocol.specs.Judge.{lengthsTest, lengthTest, rowsTest, agreeTest, isReady, openRows}
+use Rattle.record.specs.Window.{eachSlot}
 use Rattle.protocol.specs.Calls.{boxOf}
 use Rattle.layout.proofs.Booleans.{clash}
 use Rattle.protocol.proofs.model.Base.{and-left, and-right}
 use Rattle.protocol.proofs.Accepted.{Legal, legal}
 use Rattle.protocol.proofs.Tables.{each-get}
 use Rattle.table.specs.Scan.{legalRows}
-use Rattle.table.proofs.RecordLaws.{kept}
+use Rattle.record.proofs.RecordLaws.{parts}
 use Rattle.table.proofs.AgreeLaws.{ready-is}
 use Rattle.serving.specs.Judging.{refuseIf, soundThen, readyThen, servesThen}
 use Rattle.serving.specs.Moves.{Fits}
@@ -73,7 +76,7 @@ module _ (ssd hdd : List ℕ) (page : ℕ) (t : List ℕ) (r : Record) where
           ssd-size = L .ssd-size;
           table-size = L .table-size;
           slots-most = L .limits .slots-most;
-          window-most = kept r k .most;
+          window-most = parts r k .most;
         };
       }
 
@@ -88,12 +91,12 @@ module _ (ssd hdd : List ℕ) (page : ℕ) (t : List ℕ) (r : Record) where
       }
 
   -- a block that passes 7 besides
-  pub serves : (b : Block) → servesThen (length ssd) (length hdd) page t r b 0 ≡ 0 → ReadyBox ssd hdd page t r × (b .0 < r .blocks)
+  pub serves : (b : Block) → servesThen (length ssd) (length hdd) page t r b 0 ≡ 0 → ReadyBox ssd hdd page t r × (b .0 < r .label .blocks)
   serves b z = go (ready-asks (length ssd) (length hdd) page t r)
     where
-      go : Asks (readyThen (length ssd) (length hdd) page t r) → ReadyBox ssd hdd page t r × (b .0 < r .blocks)
+      go : Asks (readyThen (length ssd) (length hdd) page t r) → ReadyBox ssd hdd page t r × (b .0 < r .label .blocks)
       go (stopped n e) = absurd (never n (sym (e _) ∙ z))
-      go (passed e) = (ready (e 0), leb-false _ _ (pass (leb (r .blocks) (b .0)) 6 0 (sym (e _) ∙ z) .0))
+      go (passed e) = (ready (e 0), leb-false _ _ (pass (leb (r .label .blocks) (b .0)) 6 0 (sym (e _) ∙ z) .0))
 
 module _ (ssd hdd : List ℕ) (page : ℕ) (t : List ℕ) (r : Record) (B : ReadyBox ssd hdd page t r) where
   agree : agreeTest Ready t (windowIn r) ≡ true
@@ -105,7 +108,7 @@ module _ (ssd hdd : List ℕ) (page : ℕ) (t : List ℕ) (r : Record) (B : Read
       (ready-is r t (B .box .record-kept) (openRows t) (B .box .sound .table-size) refl ∙ agree)))
 
   -- an open slot is in the window
-  pub open-listed : (s : Slot) → s .0 < r .slots → writing (rowFlags t s) ≡ true → listed s (windowIn r) ≡ true
+  pub open-listed : (s : Slot) → s .0 < r .label .slots → writing (rowFlags t s) ≡ true → listed s (windowIn r) ≡ true
   open-listed s h o =
       let k : 2 * s .0 + 1 < length t = omega (arith, B .box .sound .table-size) in
       rw (zero-add (s .0), o) at

@@ -10,7 +10,7 @@ use lib.ListN.{length}
 use lib.Dec.{eqb}
 use borrow.Author.Tests.{eq-eqb}
 use Rattle.layout.specs.declared.Block.{Block}
-use Rattle.protocol.specs.declared.Record.{Record}
+use Rattle.record.specs.declared.Record.{Record}
 use Rattle.protocol.specs.Box.{Box, refusing, left}
 use Rattle.protocol.specs.Plan.{Call, Move, flush, offer, fetch, landFetch, lookUp, view, writeBack, land, plan}
 use Rattle.protocol.specs.Perform.{perform}

@@ -4,7 +4,7 @@ use mathlib.Core.Path.{_≡_, sym, _∙_}
 use mathlib.Core.List.{List}
 use lib.ListN.{length}
 use Rattle.layout.specs.declared.Block.{Block}
-use Rattle.protocol.specs.declared.Record.{Record}
+use Rattle.record.specs.declared.Record.{Record}
 use Rattle.protocol.specs.declared.Condition.{Condition}
 use Rattle.protocol.specs.Condition.{conditionOf}
 use Rattle.protocol.specs.Judge.{openRows}
@@ -18,7 +18,7 @@ pub record Served (ssd hdd : List ℕ) (page : ℕ) (t : List ℕ) (r : Record) 
   pub none : servesThen (length ssd) (length hdd) page t r b 0 ≡ 0
   pub writing-is : j .writing ≡ openRows t
   pub box : ReadyBox ssd hdd page t r
-  pub low : b .0 < r .blocks
+  pub low : b .0 < r .label .blocks
   -- the block's condition, as the code has found it, and the row of its slot
   pub is : (k : Condition) → j .condition ≡ k → conditionOf t b ≡ k
   pub row : (k : Condition) → j .condition ≡ k → Where r t b k

@@ -11,10 +11,11 @@ use Rattle.layout.specs.declared.Slot.{Slot}
 use Rattle.layout.specs.declared.Block.{Block}
 use Rattle.layout.specs.Places.{tableLength}
 use Rattle.layout.specs.PageRule.{pairTest}
-use Rattle.protocol.specs.declared.Record.{Record}
+use Rattle.record.specs.declared.Record.{Record}
 use Rattle.protocol.specs.declared.Condition.{Condition}
 use Rattle.protocol.specs.declared.Condition.the-variants.{NotCached, Clean, Dirty, Writing, Fetching}
-use Rattle.protocol.specs.Rows.{rowFlags, dirty, writing, labelIn}
+use Rattle.protocol.specs.Rows.{rowFlags, dirty, writing}
+use Rattle.record.specs.Record.{labelIn}
 use Rattle.protocol.specs.Condition.{conditionOf}
 use Rattle.protocol.specs.Judge.{rowTest}
 use Rattle.protocol.proofs.model.Base.{and-left, and-right}
@@ -24,7 +25,7 @@ use Rattle.table.specs.Scan.{legalRows}
 
 -- slot s holds the block, and its row is open (or not) and dirty (or not)
 pub record At (r : Record) (t : List ℕ) (b : Block) (s : Slot) (opened unclean : Bool) : Type 0 where
-  pub low : s .0 < r .slots
+  pub low : s .0 < r .label .slots
   pub within : 2 * s .0 + 1 < length t
   pub block-is : getD t (2 * s .0) 0 ≡ b .0
   pub writing-is : writing (rowFlags t s) ≡ opened
@@ -53,7 +54,7 @@ module _ (r : Record) (t : List ℕ) (b : Block) (size : length t ≡ tableLengt
   where-is k e = subst (λ (z : Condition). Where r t b z) e (place (stands (labelIn r) t size b))
 
   -- a legal row's flags are below 16
-  pub flags-low : legalRows (labelIn r) t ≡ true → (s : Slot) → s .0 < r .slots → rowFlags t s < 16
+  pub flags-low : legalRows (labelIn r) t ≡ true → (s : Slot) → s .0 < r .label .slots → rowFlags t s < 16
   unfolding rowTest
   flags-low h s k =
       let q : 2 * s .0 + 1 < length t = omega (arith, size) in

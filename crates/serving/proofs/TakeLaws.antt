@@ -14,15 +14,17 @@ use Rattle.layout.specs.declared.Block.{Block}
 use Rattle.layout.specs.declared.Label.{Label}
 use Rattle.layout.specs.Places.{Limits, tableLength}
 use Rattle.layout.proofs.PlaceLaws.{within}
-use Rattle.protocol.specs.declared.Record.{Record}
+use Rattle.record.specs.declared.Record.{Record}
 use Rattle.protocol.specs.Paper.{copiedOut}
-use Rattle.protocol.specs.Rows.{rowFlags, dirty, labelIn}
+use Rattle.protocol.specs.Rows.{rowFlags, dirty}
+use Rattle.record.specs.Record.{labelIn, largestStamp}
 use Rattle.protocol.specs.Box.{Box, Effect, refusing, left}
 use Rattle.protocol.specs.Sweep.{nextSlot, Victim, sweep}
 use Rattle.protocol.specs.Plan.{Move, opens, copies, takesAs, takes, storesMeta}
 use Rattle.protocol.specs.Perform.{perform}
-use Rattle.protocol.specs.Judge.{recordTest, rowTest, openRows, allWriting, largestStamp}
-use Rattle.protocol.proofs.Accepted.{parts}
+use Rattle.record.specs.Rule.{recordTest}
+use Rattle.protocol.specs.Judge.{rowTest, openRows, allWriting}
+use Rattle.record.proofs.RecordLaws.{parts}
 use Rattle.protocol.proofs.Flags.{legal-row}
 use Rattle.protocol.proofs.Tables.{Rows, each-get}
 use Rattle.table.specs.Scan.{legalRows}
@@ -34,7 +36,7 @@ use Rattle.serving.specs.Moves.{stampNumber, unlessSpent, takenBy, swept
 pub record-limits : (r : Record) → recordTest r ≡ true → Limits (labelIn r)
 record-limits r e = within (labelIn r) .0 (parts r e .in-limits)
 
-pub hand-low : (r : Record) → recordTest r ≡ true → r .hand .0 < r .slots
+pub hand-low : (r : Record) → recordTest r ≡ true → r .hand .0 < r .label .slots
 hand-low r e = ltb-true _ _ (parts r e .hand)
 
 -- of a table whose rows are legal

@@ -5,11 +5,12 @@ use mathlib.Core.List.{List}
 use lib.ListN.{length}
 use lib.Dec.{eqb, leb}
 use Rattle.layout.specs.declared.Block.{Block}
-use Rattle.protocol.specs.declared.Record.{Record}
+use Rattle.record.specs.declared.Record.{Record}
 use Rattle.protocol.specs.declared.Condition.the-variants.{NotCached}
-use Rattle.protocol.specs.Rows.{labelIn}
+use Rattle.record.specs.Record.{labelIn}
 use Rattle.protocol.specs.Condition.{conditionOf}
-use Rattle.protocol.specs.Judge.{recordTest, lengthsTest, rowsTest, isReady, openRows}
+use Rattle.record.specs.Rule.{recordTest}
+use Rattle.protocol.specs.Judge.{lengthsTest, rowsTest, isReady, openRows}
 use Rattle.serving.specs.declared.Judged.{Judged}
 
 -- refused by n, or the rest
@@ -30,7 +31,7 @@ readyThen ssd hdd page table state rest = soundThen ssd hdd page table state (re
 
 -- and 7
 abbrev pub servesThen : ℕ → ℕ → ℕ → List ℕ → Record → Block → ℕ → ℕ
-servesThen ssd hdd page table state b rest = readyThen ssd hdd page table state (refuseIf (leb (state .blocks) (b .0)) 7 rest)
+servesThen ssd hdd page table state b rest = readyThen ssd hdd page table state (refuseIf (leb (state .label .blocks) (b .0)) 7 rest)
 
 -- what judging finds of a number
 abbrev pub judgedBy : ℕ → List ℕ → Block → Judged

@@ -7,12 +7,13 @@ use lib.Dec.{ltb, leb}
 use Rattle.layout.specs.declared.Slot.{Slot}
 use Rattle.layout.specs.declared.Block.{Block}
 use Rattle.layout.specs.Places.{ssdLength, tableLength}
-use Rattle.protocol.specs.declared.Record.{Record}
-use Rattle.protocol.specs.Rows.{labelIn}
+use Rattle.layout.specs.Window.{windowMost}
+use Rattle.record.specs.declared.Record.{Record}
+use Rattle.record.specs.Record.{labelIn, largestStamp}
 use Rattle.protocol.specs.Box.{Box, Effect, refusing}
 use Rattle.protocol.specs.Plan.{Move, takes, sweeps, storesMeta}
 use Rattle.protocol.specs.Perform.{perform}
-use Rattle.protocol.specs.Judge.{largestStamp, openRows, allWriting}
+use Rattle.protocol.specs.Judge.{openRows, allWriting}
 use Rattle.table.specs.Sweeps.{clearedFrom}
 use Rattle.serving.specs.Judging.{refuseIf}
 
@@ -20,8 +21,8 @@ use Rattle.serving.specs.Judging.{refuseIf}
 pub record Fits (ssd table : ℕ) (r : Record) : Type 0 where
   pub ssd-size : ssd ≡ ssdLength (labelIn r)
   pub table-size : table ≡ tableLength (labelIn r)
-  pub slots-most : r .slots ≤ 57600
-  pub window-most : r .count ≤ 63
+  pub slots-most : r .label .slots ≤ 57600
+  pub window-most : r .count ≤ windowMost
 
 -- where the rows of a metadata page end that begin at `start`
 abbrev pub rowsEnd : ℕ → ℕ → ℕ
@@ -29,15 +30,15 @@ rowsEnd len start = elim (ltb (len - start) 480) [ true ↦ len | false ↦ star
 
 -- 13 of an offer or a fetch
 abbrev pub stampNumber : ℕ → ℕ
-stampNumber newest = refuseIf (leb (largestStamp - 63) newest) 13 0
+stampNumber newest = refuseIf (leb (largestStamp - windowMost) newest) 13 0
 
 -- 11 and 13 of a call that opens a slot: so many rows are writing, and this is the newest stamp
 abbrev pub openingNumber : ℕ → ℕ → ℕ
-openingNumber writing newest = refuseIf (leb 63 writing) 11 (stampNumber newest)
+openingNumber writing newest = refuseIf (leb windowMost writing) 11 (stampNumber newest)
 
 -- 13, or the move is performed
 abbrev pub unlessSpent : Move → Box → Effect
-unlessSpent m x = elim (storesMeta m && leb (largestStamp - 63) (x .state .newest)) [ true ↦ refusing 13 x | false ↦ perform m x ]
+unlessSpent m x = elim (storesMeta m && leb (largestStamp - windowMost) (x .state .newest)) [ true ↦ refusing 13 x | false ↦ perform m x ]
 
 -- a slot that the sweep took, after it passed so many
 abbrev pub takenBy : Slot → ℕ → Box → Block → ℕ → Effect
@@ -50,7 +51,7 @@ takenBy s passed x b flags =
 -- 11, 12 and 13 of a call that sweeps for a slot, or the sweep
 unfoldable pub sweptFor : Box → Block → ℕ → Effect
 sweptFor x b flags =
-    elim (leb 63 (openRows (x .table))) [
+    elim (leb windowMost (openRows (x .table))) [
       | true ↦ refusing 11 x
       | false ↦ elim (allWriting (x .table)) [ true ↦ refusing 12 x | false ↦ unlessSpent (sweeps x b flags) x ]
     ]

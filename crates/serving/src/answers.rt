@@ -1,9 +1,9 @@
 // What a call returns.
 use protocol::Answer;
 use protocol::Outcome;
-use protocol::Record;
+use record::Record;
 ghost use mathlib.Core.Path.{_≡_};
-ghost use Rattle.protocol.specs.Paper.{Paper, paperOf, refusal};
+ghost use Rattle.protocol.specs.Paper.{paperOf, refusal};
 
 // A refusal by its number, with the record handed in.
 pub fn refused(number: u32, state: Record) -> Outcome

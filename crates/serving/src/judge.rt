@@ -4,20 +4,20 @@ use layout::Block;
 use layout::Label;
 use layout::places;
 use protocol::Condition;
-use protocol::Phase;
-use protocol::Record;
+use record::Phase;
+use record::Record;
+use record::rule;
 use table::condition;
-use table::record;
 use table::rows;
 use table::window;
 ghost use mathlib.Core.Path.{_≡_};
-ghost use mathlib.Core.Bool.{Bool, true, false, not};
-ghost use Prim.Native.Nat.{ℕ, _+_, _*_, _≤_, _<_};
+ghost use mathlib.Core.Bool.{true, false, not};
 ghost use lib.ListN.{length};
 ghost use Rattle.layout.specs.Places.{tableLength};
 ghost use Rattle.protocol.specs.declared.Condition.the-variants.{NotCached};
-ghost use Rattle.protocol.specs.Rows.{labelIn};
-ghost use Rattle.protocol.specs.Judge.{recordTest, lengthsTest, rowsTest, isReady};
+ghost use Rattle.record.specs.Record.{labelIn};
+ghost use Rattle.record.specs.Rule.{recordTest};
+ghost use Rattle.protocol.specs.Judge.{lengthsTest, rowsTest, isReady};
 ghost use Rattle.serving.specs.Judging.{refuseIf, soundThen, readyThen, servesThen, judgedBy};
 
 // Whether images and table have the label's lengths.
@@ -50,7 +50,7 @@ fn look(table: &[u32], state: Record, b: Block) -> Judged
     requires { ⌜ length (now table) ≡ tableLength (labelIn state) ⌝ }
     ensures { λ r. ⌜ r ≡ judgedBy (refuseIf (not (rowsTest state (now (table .entry)))) 5 0) (now (table .entry)) b ⌝ }
 {
-    let l = places::label(state.slots, state.blocks);
+    let l = state.label;
     let scan = rows::scan(l, table, b);
     if !scan.legal {
         return refused(5);
@@ -70,10 +70,10 @@ fn look(table: &[u32], state: Record, b: Block) -> Judged
 pub fn sound(ssd: usize, hdd: usize, page: usize, table: &[u32], state: Record, b: Block) -> Judged
     ensures { λ r. ⌜ r ≡ judgedBy (soundThen ssd hdd page (now (table .entry)) state 0) (now (table .entry)) b ⌝ }
 {
-    if !record::record_ok(state) {
+    if !rule::record_ok(state) {
         return refused(3);
     }
-    let l = places::label(state.slots, state.blocks);
+    let l = state.label;
     if !lengths_ok(l, ssd, hdd, table.len()) {
         return refused(4);
     }
@@ -117,7 +117,7 @@ pub fn serves(ssd: usize, hdd: usize, page: usize, table: &[u32], state: Record,
     if judged.number != 0 {
         return judged;
     }
-    if state.blocks <= b.0 {
+    if state.label.blocks <= b.0 {
         return refused(7);
     }
     judged

@@ -3,18 +3,21 @@ use layout::Block;
 use layout::Slot;
 use layout::places;
 use metadata::page;
-use protocol::Record;
-use table::window;
+use record::Record;
+use record::state;
 ghost use mathlib.Core.Path.{_≡_};
-ghost use mathlib.Core.Bool.{Bool, true, false};
-ghost use Prim.Native.Nat.{ℕ, _+_, _-_, _*_, _%_, _≤_, _<_};
+ghost use mathlib.Core.Bool.{true};
+ghost use Prim.Native.Nat.{_+_, _-_, _*_, _%_, _≤_, _<_};
 ghost use lib.ListN.{length};
 ghost use Rattle.pages.specs.Pages.{pageAt, putPage};
-ghost use Rattle.layout.specs.Places.{metaPages, metaPlace, dataPlace, blockPlace, metaOf, ssdLength, hddLength, tableLength};
+ghost use Rattle.layout.specs.Places.{metaPages, metaPlace, dataPlace, blockPlace, metaOf, hddLength};
 ghost use Rattle.layout.specs.MetaPage.{encodeMeta, rowsOn};
 ghost use Rattle.layout.specs.PageRule.{listed};
-ghost use Rattle.protocol.specs.Rows.{rowBlock, rowFlags, setFlags, setRow, dirty, writing, withUsed, withoutWriting, withoutDirty, labelIn, windowIn, withStamp, withWindow, without};
-ghost use Rattle.protocol.specs.Judge.{recordTest};
+ghost use Rattle.protocol.specs.Rows.{rowBlock, rowFlags, setFlags, setRow, dirty, writing, withUsed, withoutWriting, withoutDirty};
+ghost use Rattle.layout.specs.Window.{windowMost};
+ghost use Rattle.record.specs.Record.{largestStamp, labelIn, windowIn, withStamp, withWindow};
+ghost use Rattle.record.specs.Window.{without};
+ghost use Rattle.record.specs.Rule.{recordTest};
 ghost use Rattle.protocol.specs.Perform.{joined};
 ghost use Rattle.serving.specs.Moves.{Fits, rowsEnd};
 
@@ -35,12 +38,10 @@ pub fn store_meta(ssd: &mut [u8], table: &[u32], state: Record, stamp: u32, p: u
     requires { ⌜ p < metaPages (labelIn state) ⌝ }
     ensures { λ _. ⌜ now (ssd .exit) ≡ putPage (now (ssd .entry)) (metaPlace (labelIn state) p) (encodeMeta stamp (windowIn state) (rowsOn p (now (table .entry)))) ⌝ }
 {
-    let l = places::label(state.slots, state.blocks);
+    let l = state.label;
     let start = 480 * (p as usize);
     let end = rows_end(table.len(), start);
-    let count = state.count;
-    let window = state.window;
-    let page = page::encode_meta(stamp, window, count, &table[start..end]);
+    let page = page::encode_meta(stamp, state::window_of(state), &table[start..end]);
     pages::store(ssd, places::meta_place(l, p), &page);
 }
 
@@ -48,15 +49,12 @@ pub fn store_meta(ssd: &mut [u8], table: &[u32], state: Record, stamp: u32, p: u
 pub fn confirm(ssd: &mut [u8], table: &[u32], state: Record, p: u32) -> Record
     requires { ⌜ Fits (length (now ssd)) (length (now table)) state ⌝ }
     requires { ⌜ p < metaPages (labelIn state) ⌝ }
-    requires { ⌜ state .newest < 4294967295 ⌝ }
+    requires { ⌜ state .newest < largestStamp ⌝ }
     ensures { λ q. ⌜ (q ≡ withStamp state (state .newest + 1)) × (now (ssd .exit) ≡ putPage (now (ssd .entry)) (metaPlace (labelIn state) p) (encodeMeta (state .newest + 1) (windowIn state) (rowsOn p (now (table .entry))))) ⌝ }
 {
     let stamp = state.newest + 1;
     store_meta(ssd, table, state, stamp, p);
-    let mut next = state;
-    next.newest = stamp;
-    next.unconfirmed = false;
-    next
+    state::with_stamp(state, stamp)
 }
 
 // Sets a row.
@@ -72,12 +70,11 @@ fn set_row(table: &mut [u32], s: Slot, b: Block, flags: u32)
 // A slot joins the window, and the hand moves.
 fn join(state: Record, s: Slot, hand: Slot) -> Record
     requires { ⌜ recordTest state ≡ true ⌝ }
-    requires { ⌜ state .count < 63 ⌝ }
+    requires { ⌜ state .count < windowMost ⌝ }
     ensures { λ q. ⌜ q ≡ joined s hand state ⌝ }
 {
-    let mut next = window::join(state, s);
-    next.hand = hand;
-    next
+    let next = state::joined(state, s);
+    state::with_hand(next, hand)
 }
 
 // Opens a slot for a block: its row, the window, and then the metadata page.
@@ -92,9 +89,9 @@ pub fn open_slot(
 ) -> Record
     requires { ⌜ Fits (length (now ssd)) (length (now table)) state ⌝ }
     requires { ⌜ recordTest state ≡ true ⌝ }
-    requires { ⌜ state .count < 63 ⌝ }
-    requires { ⌜ state .newest < 4294967295 ⌝ }
-    requires { ⌜ s .0 < state .slots ⌝ }
+    requires { ⌜ state .count < windowMost ⌝ }
+    requires { ⌜ state .newest < largestStamp ⌝ }
+    requires { ⌜ s .0 < state .label .slots ⌝ }
     ensures { λ q. ⌜ (q ≡ withStamp (joined s hand state) (state .newest + 1)) × (now (table .exit) ≡ setRow (now (table .entry)) s b flags) × (now (ssd .exit) ≡ putPage (now (ssd .entry)) (metaPlace (labelIn state) (metaOf s)) (encodeMeta (state .newest + 1) (windowIn (joined s hand state)) (rowsOn (metaOf s) (setRow (now (table .entry)) s b flags)))) ⌝ }
 {
     set_row(table, s, b, flags);
@@ -113,20 +110,20 @@ pub fn close_slot(table: &mut [u32], state: Record, s: Slot) -> Record
     let k = 2 * (s.0 as usize) + 1;
     let flags = table[k];
     table[k] = flags - 4;
-    window::leave(state, s)
+    state::left(state, s)
 }
 
 // Copies a dirty slot's page to its block, and marks the slot clean.
 pub fn copy_out(ssd: &[u8], hdd: &mut [u8], table: &mut [u32], state: Record, s: Slot)
     requires { ⌜ Fits (length (now ssd)) (length (now table)) state ⌝ }
     requires { ⌜ length (now hdd) ≡ hddLength (labelIn state) ⌝ }
-    requires { ⌜ state .blocks ≤ 16777216 ⌝ }
-    requires { ⌜ s .0 < state .slots ⌝ }
-    requires { ⌜ rowBlock (now table) s .0 < state .blocks ⌝ }
+    requires { ⌜ state .label .blocks ≤ 16777216 ⌝ }
+    requires { ⌜ s .0 < state .label .slots ⌝ }
+    requires { ⌜ rowBlock (now table) s .0 < state .label .blocks ⌝ }
     requires { ⌜ dirty (rowFlags (now table) s) ≡ true ⌝ }
     ensures { λ _. ⌜ (now (hdd .exit) ≡ putPage (now (hdd .entry)) (blockPlace (labelIn state) (rowBlock (now (table .entry)) s)) (pageAt (now (ssd .entry)) (dataPlace (labelIn state) s))) × (now (table .exit) ≡ setFlags (now (table .entry)) s (withoutDirty (rowFlags (now (table .entry)) s))) ⌝ }
 {
-    let l = places::label(state.slots, state.blocks);
+    let l = state.label;
     let k = 2 * (s.0 as usize);
     let block = table[k];
     let flags = table[k + 1];

@@ -3,21 +3,25 @@ use crate::answers;
 use crate::moves;
 use layout::Block;
 use layout::Slot;
-use layout::places;
+use layout::WINDOW;
 use protocol::Answer;
 use protocol::Outcome;
-use protocol::Record;
+use record::LARGEST_STAMP;
+use record::Record;
+use record::state;
 use table::Swept;
 use table::sweep;
 ghost use mathlib.Core.Path.{_≡_};
-ghost use mathlib.Core.Bool.{Bool, true, false};
-ghost use Prim.Native.Nat.{ℕ, _+_, _*_, _≤_, _<_};
+ghost use mathlib.Core.Bool.{true};
+ghost use Prim.Native.Nat.{_+_, _*_, _<_};
 ghost use lib.ListN.{length};
 ghost use Rattle.protocol.specs.Paper.{paperOf};
 ghost use Rattle.layout.specs.Places.{hddLength};
-ghost use Rattle.protocol.specs.Rows.{labelIn, withHand};
+ghost use Rattle.layout.specs.Window.{windowMost};
+ghost use Rattle.record.specs.Record.{labelIn};
 ghost use Rattle.protocol.specs.Box.{left};
-ghost use Rattle.protocol.specs.Judge.{recordTest, openRows};
+ghost use Rattle.record.specs.Rule.{recordTest};
+ghost use Rattle.protocol.specs.Judge.{openRows};
 ghost use Rattle.protocol.specs.Calls.{boxOf};
 ghost use Rattle.table.specs.Scan.{legalRows};
 ghost use Rattle.table.specs.Sweeps.{sweptOf};
@@ -28,7 +32,7 @@ ghost use Rattle.serving.specs.Moves.{Fits, stampNumber, openingNumber, 
 fn stamp_number(newest: u32) -> u32
     ensures { λ r. ⌜ r ≡ stampNumber newest ⌝ }
 {
-    if 4294967232 <= newest {
+    if LARGEST_STAMP - (WINDOW as u32) <= newest {
         return 13;
     }
     0
@@ -38,19 +42,10 @@ fn stamp_number(newest: u32) -> u32
 pub fn opening_number(writing: u32, newest: u32) -> u32
     ensures { λ r. ⌜ r ≡ openingNumber writing newest ⌝ }
 {
-    if 63 <= writing {
+    if (WINDOW as u32) <= writing {
         return 11;
     }
     stamp_number(newest)
-}
-
-// The record with another hand.
-fn with_hand(state: Record, hand: Slot) -> Record
-    ensures { λ r. ⌜ r ≡ withHand state hand ⌝ }
-{
-    let mut next = state;
-    next.hand = hand;
-    next
 }
 
 // A slot that the sweep took, after it passed so many: copied out where it is dirty, else opened for the block.
@@ -68,17 +63,17 @@ fn take(
     requires { ⌜ length (now hdd) ≡ hddLength (labelIn state) ⌝ }
     requires { ⌜ recordTest state ≡ true ⌝ }
     requires { ⌜ legalRows (labelIn state) (now table) ≡ true ⌝ }
-    requires { ⌜ state .count < 63 ⌝ }
+    requires { ⌜ state .count < windowMost ⌝ }
     requires { ⌜ Took s passed ≡ sweptOf (labelIn state) (now table) (state .hand) ⌝ }
     ensures { λ q. ⌜ record { said = paperOf (q .answer); state = q .state; table = now (table .exit); ssd = now (ssd .exit); hdd = now (hdd .exit) } ≡ left (takenBy s passed (boxOf (now (ssd .entry)) (now (hdd .entry)) (now (table .entry)) state) b flags) (record { ssd = now (ssd .entry); hdd = now (hdd .entry) }) ⌝ }
 {
-    let l = places::label(state.slots, state.blocks);
+    let l = state.label;
     let hand = state.hand;
     let dirty = table[2 * (s.0 as usize) + 1] / 2 % 2;
     if dirty == 1 {
         sweep::clear_used(l, table, hand, passed);
         moves::copy_out(ssd, hdd, table, state, s);
-        let next = with_hand(state, s);
+        let next = state::with_hand(state, s);
         return answers::answered(Answer::CopiedOut, next);
     }
     let number = stamp_number(state.newest);
@@ -109,10 +104,10 @@ pub fn sweep_for(
     requires { ⌜ writing ≡ openRows (now table) ⌝ }
     ensures { λ q. ⌜ record { said = paperOf (q .answer); state = q .state; table = now (table .exit); ssd = now (ssd .exit); hdd = now (hdd .exit) } ≡ left (sweptFor (boxOf (now (ssd .entry)) (now (hdd .entry)) (now (table .entry)) state) b flags) (record { ssd = now (ssd .entry); hdd = now (hdd .entry) }) ⌝ }
 {
-    if 63 <= writing {
+    if (WINDOW as u32) <= writing {
         return answers::refused(11, state);
     }
-    let l = places::label(state.slots, state.blocks);
+    let l = state.label;
     let hand = state.hand;
     let swept = sweep::sweep(l, table, hand);
     match swept {

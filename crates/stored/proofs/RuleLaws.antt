@@ -14,7 +14,7 @@ use Rattle.layout.specs.PageRule.{pageTest}
 use Rattle.protocol.specs.Rows.{valid, writing}
 use Rattle.protocol.specs.Recovery.{metasOf, entryIn, newestOf, eachLegal, stampIn, stampsDiffer, noneTwice, storedRows, allOpenIn, pagesTest}
 use Rattle.protocol.proofs.model.Base.{and-left, and-right}
-use Rattle.table.proofs.WindowLaws.{window-left, window-end}
+use Rattle.record.proofs.WindowLaws.{window-left, window-end}
 use Rattle.stored.proofs.StoredLaws.{metas-left, metas-end}
 
 module _ (l : Label) (ssd : List ℕ) (p : ℕ) where

@@ -19,16 +19,15 @@ use Rattle.layout.specs.PageRule.{pageTest, inRange, windowTest}
 use Rattle.layout.proofs.Loops.{left}
 use Rattle.layout.proofs.RuleLaws.{count-rule, page-rows}
 use Rattle.layout.proofs.JudgeLaws.{length-window}
-use Rattle.protocol.specs.Rows.{arrayOf}
+use Rattle.layout.specs.Window.{arrayOf, windowFrom}
 use Rattle.protocol.specs.Recovery.{metasOf, Newest, newer, newestFrom, newestOf, eachLegal}
 use Rattle.protocol.proofs.model.Base.{and-left}
 use Rattle.protocol.proofs.why.PagesRules.{legal-get}
-use Rattle.protocol.proofs.Windows.{take-array}
+use Rattle.record.proofs.WindowLaws.{take-array, array-more}
 use Rattle.protocol.proofs.Metas.{length-firsts, length-metas, metas-at}
-use Rattle.table.proofs.RecordLaws.{array-more}
 use Rattle.stored.specs.declared.Newest.{Newest as Numbered}
-use Rattle.stored.specs.declared.Pending.{Pending}
-use Rattle.stored.specs.Stored.{pendingOf, newestAt, newerIf, newerAt, Found}
+use Rattle.layout.specs.declared.Window.{Window}
+use Rattle.stored.specs.Stored.{newestAt, newerIf, newerAt, Found}
 
 pub pages-most : (l : Label) → Limits l → metaPages l ≤ 240
 unfolding metaPages
@@ -109,15 +108,14 @@ window-none page = refl
 
 pub window-all : (page : List ℕ) (window : List Slot) (count k : ℕ) → count ≡ countOf page → k ≤ count → count ≤ k
     → window ≡ arrayOf (firsts k (slotAt page))
-    → record { window = window; count = count } ≡ pendingOf (windowOf page)
+    → record { slots = window; count = count } ≡ windowFrom (windowOf page)
 unfolding windowOf
 window-all page window count k e h g f =
     let q : k ≡ countOf page = omega arith in
     rw (f, q, e, length-firsts (countOf page) (slotAt page))
 
 pub no-window : (pages : List (List ℕ)) (at : ℕ) → at ≡ 0
-    → record { window = replicate 63 (record { 0 = 0 }); count = 0 } ≡ pendingOf (newestAt pages at .window)
-unfolding arrayOf
+    → windowFrom [] ≡ windowFrom (newestAt pages at .window)
 no-window pages at e = rw e
 
 pub some-window : (pages : List (List ℕ)) (at : ℕ) → at ≢ 0 → windowOf (getD pages (at - 1) []) ≡ newestAt pages at .window
@@ -153,6 +151,6 @@ newest-bounded l pages (suc p) e h =
     }
 
 -- the pending slots, of the array again
-pub pending-bounded : (l : Label) (w : List Slot) (left : Pending) → left ≡ pendingOf w → Bounded l w
-    → (left .count ≤ 63) × (inRange l (take (left .count) (left .window)) ≡ true)
+pub pending-bounded : (l : Label) (w : List Slot) (left : Window) → left ≡ windowFrom w → Bounded l w
+    → (left .count ≤ 63) × (inRange l (take (left .count) (left .slots)) ≡ true)
 pending-bounded l w left e k = rw e (k .most, rw (take-array w) (k .ranged))

@@ -6,16 +6,13 @@ use mathlib.Core.List.{List, []}
 use lib.ListN.{length, getD}
 use lib.Dec.{leb, ltb}
 use Rattle.pages.specs.Pages.{pageAt}
-use Rattle.layout.specs.declared.Slot.{Slot}
 use Rattle.layout.specs.declared.LabelRead.{LabelRead}
 use Rattle.layout.specs.declared.LabelRead.the-variants.{Illegal}
 use Rattle.layout.specs.Places.{labelPlace}
 use Rattle.layout.specs.LabelPage.{decodeLabel}
 use Rattle.layout.specs.MetaPage.{stampOf, windowOf}
-use Rattle.protocol.specs.Rows.{arrayOf}
 use Rattle.protocol.specs.Recovery.{Newest, newestOf}
 use Rattle.stored.specs.declared.Newest.{Newest as Numbered}
-use Rattle.stored.specs.declared.Pending.{Pending}
 
 -- what the first page of an image is read as, where the image has a page
 abbrev pub readIf : Bool → List ℕ → LabelRead
@@ -24,10 +21,6 @@ readIf false ssd = Illegal
 
 abbrev pub labelIf : List ℕ → LabelRead
 labelIf ssd = readIf (leb 4096 (length ssd)) ssd
-
--- a window as array and length
-abbrev pub pendingOf : List Slot → Pending
-pendingOf w = record { window = arrayOf w; count = length w }
 
 -- stamp and window of the page with this number plus 1; 0 is no page
 abbrev pub newestAt : List (List ℕ) → ℕ → Newest

@@ -1,22 +1,25 @@
 // What an SSD image holds: its label, its metadata pages, their entries, and the newest window.
 use crate::Newest;
-use crate::Pending;
 use layout::Entry;
 use layout::Label;
 use layout::LabelRead;
 use layout::Slot;
+use layout::WINDOW;
+use layout::Window;
 use layout::label_page;
 use layout::places;
 use metadata::page;
+use record::window;
 ghost use mathlib.Core.Path.{_≡_};
-ghost use mathlib.Core.Bool.{Bool, true, false};
-ghost use mathlib.Core.List.{List, []};
-ghost use Prim.Native.Nat.{ℕ, _+_, _*_, _≤_, _<_};
+ghost use mathlib.Core.Bool.{true};
+ghost use mathlib.Core.List.{[]};
+ghost use Prim.Native.Nat.{_+_, _≤_, _<_};
 ghost use lib.ListN.{length, getD};
 ghost use Rattle.layout.specs.Places.{Limits, metaPages, ssdLength};
 ghost use Rattle.layout.specs.MetaPage.{stampOf, countOf, windowOf};
-ghost use Rattle.protocol.specs.Recovery.{metasOf, entryIn, newestOf, eachLegal};
-ghost use Rattle.stored.specs.Stored.{labelIf, pendingOf, newestAt, newerAt, Found};
+ghost use Rattle.protocol.specs.Recovery.{metasOf, entryIn, eachLegal};
+ghost use Rattle.stored.specs.Stored.{labelIf, newestAt, newerAt, Found};
+ghost use Rattle.layout.specs.Window.{windowMost, windowFrom};
 
 // The label of an SSD image, if its first page is one.
 pub fn label_of(ssd: &[u8]) -> LabelRead
@@ -83,34 +86,31 @@ pub fn newest(ssd: &[u8], l: Label) -> Newest
 }
 
 // The window of a page.
-fn window_of(page: &[u8]) -> Pending
+fn window_of(page: &[u8]) -> Window
     requires { ⌜ length (now page) ≡ 4096 ⌝ }
-    requires { ⌜ countOf (now page) ≤ 63 ⌝ }
-    ensures { λ r. ⌜ r ≡ pendingOf (windowOf (now (page .entry))) ⌝ }
+    requires { ⌜ countOf (now page) ≤ windowMost ⌝ }
+    ensures { λ r. ⌜ r ≡ windowFrom (windowOf (now (page .entry))) ⌝ }
 {
     let count = page::count_of(page);
-    let mut window = [Slot(0); 63];
+    let mut slots = [Slot(0); WINDOW];
     let mut k: u32 = 0;
     while k < count {
         let s = page::slot_at(page, k);
-        window[k as usize] = s;
+        slots[k as usize] = s;
         k += 1;
     }
-    Pending { window, count }
+    Window { slots, count }
 }
 
 // The window of the newest page, as `newest` found it.
-pub fn pending(ssd: &[u8], l: Label, at: u32) -> Pending
+pub fn pending(ssd: &[u8], l: Label, at: u32) -> Window
     requires { ⌜ length (now ssd) ≡ ssdLength l ⌝ }
     requires { ⌜ eachLegal l 0 (metasOf l (now ssd)) ≡ true ⌝ }
     requires { ⌜ at ≤ metaPages l ⌝ }
-    ensures { λ r. ⌜ r ≡ pendingOf (newestAt (metasOf l (now (ssd .entry))) at .window) ⌝ }
+    ensures { λ r. ⌜ r ≡ windowFrom (newestAt (metasOf l (now (ssd .entry))) at .window) ⌝ }
 {
     if at == 0 {
-        return Pending {
-            window: [Slot(0); 63],
-            count: 0,
-        };
+        return window::empty();
     }
     window_of(meta_page(ssd, l, at - 1))
 }

@@ -3,12 +3,6 @@ pub mod image;
 pub mod rules;
 pub mod twice;
 
-// Pending slots: an array and its length, zero past it.
-pub struct Pending {
-    pub window: [layout::Slot; 63],
-    pub count: u32,
-}
-
 // The largest stamp, and the number of its page plus 1, or 0 where every stamp is 0.
 pub struct Newest {
     pub stamp: u32,

@@ -2,17 +2,17 @@
 use crate::image;
 use crate::twice;
 use layout::Label;
-use layout::Slot;
+use layout::Window;
 use layout::places;
 use metadata::judge;
 ghost use mathlib.Core.Path.{_≡_};
-ghost use mathlib.Core.Bool.{Bool, true, false, not, _&&_, _||_};
-ghost use mathlib.Core.List.{List};
-ghost use Prim.Native.Nat.{ℕ, _+_, _*_, _≤_, _<_};
-ghost use lib.ListN.{length, take, drop};
+ghost use mathlib.Core.Bool.{true, false, not, _&&_, _||_};
+ghost use Prim.Native.Nat.{_+_, _≤_, _<_};
+ghost use lib.ListN.{length, drop};
 ghost use lib.Dec.{eqb};
 ghost use Rattle.layout.specs.Places.{Limits, metaPages, ssdLength};
 ghost use Rattle.layout.specs.PageRule.{inRange};
+ghost use Rattle.layout.specs.Window.{windowMost, slotsIn};
 ghost use Rattle.protocol.specs.Rows.{valid, writing};
 ghost use Rattle.protocol.specs.Recovery.{metasOf, eachLegal, stampIn, stampsDiffer, allOpenIn, pagesTest};
 
@@ -83,16 +83,17 @@ fn is_open(flags: u32) -> bool
 }
 
 // Whether each of the window's slots has a valid, writing entry.
-pub fn all_open(ssd: &[u8], l: Label, window: [Slot; 63], count: u32) -> bool
+pub fn all_open(ssd: &[u8], l: Label, w: Window) -> bool
     requires { ⌜ length (now ssd) ≡ ssdLength l ⌝ }
-    requires { ⌜ count ≤ 63 ⌝ }
-    requires { ⌜ inRange l (take count window) ≡ true ⌝ }
-    ensures { λ r. ⌜ r ≡ allOpenIn (metasOf l (now (ssd .entry))) (take count window) ⌝ }
+    requires { ⌜ w .count ≤ windowMost ⌝ }
+    requires { ⌜ inRange l (slotsIn w) ≡ true ⌝ }
+    ensures { λ r. ⌜ r ≡ allOpenIn (metasOf l (now (ssd .entry))) (slotsIn w) ⌝ }
 {
-    let n = count as usize;
+    let slots = w.slots;
+    let n = w.count as usize;
     let mut i: usize = 0;
     while i < n {
-        let s = window[i];
+        let s = slots[i];
         let entry = image::entry_of(ssd, l, s);
         if !is_open(entry.flags) {
             return false;
@@ -118,7 +119,5 @@ pub fn pages_ok(ssd: &[u8], l: Label) -> bool
         return false;
     }
     let found = image::newest(ssd, l);
-    let pending = image::pending(ssd, l, found.at);
-    let window = pending.window;
-    all_open(ssd, l, window, pending.count)
+    all_open(ssd, l, image::pending(ssd, l, found.at))
 }

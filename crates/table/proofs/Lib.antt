@@ -1,9 +1,6 @@
 pub mod RowLaws
 pub mod ScanLaws
-pub mod WindowLaws
 pub mod ConditionLaws
 pub mod CountLaws
 pub mod AgreeLaws
 pub mod SweepLaws
-pub mod RecordLaws
-pub mod LeaveLaws

@@ -1,7 +1,6 @@
 // The table in memory: a lent slice of 32-bit words, two for each slot, block and flags. It is judged, searched and changed
 // by slot number here; what the record keeps of it, the window and the hand, too.
 pub mod condition;
-pub mod record;
 pub mod rows;
 pub mod sweep;
 pub mod window;

@@ -3,10 +3,13 @@ mod print;
 
 use layout::Block;
 use layout::Slot;
+use layout::WINDOW;
+use layout::Window;
 use layout::places;
 use protocol::Condition;
-use protocol::Phase;
-use protocol::Record;
+use record::Phase;
+use record::Record;
+use record::state;
 use serving::judge;
 use table::Swept;
 use table::rows;
@@ -102,29 +105,22 @@ fn sweep_from(table: &mut [u32], hand: u32) {
     sweep::clear_used(l, table, Slot(hand), passed);
 }
 
-// The last 63 slots.
-fn last_slots() -> [Slot; 63] {
-    let mut window = [Slot(0); 63];
+// A window of the last 63 slots.
+fn last_slots() -> Window {
+    let mut slots = [Slot(0); WINDOW];
     let mut i: usize = 0;
-    while i < 63 {
-        window[i] = Slot(57537 + i as u32);
+    while i < WINDOW {
+        slots[i] = Slot(57537 + i as u32);
         i += 1;
     }
-    window
+    Window { slots, count: 63 }
 }
 
 // A record whose window is the last 63 slots.
 fn full(hand: u32) -> Record {
-    Record {
-        slots: 57600,
-        blocks: 16777216,
-        hand: Slot(hand),
-        newest: 7,
-        phase: Phase::Ready,
-        unconfirmed: false,
-        window: last_slots(),
-        count: 63,
-    }
+    let l = places::label(57600, 16777216);
+    let fresh = state::fresh(l, 7, Phase::Ready, last_slots());
+    state::with_hand(fresh, Slot(hand))
 }
 
 fn condition(k: Condition) {

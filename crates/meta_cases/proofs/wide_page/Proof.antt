@@ -4,10 +4,10 @@ use Rattle.meta_cases.proofs.wide_page.Statement.{statement}
 use Rattle.meta_cases.proofs.wide_page.Tie as tie
 
 abbrev Inv-loop : tie.InvT-loop
-Inv-loop window₀ i₀ window i = i ≤ 63
+Inv-loop slots₀ i₀ slots i = i ≤ 63
 
 abbrev μ-loop : tie.MeasureT-loop
-μ-loop window₀ i₀ window i = 63 - i
+μ-loop slots₀ i₀ slots i = 63 - i
 
 loop-holds : tie.Need-loop-holds Inv-loop μ-loop
 loop-holds c = search needs
@@ -15,11 +15,11 @@ loop-holds c = search needs
 cast-t6 : tie.Need-cast-t6 Inv-loop μ-loop
 cast-t6 c = search needs
 
-mul-window : tie.Need-mul-window Inv-loop μ-loop
-mul-window c = search needs
+mul-slots : tie.Need-mul-slots Inv-loop μ-loop
+mul-slots c = search needs
 
-array-set-from-window : tie.Need-array-set-from-window Inv-loop μ-loop
-array-set-from-window c = search needs
+array-set-from-slots : tie.Need-array-set-from-slots Inv-loop μ-loop
+array-set-from-slots c = search needs
 
 add-i : tie.Need-add-i Inv-loop μ-loop
 add-i c = search needs
@@ -47,8 +47,8 @@ wide-page-spec =
     μ-loop
     loop-holds
     cast-t6
-    mul-window
-    array-set-from-window
+    mul-slots
+    array-set-from-slots
     add-i
     loop-less
     loop-again

@@ -1,14 +1,14 @@
 -- The box as the crash argument sees it, the plain disk, what holds of a ready box, and the seven moves.
-use Prim.Native.Nat.{ℕ, zero, suc, _+_, _≤_, _<_}
-use mathlib.Core.Path.{_≡_, refl}
+use Prim.Native.Nat.{ℕ, suc, _+_, _≤_, _<_}
+use mathlib.Core.Path.{_≡_}
 use mathlib.Core.Logic.{_≢_}
-use mathlib.Core.Bool.{Bool, true, false, cond, not, _&&_, _||_}
+use mathlib.Core.Bool.{Bool, true, false, cond, not, _||_}
 use mathlib.Core.List.{List, [], _∷_, _++_, List·Memᴰ}
 use native.Mathlib.Omega.{arith}
 use lib.ListN.{length}
 use lib.Dec.{eqb}
-use Rattle.protocol.specs.Judge.{largestStamp}
-use Rattle.protocol.proofs.model.Base.{upd, has, keep, metaNo, without, off, Window}
+use Rattle.record.specs.Record.{largestStamp}
+use Rattle.protocol.proofs.model.Base.{upd, has, metaNo, without, off, Window}
 
 abbrev pub Page : Type 0
 Page = List ℕ

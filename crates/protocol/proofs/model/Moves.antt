@@ -1,25 +1,22 @@
 -- What each move asks of a ready box, and that it leaves a ready box.
-use Prim.Native.Nat.{ℕ, zero, suc, _+_, _-_, _*_, _≤_, _<_}
-use mathlib.Core.Path.{_≡_, refl, sym, ap, subst, _∙_}
+use Prim.Native.Nat.{ℕ, _-_, _<_}
+use mathlib.Core.Path.{_≡_, refl, sym, subst, _∙_}
 use mathlib.Core.Logic.{_≢_}
-use mathlib.Core.Bool.{Bool, true, false, cond, not, _&&_, _||_}
-use mathlib.Core.List.{List, [], _∷_, _++_, List·Memᴰ, List·Memᴰ·head, List·Memᴰ·tail, Memᴰ·cast}
-use mathlib.Core.Option.{Option, some, none}
-use native.Mathlib.Omega.{arith}
+use mathlib.Core.Bool.{Bool, true, false, cond, not}
+use mathlib.Core.List.{_∷_, List·Memᴰ, List·Memᴰ·head, List·Memᴰ·tail}
 use native.Mathlib.Decide.{ℕ-discrete}
-use lib.ListN.{length, length-append}
-use lib.Dec.{T, eqb, ltb, ltb→lt, nltb→le}
-use Rattle.protocol.specs.Judge.{largestStamp}
+use lib.ListN.{length}
+use lib.Dec.{T, ltb, ltb→lt}
+use Rattle.record.specs.Record.{largestStamp}
 use Rattle.protocol.proofs.model.Reopened.{fixed}
 use Rattle.layout.proofs.Booleans.{Told, told, told-true, told-false, clash}
-use Rattle.protocol.proofs.model.Base.{upd, has, metaNo, upd-same, upd-other, eqb-is}
-use Rattle.protocol.proofs.model.Model.{Page, Row, clean, dirty, fetching, writing, free, valid, dty, opn, blk, Model, Plain, Ready, settle, landed, copied, stored, opened}
+use Rattle.protocol.proofs.model.Base.{upd, upd-same, upd-other}
+use Rattle.protocol.proofs.model.Model.{Page, Row, valid, dty, opn, blk, Model, Plain, Ready, landed, copied, opened}
 use Rattle.protocol.proofs.model.Rows.{dty-valid}
-use Rattle.protocol.proofs.model.View.{find, Found, found, at, nowhere, view, viewAt}
+use Rattle.protocol.proofs.model.View.{at}
 use Rattle.protocol.proofs.model.Opened.{opened-ready}
 use Rattle.protocol.proofs.model.Landed.{landed-ready}
 use Rattle.protocol.proofs.model.Copied.{copied-ready}
-use Rattle.protocol.proofs.model.Flushed.{flushed-ready, settled-ready}
 
 -- the plain disk's account
 unfoldable pub landing : ℕ → Page → Plain → Plain

@@ -1,16 +1,16 @@
 -- A slot joins the window, with a metadata store: the offer of a clean block, and what a sweep takes.
-use Prim.Native.Nat.{ℕ, zero, suc, _+_, _-_, _≤_, _<_}
-use mathlib.Core.Path.{_≡_, refl, sym, ap, subst, _∙_}
+use Prim.Native.Nat.{ℕ, _-_, _<_}
+use mathlib.Core.Path.{_≡_, refl, sym, _∙_}
 use mathlib.Core.Logic.{_≢_}
-use mathlib.Core.Bool.{Bool, true, false, cond, not, _&&_, _||_}
-use mathlib.Core.List.{List, [], _∷_, _++_, List·Memᴰ, Memᴰ·cast}
+use mathlib.Core.Bool.{true, false}
+use mathlib.Core.List.{[], _∷_, _++_, List·Memᴰ, Memᴰ·cast}
 use native.Mathlib.Omega.{arith}
 use native.Mathlib.Decide.{ℕ-discrete}
 use lib.ListN.{length, length-append}
 use lib.Dec.{eqb}
-use Rattle.protocol.specs.Judge.{largestStamp}
+use Rattle.record.specs.Record.{largestStamp}
 use Rattle.layout.proofs.Booleans.{Told, told, told-true, told-false, clash}
-use Rattle.protocol.proofs.model.Base.{upd, has, keep, metaNo, without, off, upd-same, upd-other, has-snoc, has-snoc-other, eqb-same, eqb-is, Window, snoc-window}
+use Rattle.protocol.proofs.model.Base.{upd, has, metaNo, upd-same, upd-other, has-snoc, has-snoc-other, eqb-same, eqb-is, Window, snoc-window}
 use Rattle.protocol.proofs.model.Rows.{dty-valid}
 use Rattle.protocol.proofs.model.Model.{Row, valid, dty, opn, blk, Model, Plain, stored, opened, Ready}
 

@@ -1,5 +1,5 @@
 -- Each refusal number is used exactly where document 01's condition holds and no earlier one of the call's does.
-use Prim.Native.Nat.{ℕ, _-_, _≤_}
+use Prim.Native.Nat.{ℕ, _≤_}
 use mathlib.Core.Path.{_≡_, refl, sym, ap, subst, _∙_}
 use mathlib.Core.Logic.{inl, inr, _↔_}
 use mathlib.Core.Bool.{Bool, true, false, _&&_}
@@ -12,10 +12,11 @@ use borrow.Author.Tests.{leb-true, le-leb, not-true}
 use Rattle.layout.proofs.PlaceLaws.{within}
 use Rattle.layout.proofs.Booleans.{Told, told, told-true, told-false, clash}
 use Rattle.layout.proofs.RuleLaws.{_⇔_}
-use Rattle.protocol.specs.declared.Phase.{Phase}
-use Rattle.protocol.specs.declared.Phase.the-variants.{Formatting, Recovering, Ready}
+use Rattle.record.specs.declared.Phase.{Phase}
+use Rattle.record.specs.declared.Phase.the-variants.{Formatting, Recovering, Ready}
 use Rattle.protocol.specs.Paper.{refusal, refused}
-use Rattle.protocol.specs.Rows.{writing, labelIn}
+use Rattle.protocol.specs.Rows.{writing}
+use Rattle.record.specs.Record.{labelIn}
 use Rattle.protocol.specs.Box.{Box, left, boxAfter}
 use Rattle.protocol.specs.Condition.{conditionOf}
 use Rattle.protocol.specs.Plan.{Call, format, step, flush, reopen, offer, fetch, landFetch, lookUp, view, writeBack, land, plan, storesMeta}
@@ -24,11 +25,12 @@ use Rattle.protocol.specs.Recovery.{labelAt, metasOf}
 use Rattle.protocol.specs.Calls.{decided, effectOf, resultOf, boxOf, View, viewed, viewOf}
 use Rattle.pages.specs.Parts.{Part}
 use Rattle.layout.specs.declared.Block.{Block}
-use Rattle.protocol.specs.declared.Record.{Record}
+use Rattle.record.specs.declared.Record.{Record}
 use Rattle.protocol.proofs.Judged.{NoneHold, none-hold, first-none}
 use Rattle.protocol.specs.Why.{Contents, RightPhase, RightState, OpensAnother, Why, FirstWhy}
 use Rattle.protocol.proofs.why.Basics.{none-same, and-same, is-same, unit-same}
-use Rattle.protocol.proofs.why.Records.{label-same, record-same, lengths-same}
+use Rattle.protocol.proofs.why.Records.{label-same, lengths-same}
+use Rattle.record.proofs.RuleLaws.{record-same}
 use Rattle.protocol.proofs.why.RowsRules.{each-same, rows-same}
 use Rattle.protocol.proofs.why.PagesRules.{pages-same}
 use Rattle.protocol.proofs.why.Answers.{plan-answers}
@@ -106,7 +108,7 @@ same badRecord c x = none-same (record-same (x .state))
 same wrongLength c x = none-same (lengths-same (labelFor c x) c (x .images) (x .table))
 same badRows c x = none-same (contents-same c x)
 same wrongPhase c x = none-same (phase-same c (x .state .phase))
-same blockTooHigh c x = most-same (x .state .blocks) (blockFor c .0)
+same blockTooHigh c x = most-same (x .state .label .blocks) (blockFor c .0)
 same slotOpen c x = open-same (x .table) (blockFor c)
 same wrongState c x = none-same (state-same c (x .table))
 same hasSlot c x = cached-same (x .table) (blockFor c)

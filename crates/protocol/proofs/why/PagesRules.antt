@@ -18,12 +18,12 @@ use Rattle.layout.proofs.Booleans.{clash, and-of, and-parts, or-use}
 use Rattle.layout.proofs.RuleLaws.{_⇔_, page-rule}
 use Rattle.protocol.specs.Rows.{valid, writing}
 use Rattle.protocol.specs.Recovery.{entryIn, Newest, newer, newestFrom, newestOf, eachLegal, stampIn, stampsDiffer, blockIn, noneTwice, allOpenIn, storedRows, pagesTest}
-use Rattle.protocol.specs.Judge.{eachSlot}
+use Rattle.record.specs.Window.{eachSlot}
 use Rattle.protocol.specs.Why.{PagesRule}
 use Rattle.protocol.proofs.Metas.{length-firsts, firsts-at, stamp-most}
 use Rattle.protocol.proofs.Entries.{length-rows, rows-block, rows-flags, each-legal, stamps-differ, none-twice}
 use Rattle.protocol.proofs.why.Basics.{or-neither}
-use Rattle.protocol.proofs.why.Each.{at, place-get, place-of}
+use Rattle.record.proofs.Each.{at, place-get, place-of}
 
 -- each page
 pub legal-get : (l : Label) (p : ℕ) (pages : List (List ℕ)) → eachLegal l p pages ≡ true → (q : ℕ) → q < length pages

@@ -11,15 +11,17 @@ use Rattle.layout.specs.declared.Label.{Label}
 use Rattle.layout.specs.PageRule.{listed}
 use Rattle.layout.proofs.Booleans.{clash, not-of}
 use Rattle.layout.proofs.RuleLaws.{_⇔_, pair-rule}
-use Rattle.protocol.specs.declared.Record.{Record}
-use Rattle.protocol.specs.declared.Phase.{Phase}
-use Rattle.protocol.specs.declared.Phase.the-variants.{Formatting, Recovering, Ready}
-use Rattle.protocol.specs.Rows.{rowBlock, rowFlags, valid, writing, used, labelIn, windowIn}
-use Rattle.protocol.specs.Judge.{rowTest, eachRow, eachSlot, isEmpty, agreeTest, rowsTest}
+use Rattle.record.specs.declared.Record.{Record}
+use Rattle.record.specs.declared.Phase.{Phase}
+use Rattle.record.specs.declared.Phase.the-variants.{Formatting, Recovering, Ready}
+use Rattle.protocol.specs.Rows.{rowBlock, rowFlags, valid, writing, used}
+use Rattle.record.specs.Record.{labelIn, windowIn}
+use Rattle.protocol.specs.Judge.{rowTest, eachRow, isEmpty, agreeTest, rowsTest}
+use Rattle.record.specs.Window.{eachSlot}
 use Rattle.protocol.specs.Why.{IsRow, RowRule, Agree, RowsRule}
 use Rattle.protocol.proofs.Tables.{each-get, each-of}
 use Rattle.protocol.proofs.why.Basics.{none-same, and-same, if-same, is-same, via}
-use Rattle.protocol.proofs.why.Each.{listed-same}
+use Rattle.record.proofs.Each.{listed-same}
 
 -- a test at every row
 pub each-same : (t : ℕ → ℕ → ℕ → Bool) (P : ℕ → ℕ → ℕ → Type 0) → ((s b f : ℕ) → t s b f ⇔ P s b f)

@@ -7,7 +7,8 @@ use Rattle.pages.specs.Pages.{pageAt}
 use Rattle.layout.specs.declared.Slot.{Slot}
 use Rattle.layout.specs.Places.{metaPlace, dataPlace, blockPlace, metaOf}
 use Rattle.layout.specs.MetaPage.{encodeMeta, rowsOn}
-use Rattle.protocol.specs.Rows.{rowBlock, rowFlags, setRow, writing, labelIn, windowIn}
+use Rattle.protocol.specs.Rows.{rowBlock, rowFlags, setRow, writing}
+use Rattle.record.specs.Record.{labelIn, windowIn}
 use Rattle.protocol.specs.Box.{Box, ssdImage, hddImage, Store}
 use Rattle.protocol.specs.Plan.{Move, stay, uses, opens, lands, copies, confirms, mends, begins, formats, recovers, storesMeta}
 use Rattle.protocol.specs.Perform.{confirmed, joined, mendedAt, formatStore, landedAs, perform}

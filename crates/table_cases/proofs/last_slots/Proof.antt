@@ -4,10 +4,10 @@ use Rattle.table_cases.proofs.last_slots.Statement.{statement}
 use Rattle.table_cases.proofs.last_slots.Tie as tie
 
 abbrev Inv-loop : tie.InvT-loop
-Inv-loop window₀ i₀ window i = i ≤ 63
+Inv-loop slots₀ i₀ slots i = i ≤ 63
 
 abbrev μ-loop : tie.MeasureT-loop
-μ-loop window₀ i₀ window i = 63 - i
+μ-loop slots₀ i₀ slots i = 63 - i
 
 loop-holds : tie.Need-loop-holds Inv-loop μ-loop
 loop-holds c = search needs
@@ -18,11 +18,11 @@ cast-t5 c = search needs
 add-t6 : tie.Need-add-t6 Inv-loop μ-loop
 add-t6 c = search needs
 
-mul-window : tie.Need-mul-window Inv-loop μ-loop
-mul-window c = search needs
+mul-slots : tie.Need-mul-slots Inv-loop μ-loop
+mul-slots c = search needs
 
-array-set-from-window : tie.Need-array-set-from-window Inv-loop μ-loop
-array-set-from-window c = search needs
+array-set-from-slots : tie.Need-array-set-from-slots Inv-loop μ-loop
+array-set-from-slots c = search needs
 
 add-i : tie.Need-add-i Inv-loop μ-loop
 add-i c = search needs
@@ -45,8 +45,8 @@ last-slots-spec =
     loop-holds
     cast-t5
     add-t6
-    mul-window
-    array-set-from-window
+    mul-slots
+    array-set-from-slots
     add-i
     loop-less
     loop-again

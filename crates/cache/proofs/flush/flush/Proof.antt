@@ -1,7 +1,7 @@
 use mathlib.Core.Path.{_≡_}
 use lib.ListN.{length}
 use borrow.Author.Tests.{not-true, not-false, le-leb, lt-leb}
-use Rattle.protocol.specs.Rows.{labelIn}
+use Rattle.record.specs.Record.{labelIn}
 use Rattle.protocol.specs.Plan.{flush}
 use Rattle.protocol.specs.Perform.{confirmed, perform}
 use Rattle.protocol.specs.Calls.{boxOf}
@@ -9,7 +9,7 @@ use Rattle.serving.specs.Judging.{readyThen}
 use Rattle.serving.proofs.JudgingLaws.{found, looked}
 use Rattle.serving.proofs.ServeLaws.{refused-by, flush-judges}
 use Rattle.serving.proofs.ReadyLaws.{ready}
-use Rattle.serving.proofs.MoveLaws.{meta-of-low}
+use Rattle.layout.proofs.PlaceLaws.{meta-of-low}
 use Rattle.cache.proofs.CallLaws.{flush-idle, flush-spent, flush-done}
 use borrow.Author.Needs.{needs}
 use Rattle.cache.proofs.flush.flush.Statement.{statement}

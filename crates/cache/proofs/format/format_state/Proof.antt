@@ -3,13 +3,9 @@ use native.Mathlib.Omega.{arith}
 use borrow.Author.Tests.{le-leb, lt-leb}
 use borrow.Author.Needs.{needs}
 use Rattle.layout.specs.Places.{metaPages}
-use Rattle.protocol.specs.Rows.{labelIn}
 use Rattle.protocol.specs.Perform.{formatState}
 use Rattle.cache.proofs.format.format_state.Statement.{statement}
 use Rattle.cache.proofs.format.format_state.Tie as tie
-
-label-requires : tie.Need-label-requires
-label-requires c κs = search needs
 
 meta-pages-requires : tie.Need-meta-pages-requires
 meta-pages-requires c κs = search needs
@@ -18,20 +14,25 @@ add-if1 : tie.Need-add-if1
 unfolding metaPages
 add-if1 c = omega (arith, c .meta-pages .ensures)
 
+with-stamp-requires : tie.Need-with-stamp-requires
+with-stamp-requires c κs = search needs
+
+with-hand-requires : tie.Need-with-hand-requires
+with-hand-requires c κs = search needs
+
 with-phase-requires : tie.Need-with-phase-requires
 with-phase-requires c κs = search needs
 
 returns : tie.Need-returns
 returns c =
-    let m = c .before .before in
+    let m = c .before .before .before .before in
     let a = m .before .before .args in
-    let l = m .before .label .ensures in
-    let h : metaPages (labelIn (a .state)) + 1 ≤ a .done = rw (← l, ← m .meta-pages .ensures) (c .before .if1 .taken) in
-    rw (c .with-phase .ensures, formatState, le-leb _ _ h)
+    let h : metaPages (a .state .label) + 1 ≤ a .done = rw (← m .meta-pages .ensures) (c .before .before .before .if1 .taken) in
+    rw (c .with-phase .ensures, c .before .with-hand .ensures, c .before .before .with-stamp .ensures, formatState, le-leb _ _ h)
 
-add-t6 : tie.Need-add-t6
+add-t5 : tie.Need-add-t5
 unfolding metaPages
-add-t6 c = omega (arith, c .before .meta-pages .ensures)
+add-t5 c = omega (arith, c .before .meta-pages .ensures)
 
 with-phase-requires-2 : tie.Need-with-phase-requires-2
 with-phase-requires-2 c κs = search needs
@@ -40,19 +41,19 @@ returns-2 : tie.Need-returns-2
 returns-2 c =
     let m = c .before .before in
     let a = m .before .before .args in
-    let l = m .before .label .ensures in
-    let h : a .done < metaPages (labelIn (a .state)) + 1 = rw (← l, ← m .meta-pages .ensures) (c .before .if1 .left) in
+    let h : a .done < metaPages (a .state .label) + 1 = rw (← m .meta-pages .ensures) (c .before .if1 .left) in
     rw (c .with-phase2 .ensures, formatState, lt-leb _ _ h)
 
 pub format-state-spec : {M : Type 1} → statement M
 format-state-spec =
     tie.close
     (tie.spec
-    label-requires
     meta-pages-requires
     add-if1
+    with-stamp-requires
+    with-hand-requires
     with-phase-requires
     returns
-    add-t6
+    add-t5
     with-phase-requires-2
     returns-2)

@@ -13,9 +13,6 @@ same-length c = search needs
 returns : tie.Need-returns
 returns c = c .before .before .clear-page .ensures .stored ∙ rw (c .before .before .before .before .if1 .taken)
 
-label-requires : tie.Need-label-requires
-label-requires c κs = search needs
-
 sub-p : tie.Need-sub-p
 sub-p c = search needs
 
@@ -23,7 +20,7 @@ meta-pages-requires : tie.Need-meta-pages-requires
 meta-pages-requires c κs = search needs
 
 encode-label-requires : tie.Need-encode-label-requires
-encode-label-requires c κs = rw (c .before .before .label .ensures) (c .before .before .before .before .before .before .pre .1)
+encode-label-requires c κs = (c .before .before .before .before .before .before .pre .1)
 
 slice-aggregate-store : tie.Need-slice-aggregate-store
 slice-aggregate-store c = search needs
@@ -38,16 +35,15 @@ returns-2 : tie.Need-returns-2
 returns-2 c =
     let m = c .before .before .before .before .before .before .before in
     let s = m .before .before .before .before .before in
-    let l = m .before .label in
-    label-stored (s .args .ssd .now) (s .args .table .now) _ _ (s .args .state) (l .result) _ (s .args .done) (m .before .before .if1 .left)
-    (l .ensures) (m .meta-pages .ensures) (c .before .before .before .before .before .before .if2 .taken)
+    label-stored (s .args .ssd .now) (s .args .table .now) _ _ (s .args .state) _ (s .args .done) (m .before .before .if1 .left)
+    (m .meta-pages .ensures) (c .before .before .before .before .before .before .if2 .taken)
     (c .before .before .before .before .before .encode-label .ensures) (c .before .before .store .ensures)
 
 store-meta-requires : tie.Need-store-meta-requires
 store-meta-requires c κs =
     let m = c .before .before in
     let s = m .before .before .before .before .before in
-    (s .pre .0, rw (← m .before .label .ensures, ← m .meta-pages .ensures) (c .before .if2 .left))
+    (s .pre .0, rw (← m .meta-pages .ensures) (c .before .if2 .left))
 
 same-length-3 : tie.Need-same-length-3
 same-length-3 c = search needs
@@ -57,7 +53,7 @@ returns-3 c =
     let m = c .before .before .before .before .before in
     let s = m .before .before .before .before .before in
     meta-step-stored (s .args .ssd .now) (s .args .table .now) _ (s .args .state) (s .args .done) (m .before .before .if1 .left)
-    (rw (← m .before .label .ensures, ← m .meta-pages .ensures) (c .before .before .before .before .if2 .left))
+    (rw (← m .meta-pages .ensures) (c .before .before .before .before .if2 .left))
     (c .before .before .store-meta .ensures)
 
 pub format-store-spec : {M : Type 1} → statement M
@@ -67,7 +63,6 @@ format-store-spec =
     clear-page-requires
     same-length
     returns
-    label-requires
     sub-p
     meta-pages-requires
     encode-label-requires

@@ -4,9 +4,6 @@ use Rattle.serving.proofs.MoveLaws.{data-holds, block-holds}
 use Rattle.cache.proofs.land_fetch.copy_in.Statement.{statement}
 use Rattle.cache.proofs.land_fetch.copy_in.Tie as tie
 
-label-requires : tie.Need-label-requires
-label-requires c κs = search needs
-
 data-place-requires : tie.Need-data-place-requires
 data-place-requires c κs = search needs
 
@@ -16,10 +13,9 @@ block-place-requires c κs = search needs
 copy-page-requires : tie.Need-copy-page-requires
 copy-page-requires c κs =
     let s = c .before .before .before .before .before .before in
-    let a = s .args in
-    let l = c .before .before .before .label in (
-      data-holds (a .ssd .now) (a .state) (l .result) (a .s) _ (s .pre .0) (s .pre .1 .1 .0) (l .ensures) (c .before .data-place .ensures),
-      block-holds (a .hdd .now) (a .state) (l .result) (a .b) _ (s .pre .1 .0) (s .pre .1 .1 .1) (c .block-place .ensures),
+    let a = s .args in (
+      data-holds (a .ssd .now) (a .state .label) (a .s) _ (s .pre .0) (s .pre .1 .1 .0) (c .before .data-place .ensures),
+      block-holds (a .hdd .now) (a .state .label) (a .b) _ (s .pre .1 .0) (s .pre .1 .1 .1) (c .block-place .ensures),
     )
 
 same-length : tie.Need-same-length
@@ -29,13 +25,12 @@ returns : tie.Need-returns
 returns c =
     let d = c .before .before .before in
     c .before .before .copy-page .ensures
-    ∙ rw (d .block-place .ensures, d .before .data-place .ensures, d .before .before .before .label .ensures)
+    ∙ rw (d .block-place .ensures, d .before .data-place .ensures)
 
 pub copy-in-spec : {M : Type 1} → statement M
 copy-in-spec =
     tie.close
     (tie.spec
-    label-requires
     data-place-requires
     block-place-requires
     copy-page-requires

@@ -2,7 +2,7 @@ use mathlib.Core.Path.{_≡_}
 use native.Mathlib.Nat.{zero-add}
 use Rattle.pages.specs.Parts.{part}
 use Rattle.protocol.specs.declared.Condition.{Condition}
-use Rattle.protocol.specs.Rows.{labelIn}
+use Rattle.record.specs.Record.{labelIn}
 use Rattle.protocol.specs.Calls.{viewPart, viewOf}
 use Rattle.serving.proofs.JudgingLaws.{found}
 use Rattle.serving.proofs.ServedLaws.{Served, served}
@@ -48,9 +48,6 @@ returns c =
     (view-refused (part (a .ssd)) (part (a .hdd)) (a .table .now) (a .state) (a .block) (e .serves .result .number)
     (found _ (a .table .now) (a .block) (e .serves .ensures)) (c .before .if1 .taken))
 
-label-requires : tie.Need-label-requires
-label-requires c κs = search needs
-
 enum-told : tie.Need-enum-told
 enum-told c = search needs
 
@@ -61,7 +58,7 @@ page-at-requires : tie.Need-page-at-requires
 page-at-requires c κs =
     let e = c .before .before .before .before in
     let a = start e .args in
-    block-holds (a .hdd .now) (a .state) (labelIn (a .state)) (a .block) _ (known e .box .box .sound .hdd-size) (known e .low) (c .block-place .ensures)
+    block-holds (a .hdd .now) (a .state .label) (a .block) _ (known e .box .box .sound .hdd-size) (known e .low) (c .block-place .ensures)
 
 enum-known-condition : tie.Need-enum-known-condition
 enum-known-condition c = search needs
@@ -74,7 +71,7 @@ page-at-requires-2 c κs =
     let e = c .before .before .before .before .before in
     let a = start e .args in
     let R = known e .row _ (c .before .before .condition .given .1) in
-    data-holds (a .ssd .now) (a .state) _ _ _ (known e .box .box .sound .ssd-size) (R .low) (c .before .before .before .before .label .ensures) (c .data-place .ensures)
+    data-holds (a .ssd .now) (a .state .label) _ _ (known e .box .box .sound .ssd-size) (R .low) (c .data-place .ensures)
 
 enum-known-condition-2 : tie.Need-enum-known-condition-2
 enum-known-condition-2 c = search needs
@@ -87,7 +84,7 @@ page-at-requires-3 c κs =
     let e = c .before .before .before .before .before in
     let a = start e .args in
     let R = known e .row _ (c .before .before .condition2 .given .1) in
-    data-holds (a .ssd .now) (a .state) _ _ _ (known e .box .box .sound .ssd-size) (R .low) (c .before .before .before .before .label .ensures) (c .data-place2 .ensures)
+    data-holds (a .ssd .now) (a .state .label) _ _ (known e .box .box .sound .ssd-size) (R .low) (c .data-place2 .ensures)
 
 enum-told-2 : tie.Need-enum-told-2
 enum-told-2 c = search needs
@@ -99,7 +96,7 @@ page-at-requires-4 : tie.Need-page-at-requires-4
 page-at-requires-4 c κs =
     let e = c .before .before .before .before in
     let a = start e .args in
-    block-holds (a .hdd .now) (a .state) (labelIn (a .state)) (a .block) _ (known e .box .box .sound .hdd-size) (known e .low) (c .block-place2 .ensures)
+    block-holds (a .hdd .now) (a .state .label) (a .block) _ (known e .box .box .sound .hdd-size) (known e .low) (c .block-place2 .ensures)
 
 enum-told-3 : tie.Need-enum-told-3
 enum-told-3 c = search needs
@@ -111,7 +108,7 @@ page-at-requires-5 : tie.Need-page-at-requires-5
 page-at-requires-5 c κs =
     let e = c .before .before .before .before in
     let a = start e .args in
-    block-holds (a .hdd .now) (a .state) (labelIn (a .state)) (a .block) _ (known e .box .box .sound .hdd-size) (known e .low) (c .block-place3 .ensures)
+    block-holds (a .hdd .now) (a .state .label) (a .block) _ (known e .box .box .sound .hdd-size) (known e .low) (c .block-place3 .ensures)
 
 returns-2 : tie.Need-returns-2
 returns-2 c =
@@ -122,13 +119,13 @@ returns-2 c =
 returns-3 : tie.Need-returns-3
 returns-3 c =
     let e = c .before .before .before .before .before .before in
-    rw (e .if1 .left, c .page-at2 .ensures, c .before .data-place .ensures, c .before .before .before .before .before .label .ensures)
+    rw (e .if1 .left, c .page-at2 .ensures, c .before .data-place .ensures)
     (seen e _ (c .before .before .before .condition .given .1))
 
 returns-4 : tie.Need-returns-4
 returns-4 c =
     let e = c .before .before .before .before .before .before in
-    rw (e .if1 .left, c .page-at3 .ensures, c .before .data-place2 .ensures, c .before .before .before .before .before .label .ensures)
+    rw (e .if1 .left, c .page-at3 .ensures, c .before .data-place2 .ensures)
     (seen e _ (c .before .before .before .condition2 .given .1))
 
 returns-5 : tie.Need-returns-5
@@ -152,7 +149,6 @@ view-spec =
     part-result-start
     part-result-end
     returns
-    label-requires
     enum-told
     block-place-requires
     page-at-requires

@@ -41,9 +41,6 @@ returns-2 c =
     on-view (a .ssd .now) (a .hdd .now) (a .table .now) (a .words .now) b p (u .unpack .result) _ (legal (u .before)) (u .unpack .ensures)
     (view-stops (a .ssd .now) (a .hdd .now) (a .table .now) (u .unpack .result) b p (j .result) (j .ensures) (c .if2 .taken))
 
-label-requires : tie.Need-label-requires
-label-requires c κs = search needs
-
 place-for-requires : tie.Need-place-for-requires
 place-for-requires c κs = search needs
 
@@ -56,8 +53,8 @@ returns-3 c =
     let b : Block = record { 0 = a .block } in
     let p : Place = record { image = a .image .now; offset = a .offset .now } in
     on-view (a .ssd .now) (a .hdd .now) (a .table .now) (a .words .now) b p (u .unpack .result) _ (legal (u .before)) (u .unpack .ensures)
-    (view-passes (a .ssd .now) (a .hdd .now) (a .table .now) (u .unpack .result) b p (j .result) _ (c .place-for .result) (j .ensures) (e .if2 .left)
-    (c .before .label .ensures) (c .place-for .ensures))
+    (view-passes (a .ssd .now) (a .hdd .now) (a .table .now) (u .unpack .result) b p (j .result) (c .place-for .result) (j .ensures) (e .if2 .left)
+    (c .place-for .ensures))
 
 pub ferjulm-view-spec : {M : Type 1} → statement M
 ferjulm-view-spec =
@@ -68,6 +65,5 @@ ferjulm-view-spec =
     unpack-requires
     serves-requires
     returns-2
-    label-requires
     place-for-requires
     returns-3)

@@ -24,10 +24,10 @@ put-head-requires c κs = search needs
 
 put-lines-requires : tie.Need-put-lines-requires
 put-lines-requires c κs =
-    let s = c .before .before .before .before .before .before .before .before .before .before in
+    let s = c .before .before .before .before .before .before .before .before .before in
     let k = passed (s .args .l) (metasOf (s .args .l) (s .args .ssd .now)) (s .pre .1 .1 .1) in
-    let w = newest-bounded (s .args .l) (metasOf (s .args .l) (s .args .ssd .now)) _ (k .legal) (c .before .before .before .before .before .before .before .newest .ensures .on-page) in
-    let z = pending-bounded (s .args .l) _ _ (c .before .before .before .before .before .before .pending .ensures) w in
+    let w = newest-bounded (s .args .l) (metasOf (s .args .l) (s .args .ssd .now)) _ (k .legal) (c .before .before .before .before .before .before .newest .ensures .on-page) in
+    let z = pending-bounded (s .args .l) _ _ (c .before .before .before .before .before .pending .ensures) w in
     let f = few-slots (s .args .l) _ (s .pre .1 .0 .0) (s .pre .1 .0 .1) in
     (omega (arith, c .before .before .before .put-head .ensures .end-is, c .before .before .before .put-head .ensures .short, s .pre .0), (s .pre .1 .0 .0, z .0))
 
@@ -36,10 +36,10 @@ same-length c = search needs
 
 returns : tie.Need-returns
 returns c =
-    let s = c .before .before .before .before .before .before .before .before .before .before .before .before .before in
+    let s = c .before .before .before .before .before .before .before .before .before .before .before .before in
     let pages = metasOf (s .args .l) (s .args .ssd .now) in
-    let n = c .before .before .before .before .before .before .before .before .before .before .newest in
-    let p = c .before .before .before .before .before .before .before .before .before .pending in
+    let n = c .before .before .before .before .before .before .before .before .before .newest in
+    let p = c .before .before .before .before .before .before .before .before .pending in
     let f = few-slots (s .args .l) _ (s .pre .1 .0 .0) (s .pre .1 .0 .1) in
     written-as (written-more (c .before .before .before .before .before .before .put-head .ensures) (c .before .before .put-lines .ensures) (omega (arith, s .pre .0)))
     (image-is (s .args .l) pages (newestAt pages (n .result .at)) _ (p .result) (n .ensures .newest-is) (n .ensures .stamp-is) (p .ensures))

@@ -1,6 +1,7 @@
 use Prim.Native.Nat.{_-_, _*_, _≤_}
 use mathlib.Core.Path.{_≡_, refl, ap, _∙_}
-use lib.ListN.{length, take}
+use lib.ListN.{length}
+use Rattle.layout.specs.Window.{slotsIn}
 use Rattle.protocol.specs.Recovery.{metasOf}
 use Rattle.list_image.specs.Written.{Written}
 use Rattle.list_image.specs.Listing.{lineOf, linesOf}
@@ -12,11 +13,11 @@ use Rattle.list_image.proofs.image.put_lines.Statement.{statement}
 use Rattle.list_image.proofs.image.put_lines.Tie as tie
 
 abbrev Inv-loop : tie.InvT-loop
-Inv-loop page₀ at ssd l window count slots end₀ s₀ page end s =
-    (s ≤ slots) × (length page ≡ length page₀) × Written page₀ page at end (63 * s) (linesOf (take count window) (metasOf l ssd) s)
+Inv-loop page₀ at ssd l w slots end₀ s₀ page end s =
+    (s ≤ slots) × (length page ≡ length page₀) × Written page₀ page at end (63 * s) (linesOf (slotsIn w) (metasOf l ssd) s)
 
 abbrev μ-loop : tie.MeasureT-loop
-μ-loop page₀ at ssd l window count slots end₀ s₀ page end s = slots - s
+μ-loop page₀ at ssd l w slots end₀ s₀ page end s = slots - s
 
 loop-holds : tie.Need-loop-holds Inv-loop μ-loop
 unfolding linesOf
@@ -40,7 +41,7 @@ loop-again : tie.Need-loop-again Inv-loop μ-loop
 loop-again c =
     let s = c .before .before .before .before .before .before .before .before .before in
     let l = c .before .before .before .before .before .before .loop in
-    let w = take (s .args .count) (s .args .window) in
+    let w = slotsIn (s .args .w) in
     let v = written-as {n = 63} (c .before .before .put-line .ensures) (ap (lineOf w (record { 0 = l .s })) (c .before .before .before .before .entry-of .ensures)) (omega arith) in (
       omega arith,
       written-length v (omega (arith, l .inv .2 .end-is, l .inv .2 .short, s .pre .0)) ∙ l .inv .1,
@@ -55,7 +56,7 @@ returns c =
     let s = c .before .before .before .before in
     let l = c .before .loop in
     let q : l .s ≡ s .args .l .slots = omega arith in
-    written-as (l .inv .2) (ap (linesOf (take (s .args .count) (s .args .window)) (metasOf (s .args .l) (s .args .ssd .now))) q) (omega arith)
+    written-as (l .inv .2) (ap (linesOf (slotsIn (s .args .w)) (metasOf (s .args .l) (s .args .ssd .now))) q) (omega arith)
 
 pub put-lines-spec : {M : Type 1} → statement M
 put-lines-spec =

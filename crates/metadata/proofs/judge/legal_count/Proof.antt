@@ -7,6 +7,9 @@ use Rattle.metadata.proofs.judge.legal_count.Tie as tie
 count-of-requires : tie.Need-count-of-requires
 count-of-requires c κs = search needs
 
+cast-if1 : tie.Need-cast-if1
+cast-if1 c = search needs
+
 returns : tie.Need-returns
 unfolding countTest
 returns c = rw (← c .before .count-of .ensures, lt-leb (c .before .count-of .result) 63 (c .if1 .taken))
@@ -24,4 +27,4 @@ returns-3 c = rw (← c .before .before .before .count-of .ensures, ← c .befor
 
 pub legal-count-spec : {M : Type 1} → statement M
 legal-count-spec =
-    tie.close (tie.spec count-of-requires returns stamp-of-requires returns-2 returns-3)
+    tie.close (tie.spec count-of-requires cast-if1 returns stamp-of-requires returns-2 returns-3)

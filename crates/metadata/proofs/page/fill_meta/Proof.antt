@@ -8,6 +8,7 @@ use Rattle.layout.specs.declared.Slot.{Slot}
 use Rattle.layout.specs.MetaPage.{slotsBytes, rowsBytes}
 use Rattle.metadata.proofs.WriteLaws.{meta-built}
 use native.Mathlib.Omega.{arith}
+use Rattle.layout.proofs.Loops.{length-mapped}
 use borrow.Author.Needs.{needs}
 use Rattle.metadata.proofs.page.fill_meta.Statement.{statement}
 use Rattle.metadata.proofs.page.fill_meta.Tie as tie
@@ -31,10 +32,10 @@ returns : tie.Need-returns
 returns c =
     let s = c .before .before .before .before .before .before .before .before .before .before .before .before .before .before .before .before .before .before in
     let t : ℕ = s .args .stamp in
-    let n : ℕ = s .args .count in
+    let n : ℕ = s .args .w .count in
     let rows : List ℕ = s .args .rows .now in
-    let w : List Slot = take n (s .args .window) in
-    let all : length (s .args .window) ≡ 63 = search needs in
+    let w : List Slot = take n (s .args .w .slots) in
+    let all : length (s .args .w .slots) ≡ 63 = search (needs, length-mapped) in
     let lw : length w ≡ n = simp (length-take, all) (omega (arith, s .pre .1 .1 .0)) in
     let e1 = c .before .before .before .before .before .before .before .before .before .before .before .before .before .before .put-word .ensures ∙ (λ i. putMid 0 4 (s .pre .0 i) (leBytes 4 t)) in
     let e2 = c .before .before .before .before .before .before .before .before .before .before .put-word2 .ensures ∙ (λ i. putMid 4 4 (e1 i) (leBytes 4 n)) in

@@ -1,24 +1,27 @@
-use Prim.Native.Nat.{ℕ, _≤_, _-_, _+_, _*_}
-use mathlib.Core.Path.{_≡_, refl, sym, ap, _∙_}
+use Prim.Native.Nat.{ℕ, _≤_, _-_, _*_}
+use mathlib.Core.Path.{_≡_, sym, ap, _∙_}
 use lib.ListN.{length, take, take-append-drop}
 use borrow.Rule.Slice.PartMut.{putMid}
 use Rattle.layout.specs.MetaPage.{slotsBytes}
 use Rattle.metadata.proofs.WriteLaws.{slot-turn}
+use Rattle.layout.proofs.Loops.{length-mapped}
 use borrow.Author.Needs.{needs}
 use native.Mathlib.Omega.{arith}
 use Rattle.metadata.proofs.page.write_window.Statement.{statement}
 use Rattle.metadata.proofs.page.write_window.Tie as tie
 
 abbrev Inv-loop : tie.InvT-loop
-Inv-loop page₀ count window n i₀ page i =
-    (i ≤ count) × (n ≡ count) × (length page ≡ 4096) × (page ≡ putMid 16 (4 * i) page₀ (slotsBytes (take i window)))
+Inv-loop page₀ slots n i₀ page i = (i ≤ n) × (length page ≡ 4096) × (page ≡ putMid 16 (4 * i) page₀ (slotsBytes (take i slots)))
 
 abbrev μ-loop : tie.MeasureT-loop
-μ-loop page₀ count window n i₀ page i = count - i
+μ-loop page₀ slots n i₀ page i = n - i
+
+cast-n : tie.Need-cast-n Inv-loop μ-loop
+cast-n c = search needs
 
 loop-holds : tie.Need-loop-holds Inv-loop μ-loop
 unfolding slotsBytes
-loop-holds c = (omega arith, refl, search needs, sym (take-append-drop 16 (c .before .args .page .now)))
+loop-holds c = (omega arith, search needs, sym (take-append-drop 16 (c .before .before .before .args .page .now)))
 
 mul-s : tie.Need-mul-s Inv-loop μ-loop
 mul-s c = search needs
@@ -44,13 +47,12 @@ loop-less c = search needs
 loop-again : tie.Need-loop-again Inv-loop μ-loop
 loop-again c =
     let l = c .before .before .before .before .before .before .loop in
-    let s = c .before .before .before .before .before .before .before .before in
+    let s = c .before .before .before .before .before .before .before .before .before .before in
     let w = c .before .before .put-word .ensures in
-    let all : length (s .args .t2) ≡ 63 = search needs in (
+    let all : length (s .args .w .slots) ≡ 63 = search (needs, length-mapped) in (
       omega arith,
-      refl,
       search needs,
-      w ∙ slot-turn (s .args .page .now) (l .page) (s .args .t2) (l .i) _ (s .pre .1) (omega arith) (omega arith) (l .inv .3),
+      w ∙ slot-turn (s .args .page .now) (l .page) (s .args .w .slots) (l .i) _ (s .pre .1) (omega arith) (omega (arith, s .pre .0)) (l .inv .2),
     )
 
 same-length : tie.Need-same-length Inv-loop μ-loop
@@ -59,9 +61,9 @@ same-length c = search needs
 returns : tie.Need-returns Inv-loop μ-loop
 returns c =
     let l = c .before .loop in
-    let s = c .before .before .before in
-    let e : l .i ≡ s .args .count = omega arith in
-    l .inv .3 ∙ ap (λ (k : ℕ). putMid 16 (4 * k) (s .args .page .now) (slotsBytes (take k (s .args .t2)))) e
+    let s = c .before .before .before .before .before in
+    let e : l .i ≡ s .args .w .count = omega arith in
+    l .inv .2 ∙ ap (λ (k : ℕ). putMid 16 (4 * k) (s .args .page .now) (slotsBytes (take k (s .args .w .slots)))) e
 
 pub write-window-spec : {M : Type 1} → statement M
 write-window-spec =
@@ -69,6 +71,7 @@ write-window-spec =
     (tie.spec
     Inv-loop
     μ-loop
+    cast-n
     loop-holds
     mul-s
     array-copy-out-s

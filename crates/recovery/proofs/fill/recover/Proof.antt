@@ -26,32 +26,35 @@ pending-requires c κs =
 
 free-rows-requires : tie.Need-free-rows-requires
 free-rows-requires c κs =
-    let s = c .before .before .before .before .before .before .before .before .before .before in
+    let s = c .before .before .before .before .before .before .before .before .before in
     let k = passed (s .args .l) (metasOf (s .args .l) (s .args .ssd .now)) (s .pre .1 .1 .1) in
     let w = newest-bounded (s .args .l) (metasOf (s .args .l) (s .args .ssd .now)) _ (k .legal)
-    (c .before .before .before .newest .ensures .on-page) in
-    let z = pending-bounded (s .args .l) _ _ (c .before .before .pending .ensures) w in
-    (ap length (c .before .before .before .before .before .before .fill .ensures) ∙ length-rows _ _, (z .0, z .1))
+    (c .before .before .newest .ensures .on-page) in
+    let z = pending-bounded (s .args .l) _ _ (c .before .pending .ensures) w in
+    (ap length (c .before .before .before .before .before .fill .ensures) ∙ length-rows _ _, (z .0, z .1))
 
-reopened-requires : tie.Need-reopened-requires
-reopened-requires c κs = search needs
+phase-of-requires : tie.Need-phase-of-requires
+phase-of-requires c κs = search needs
+
+fresh-requires : tie.Need-fresh-requires
+fresh-requires c κs = search needs
 
 same-length : tie.Need-same-length
 same-length c = search needs
 
 returns : tie.Need-returns
 returns c =
-    let s = c .before .before .before .before .before .before .before .before .before .before .before .before .before .before in
+    let f = c .before .before .before .before in
+    let d = f .before .before in
+    let n = d .before .newest in
+    let s = d .before .before .before .before .before .before .before .before in
     let pages = metasOf (s .args .l) (s .args .ssd .now) in
     let k = passed (s .args .l) pages (s .pre .1 .1 .1) in
-    let n = c .before .before .before .before .before .before .before .newest in
     let w = newest-bounded (s .args .l) pages _ (k .legal) (n .ensures .on-page) in
-    recovered-is (s .args .l) pages (newestAt pages (n .result .at)) (n .result .stamp)
-    (c .before .before .before .before .before .before .pending .result) _ _
-    (n .ensures .newest-is) (n .ensures .stamp-is) (c .before .before .before .before .before .before .pending .ensures) (w .ranged)
-    (rw (n .ensures .newest-is) (k .opened))
-    (c .before .before .before .free-rows .ensures ∙ ap (freed _)
-    (c .before .before .before .before .before .before .before .before .before .before .fill .ensures)) (c .reopened .ensures)
+    recovered-is (s .args .l) pages (newestAt pages (n .result .at)) (n .result .stamp) (d .pending .result) _ _ _
+    (n .ensures .newest-is) (n .ensures .stamp-is) (d .pending .ensures) (w .ranged) (rw (n .ensures .newest-is) (k .opened))
+    (f .free-rows .ensures ∙ ap (freed _) (d .before .before .before .before .fill .ensures)) (c .before .phase-of .ensures)
+    (c .fresh .ensures)
 
 pub recover-spec : {M : Type 1} → statement M
 recover-spec =
@@ -61,6 +64,7 @@ recover-spec =
     newest-requires
     pending-requires
     free-rows-requires
-    reopened-requires
+    phase-of-requires
+    fresh-requires
     same-length
     returns)

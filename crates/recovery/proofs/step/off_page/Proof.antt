@@ -1,22 +1,31 @@
 use Prim.Native.Nat.{ℕ, _≤_, _-_}
 use mathlib.Core.Path.{_≡_, ap, _∙_}
 use lib.ListN.{length, take, length-take}
+use Rattle.layout.specs.Window.{windowFrom}
+use Rattle.layout.proofs.Loops.{length-mapped}
 use Rattle.protocol.specs.Recovery.{offPage}
-use Rattle.stored.specs.Stored.{pendingOf}
-use Rattle.recovery.proofs.MendLaws.{off-most, pending-none, pending-one}
+use Rattle.record.proofs.RecordLaws.{from-zero}
+use Rattle.recovery.proofs.MendLaws.{off-most, off-one, more-from}
 use borrow.Author.Needs.{needs}
 use native.Mathlib.Omega.{arith}
 use Rattle.recovery.proofs.step.off_page.Statement.{statement}
 use Rattle.recovery.proofs.step.off_page.Tie as tie
 
 abbrev Inv-loop : tie.InvT-loop
-Inv-loop count p window n left₀ i₀ left i = (n ≡ count) × (i ≤ count) × (left ≡ pendingOf (offPage p (take i window)))
+Inv-loop p slots n left₀ i₀ left i = (i ≤ n) × (left ≡ windowFrom (offPage p (take i slots)))
 
 abbrev μ-loop : tie.MeasureT-loop
-μ-loop count p window n left₀ i₀ left i = count - i
+μ-loop p slots n left₀ i₀ left i = n - i
+
+cast-n : tie.Need-cast-n Inv-loop μ-loop
+cast-n c = search needs
+
+empty-requires : tie.Need-empty-requires Inv-loop μ-loop
+empty-requires c κs = search needs
 
 loop-holds : tie.Need-loop-holds Inv-loop μ-loop
-loop-holds c = (search needs, search needs, pending-none (c .args .p) (c .args .t1))
+unfolding offPage
+loop-holds c = (search needs, c .empty .ensures)
 
 mul-s : tie.Need-mul-s Inv-loop μ-loop
 mul-s c = search needs
@@ -24,11 +33,12 @@ mul-s c = search needs
 array-copy-out-s : tie.Need-array-copy-out-s Inv-loop μ-loop
 array-copy-out-s c = search needs
 
-kept-off-requires : tie.Need-kept-off-requires Inv-loop μ-loop
-kept-off-requires c κs =
+more-off-requires : tie.Need-more-off-requires Inv-loop μ-loop
+more-off-requires c κs =
     let l = c .before .before .loop in
-    let s = c .before .before .before in
-    rw (l .inv .2) (omega (arith, off-most (s .args .p) (take (l .i) (s .args .t1)), length-take (l .i) (s .args .t1)))
+    let s = c .before .before .before .before .before .before in
+    let w = take (l .i) (s .args .w .slots) in
+    rw (l .inv .1) (from-zero (offPage (s .args .p) w), omega (arith, off-most (s .args .p) w, length-take (l .i) (s .args .w .slots), s .pre))
 
 add-i : tie.Need-add-i Inv-loop μ-loop
 add-i c = search needs
@@ -38,20 +48,20 @@ loop-less c = search needs
 
 loop-again : tie.Need-loop-again Inv-loop μ-loop
 loop-again c =
-    let s = c .before .before .before .before in
     let l = c .before .before .before .loop in
-    let all : length (s .args .t1) ≡ 63 = search needs in (
+    let s = c .before .before .before .before .before .before .before in
+    let all : length (s .args .w .slots) ≡ 63 = search (needs, length-mapped) in (
       search needs,
-      search needs,
-      rw (c .kept-off .ensures, l .inv .2) (pending-one (s .args .p) (s .args .t1) (l .i) _ (omega arith) (omega arith)),
+      more-from (s .args .p) _ (l .left) (offPage (s .args .p) (take (l .i) (s .args .w .slots))) _ (l .inv .1) (c .more-off .ensures)
+          ∙ ap windowFrom (off-one (s .args .p) (s .args .w .slots) (l .i) _ (omega (arith, s .pre))),
     )
 
 returns : tie.Need-returns Inv-loop μ-loop
 returns c =
-    let s = c .before .before in
     let l = c .before .loop in
-    let e : l .i ≡ s .args .count = omega arith in
-    l .inv .2 ∙ ap (λ (n : ℕ). pendingOf (offPage (s .args .p) (take n (s .args .t1)))) e
+    let s = c .before .before .before .before .before in
+    let e : l .i ≡ s .args .w .count = omega arith in
+    l .inv .1 ∙ ap (λ (n : ℕ). windowFrom (offPage (s .args .p) (take n (s .args .w .slots)))) e
 
 pub off-page-spec : {M : Type 1} → statement M
 off-page-spec =
@@ -59,10 +69,12 @@ off-page-spec =
     (tie.spec
     Inv-loop
     μ-loop
+    cast-n
+    empty-requires
     loop-holds
     mul-s
     array-copy-out-s
-    kept-off-requires
+    more-off-requires
     add-i
     loop-less
     loop-again

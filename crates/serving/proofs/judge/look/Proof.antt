@@ -1,9 +1,8 @@
-use mathlib.Core.Path.{_≡_, sym, ap, _∙_}
+use mathlib.Core.Path.{_≡_, sym, _∙_}
 use mathlib.Core.Bool.{true, false}
 use borrow.Author.Tests.{not-true, not-false}
-use Rattle.layout.specs.declared.Label.{Label}
 use Rattle.protocol.specs.Judge.{rowsTest}
-use Rattle.protocol.specs.Rows.{labelIn}
+use Rattle.record.specs.Record.{labelIn}
 use Rattle.table.specs.Scan.{scanOf, legalRows}
 use Rattle.table.proofs.ScanLaws.{Scanned, scanned, scan-judges}
 use Rattle.table.proofs.ConditionLaws.{condition-is}
@@ -12,18 +11,15 @@ use borrow.Author.Needs.{needs}
 use Rattle.serving.proofs.judge.look.Statement.{statement}
 use Rattle.serving.proofs.judge.look.Tie as tie
 
-label-requires : tie.Need-label-requires
-label-requires c κs = search needs
-
 scan-requires : tie.Need-scan-requires
-scan-requires c κs = rw (c .label .ensures) (c .before .before .pre .1)
+scan-requires c κs = (c .before .before .pre .1)
 
 -- what the scan found, by the record's own label
 scan-is : (c : tie.After-scan) → let s = c .before .before .before in
     c .scan .result ≡ scanOf (labelIn (s .args .state)) (s .args .table .now) (s .args .b)
 scan-is c =
     let s = c .before .before .before in
-    c .scan .ensures ∙ ap (λ (l : Label). scanOf l (s .args .table .now) (s .args .b)) (c .before .label .ensures)
+    c .scan .ensures
 
 seen : (c : tie.Else1) → let s = c .before .before .before .before .before in
     Scanned (labelIn (s .args .state)) (s .args .table .now) (s .args .b) (c .before .before .scan .result)
@@ -59,7 +55,7 @@ returns-2 c =
 condition-requires : tie.Need-condition-requires
 condition-requires c κs =
     let e = c .before .before .before .before in
-    rw (e .before .label .ensures) (e .before .before .before .pre .1)
+    (e .before .before .before .pre .1)
 
 returns-3 : tie.Need-returns-3
 returns-3 c =
@@ -68,14 +64,13 @@ returns-3 c =
     let k = seen (e .before) in
     let q : rowsTest (s .args .state) (s .args .table .now) ≡ true =
     sym (rows-agree _ _ (k .rows)) ∙ sym (e .agrees .ensures) ∙ not-false _ (c .before .if2 .left) in
-    let n = condition-is (s .args .table .now) (s .args .b) (s .args .state .slots) (s .pre .1) in
-    rw (q, c .condition .ensures, k .open-are, k .found-at, e .before .before .before .before .label .ensures, n)
+    let n = condition-is (s .args .table .now) (s .args .b) (s .args .state .label .slots) (s .pre .1) in
+    rw (q, c .condition .ensures, k .open-are, k .found-at, n)
 
 pub look-spec : {M : Type 1} → statement M
 look-spec =
     tie.close
     (tie.spec
-    label-requires
     scan-requires
     refused-requires
     returns

@@ -1,10 +1,10 @@
-use mathlib.Core.Path.{_≡_, sym, ap, _∙_}
+use mathlib.Core.Path.{_≡_, sym, _∙_}
 use mathlib.Core.Bool.{true}
 use lib.ListN.{length}
 use borrow.Author.Tests.{not-true, not-false}
-use Rattle.layout.specs.declared.Label.{Label}
-use Rattle.protocol.specs.Rows.{labelIn}
-use Rattle.protocol.specs.Judge.{recordTest, lengthsTest}
+use Rattle.record.specs.Record.{labelIn}
+use Rattle.record.specs.Rule.{recordTest}
+use Rattle.protocol.specs.Judge.{lengthsTest}
 use Rattle.serving.proofs.JudgingLaws.{bad-record, bad-length, bad-page, by-rows, lengths-table}
 use borrow.Author.Needs.{needs}
 use Rattle.serving.proofs.judge.sound.Statement.{statement}
@@ -24,9 +24,6 @@ returns c =
     (sym (c .before .before .record-ok .ensures) ∙ not-true _ (c .before .if1 .taken)))
     (c .refused .ensures)
 
-label-requires : tie.Need-label-requires
-label-requires c κs = search needs
-
 lengths-ok-requires : tie.Need-lengths-ok-requires
 lengths-ok-requires c κs = search needs
 
@@ -39,8 +36,7 @@ lengths-are : (c : tie.After-lengths-ok) → let a = c .before .before .before .
     lengthsTest (labelIn (a .state)) (a .ssd) (a .hdd) (length (a .table .now)) ≡ c .lengths-ok .result
 lengths-are c =
     let a = c .before .before .before .before .before .args in
-    sym (c .lengths-ok .ensures
-    ∙ ap (λ (l : Label). lengthsTest l (a .ssd) (a .hdd) (length (a .table .now))) (c .before .label .ensures))
+    sym (c .lengths-ok .ensures)
 
 refused-requires-2 : tie.Need-refused-requires-2
 refused-requires-2 c κs = search needs
@@ -88,7 +84,6 @@ sound-spec =
     record-ok-requires
     refused-requires
     returns
-    label-requires
     lengths-ok-requires
     refused-requires-2
     returns-2

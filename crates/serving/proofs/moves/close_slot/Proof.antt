@@ -32,14 +32,14 @@ mul-table c = search needs
 slice-write-table : tie.Need-slice-write-table
 slice-write-table c = search needs
 
-leave-requires : tie.Need-leave-requires
-leave-requires c κs = search needs
+left-requires : tie.Need-left-requires
+left-requires c κs = search needs
 
 same-length : tie.Need-same-length
 same-length c = search needs
 
 returns : tie.Need-returns
-returns c = (c .leave .ensures, rw (c .before .before .before .before .pre .1 .1 .1))
+returns c = (c .left .ensures, rw (c .before .before .before .before .pre .1 .1 .1))
 
 pub close-slot-spec : {M : Type 1} → statement M
 close-slot-spec =
@@ -53,6 +53,6 @@ close-slot-spec =
     sub-table
     mul-table
     slice-write-table
-    leave-requires
+    left-requires
     same-length
     returns)

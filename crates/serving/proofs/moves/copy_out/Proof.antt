@@ -8,9 +8,6 @@ use Rattle.serving.proofs.MoveLaws.{data-holds, block-holds}
 use Rattle.serving.proofs.moves.copy_out.Statement.{statement}
 use Rattle.serving.proofs.moves.copy_out.Tie as tie
 
-label-requires : tie.Need-label-requires
-label-requires c κs = search needs
-
 cast-k : tie.Need-cast-k
 cast-k c = search needs
 
@@ -41,11 +38,10 @@ data-place-requires c κs = search needs
 copy-page-requires : tie.Need-copy-page-requires
 copy-page-requires c κs =
     let s = c .before .before .before .before .before .before .before .before .before .before in
-    let a = s .args in
-    let l = c .before .before .before .before .before .before .label in (
-      block-holds (a .hdd .now) (a .state) (l .result) (rowBlock (a .table .now) (a .s)) _ (s .pre .1 .0) (s .pre .1 .1 .1 .1 .0)
+    let a = s .args in (
+      block-holds (a .hdd .now) (a .state .label) (rowBlock (a .table .now) (a .s)) _ (s .pre .1 .0) (s .pre .1 .1 .1 .1 .0)
           (c .before .block-place .ensures),
-      data-holds (a .ssd .now) (a .state) (l .result) (a .s) _ (s .pre .0 .ssd-size) (s .pre .1 .1 .1 .0) (l .ensures)
+      data-holds (a .ssd .now) (a .state .label) (a .s) _ (s .pre .0 .ssd-size) (s .pre .1 .1 .1 .0)
           (c .data-place .ensures),
     )
 
@@ -72,9 +68,8 @@ same-length-2 c = search needs
 returns : tie.Need-returns
 returns c =
     let s = c .before .before .before .before .before .before .before .before .before .before .before .before .before in
-    let d = c .before .before .before in
-    let l = d .before .before .before .before .before .before .label .ensures in (
-      c .before .before .copy-page .ensures ∙ rw (d .before .block-place .ensures, d .data-place .ensures, l),
+    let d = c .before .before .before in (
+      c .before .before .copy-page .ensures ∙ rw (d .before .block-place .ensures, d .data-place .ensures),
       rw (s .pre .1 .1 .1 .1 .1),
     )
 
@@ -82,7 +77,6 @@ pub copy-out-spec : {M : Type 1} → statement M
 copy-out-spec =
     tie.close
     (tie.spec
-    label-requires
     cast-k
     mul-k
     mul-block

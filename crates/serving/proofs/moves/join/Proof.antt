@@ -2,11 +2,14 @@ use borrow.Author.Needs.{needs}
 use Rattle.serving.proofs.moves.join.Statement.{statement}
 use Rattle.serving.proofs.moves.join.Tie as tie
 
-join-requires : tie.Need-join-requires
-join-requires c κs = search needs
+joined-requires : tie.Need-joined-requires
+joined-requires c κs = search needs
+
+with-hand-requires : tie.Need-with-hand-requires
+with-hand-requires c κs = search needs
 
 returns : tie.Need-returns
-returns c = rw (c .join .ensures)
+returns c = rw (c .with-hand .ensures, c .before .joined .ensures)
 
 pub join-spec : {M : Type 1} → statement M
-join-spec = tie.close (tie.spec join-requires returns)
+join-spec = tie.close (tie.spec joined-requires with-hand-requires returns)

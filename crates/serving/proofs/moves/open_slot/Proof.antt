@@ -1,8 +1,9 @@
 use mathlib.Core.Path.{_∙_}
 use lib.ListN.{length}
 use borrow.Author.Needs.{needs}
-use Rattle.protocol.specs.Rows.{labelIn}
-use Rattle.serving.proofs.MoveLaws.{meta-of-low, joined-fits}
+use Rattle.record.specs.Record.{labelIn}
+use Rattle.layout.proofs.PlaceLaws.{meta-of-low}
+use Rattle.serving.proofs.MoveLaws.{joined-fits}
 use Rattle.serving.proofs.moves.open_slot.Statement.{statement}
 use Rattle.serving.proofs.moves.open_slot.Tie as tie
 

@@ -1,13 +1,10 @@
 use native.Mathlib.Omega.{arith}
 use lib.ListN.{length-take, length-drop}
 use borrow.Author.Needs.{needs}
-use Rattle.protocol.specs.Rows.{labelIn}
+use Rattle.record.specs.Record.{labelIn}
 use Rattle.serving.proofs.MoveLaws.{meta-low, meta-stored}
 use Rattle.serving.proofs.moves.store_meta.Statement.{statement}
 use Rattle.serving.proofs.moves.store_meta.Tie as tie
-
-label-requires : tie.Need-label-requires
-label-requires c κs = search needs
 
 mul-start : tie.Need-mul-start
 mul-start c = search needs
@@ -18,6 +15,9 @@ rows-end-requires c κs =
     let F = s .pre .0 in
     let h = meta-low (labelIn (s .args .state)) (s .args .p) (s .pre .1) in
     (omega (arith, F .table-size), omega (arith, F .table-size, F .slots-most), omega arith, omega (arith, F .table-size))
+
+window-of-requires : tie.Need-window-of-requires
+window-of-requires c κs = search needs
 
 mul-encode-meta : tie.Need-mul-encode-meta
 mul-encode-meta c = search needs
@@ -35,7 +35,7 @@ encode-meta-requires : tie.Need-encode-meta-requires
 encode-meta-requires c κs =
     let e = c .before .before .rows-end .ensures in
     let s = c .before .before .before .before .before .before in
-    (s .pre .0 .window-most, (simp (length-take, length-drop) (omega (arith, e .3)), simp (length-take, length-drop) (omega (arith, e))))
+    (rw (c .before .window-of .ensures) (s .pre .0 .window-most), (simp (length-take, length-drop) (omega (arith, e .3)), simp (length-take, length-drop) (omega (arith, e))))
 
 meta-place-requires : tie.Need-meta-place-requires
 meta-place-requires c κs = search needs
@@ -55,16 +55,18 @@ returns c =
     let a = s .args in
     let e = c .before .before .before .before .before .before .before .before .before .rows-end .ensures in
     meta-stored (a .ssd .now) (a .table .now) _ _ (a .state) (a .stamp) (a .p) _ _ (omega (arith, e)) (e .0)
-    (c .before .before .before .before .meta-place .ensures) (c .before .before .before .before .before .before .encode-meta .ensures)
+    (c .before .before .before .before .meta-place .ensures)
+    (rw (c .before .before .before .before .before .before .before .before .window-of .ensures) at
+    (c .before .before .before .before .before .before .encode-meta .ensures))
     (c .before .before .store .ensures)
 
 pub store-meta-spec : {M : Type 1} → statement M
 store-meta-spec =
     tie.close
     (tie.spec
-    label-requires
     mul-start
     rows-end-requires
+    window-of-requires
     mul-encode-meta
     sub-encode-meta
     part-encode-meta-start

@@ -1,10 +1,9 @@
-use mathlib.Core.Path.{_≡_, sym, ap, _∙_}
+use mathlib.Core.Path.{_≡_, sym, _∙_}
 use mathlib.Core.Bool.{false}
 use native.Mathlib.Omega.{arith}
 use lib.Dec.{leb}
 use borrow.Author.Tests.{le-leb, lt-leb, leb-false}
-use Rattle.layout.specs.declared.Label.{Label}
-use Rattle.protocol.specs.Rows.{labelIn}
+use Rattle.record.specs.Record.{labelIn}
 use Rattle.protocol.specs.Judge.{openRows}
 use Rattle.protocol.specs.Calls.{boxOf}
 use Rattle.table.specs.Sweeps.{sweptOf}
@@ -19,11 +18,14 @@ swept : (c : tie.After-sweep) → let a = c .before .before .before .before .bef
     c .sweep .result ≡ sweptOf (labelIn (a .state)) (a .table .now) (a .state .hand)
 swept c =
     let a = c .before .before .before .before .before .before .before .before .args in
-    c .sweep .ensures ∙ ap (λ (l : Label). sweptOf l (a .table .now) (a .state .hand)) (c .before .before .before .label .ensures)
+    c .sweep .ensures
 
 -- 11 does not hold
 room : (c : tie.Else1) → leb 63 (openRows (c .before .before .before .before .args .table .now)) ≡ false
 room c = lt-leb _ _ (rw (c .before .before .before .before .pre .1 .1 .1 .1 .1) at (c .if1 .left))
+
+cast-if1 : tie.Need-cast-if1
+cast-if1 c = search needs
 
 refused-requires : tie.Need-refused-requires
 refused-requires c κs = search needs
@@ -35,13 +37,10 @@ returns c =
     rw (c .refused .ensures .0, c .refused .ensures .1)
     (swept-full (boxOf (a .ssd .now) (a .hdd .now) (a .table .now) (a .state)) (a .b) (a .flags) (le-leb _ _ (rw (s .pre .1 .1 .1 .1 .1) at (c .before .if1 .taken))))
 
-label-requires : tie.Need-label-requires
-label-requires c κs = search needs
-
 sweep-requires : tie.Need-sweep-requires
 sweep-requires c κs =
     let s = c .before .before .before .before .before .before .before in
-    rw (c .before .before .label .ensures) (s .pre .0 .table-size, hand-low (s .args .state) (s .pre .1 .1 .0))
+    (s .pre .0 .table-size, hand-low (s .args .state) (s .pre .1 .1 .0))
 
 enum-told : tie.Need-enum-told
 enum-told c = search needs
@@ -114,9 +113,9 @@ pub sweep-for-spec : {M : Type 1} → statement M
 sweep-for-spec =
     tie.close
     (tie.spec
+    cast-if1
     refused-requires
     returns
-    label-requires
     sweep-requires
     enum-told
     refused-requires-2

@@ -1,10 +1,10 @@
-use mathlib.Core.Path.{_≡_, sym, ap, _∙_}
+use mathlib.Core.Path.{_≡_, sym, _∙_}
 use mathlib.Core.Bool.{true}
 use native.Mathlib.Omega.{arith}
 use lib.ListN.{length}
 use borrow.Author.Tests.{eq-eqb, ne-eqb, leb-false}
-use Rattle.layout.specs.declared.Label.{Label}
-use Rattle.protocol.specs.Rows.{rowFlags, dirty, labelIn}
+use Rattle.protocol.specs.Rows.{rowFlags, dirty}
+use Rattle.record.specs.Record.{labelIn}
 use Rattle.protocol.specs.Perform.{confirmed, perform}
 use Rattle.protocol.specs.Calls.{boxOf}
 use Rattle.table.specs.Sweeps.{clearedFrom}
@@ -29,16 +29,13 @@ cleared : (c : tie.After-clear-used) → let a = c .before .before .before .befo
     c .clear-used .last .1 .0 ≡ clearedFrom (a .passed) (labelIn (a .state)) (a .table .now) (a .state .hand)
 cleared c =
     let a = c .before .before .before .before .before .before .before .before .before .before .args in
-    c .clear-used .ensures ∙ ap (λ (l : Label). clearedFrom (a .passed) l (a .table .now) (a .state .hand)) (c .before .before .before .before .before .before .label .ensures)
+    c .clear-used .ensures
 
 cleared-2 : (c : tie.After-clear-used2) → let a = c .before .before .before .before .before .before .before .before .before .before .before .before .args in
     c .clear-used2 .last .1 .0 ≡ clearedFrom (a .passed) (labelIn (a .state)) (a .table .now) (a .state .hand)
 cleared-2 c =
     let a = c .before .before .before .before .before .before .before .before .before .before .before .before .args in
-    c .clear-used2 .ensures ∙ ap (λ (l : Label). clearedFrom (a .passed) l (a .table .now) (a .state .hand)) (c .before .before .before .before .before .before .before .before .label .ensures)
-
-label-requires : tie.Need-label-requires
-label-requires c κs = search needs
+    c .clear-used2 .ensures
 
 cast-dirty : tie.Need-cast-dirty
 cast-dirty c = search needs
@@ -60,7 +57,7 @@ slice-read-dirty c =
 clear-used-requires : tie.Need-clear-used-requires
 clear-used-requires c κs =
     let s = c .before .before .before .before .before .before .before .before .before in
-    rw (c .before .before .before .before .before .label .ensures) (s .pre .0 .table-size, hand-low (s .args .state) (s .pre .1 .1 .0))
+    (s .pre .0 .table-size, hand-low (s .args .state) (s .pre .1 .1 .0))
 
 copy-out-requires : tie.Need-copy-out-requires
 copy-out-requires c κs =
@@ -132,12 +129,12 @@ returns-2 c =
 clear-used-requires-2 : tie.Need-clear-used-requires-2
 clear-used-requires-2 c κs =
     let s = c .before .before .before .before .before .before .before .before .before .before .before in
-    rw (c .before .before .before .before .before .before .before .label .ensures) (s .pre .0 .table-size, hand-low (s .args .state) (s .pre .1 .1 .0))
+    (s .pre .0 .table-size, hand-low (s .args .state) (s .pre .1 .1 .0))
 
 next-slot-requires : tie.Need-next-slot-requires
 next-slot-requires c κs =
     let s = c .before .before .before .before .before .before .before .before .before .before .before .before .before .before in
-    rw (c .before .before .before .before .before .before .before .before .before .before .label .ensures) (found s .low)
+    (found s .low)
 
 open-slot-requires : tie.Need-open-slot-requires
 open-slot-requires c κs =
@@ -175,14 +172,13 @@ returns-3 c =
     let z = c .before .before .before .before .before .open-slot .ensures in
     let x = c .before .before .before .before .before .before .before .before .next-slot .ensures .0 in
     let d = found s .dirty-is ∙ ne-eqb _ 1 (e .before .before .if1 .left) in
-    rw (c .answered2 .ensures .0, c .answered2 .ensures .1, z .0, z .1, z .2, cleared-2 k, x, c .before .before .before .before .before .before .before .before .before .before .before .before .before .before .before .before .before .before .before .label .ensures)
+    rw (c .answered2 .ensures .0, c .answered2 .ensures .1, z .0, z .1, z .2, cleared-2 k, x)
     (taken-opens (a .s) (a .passed) (boxOf (a .ssd .now) (a .hdd .now) (a .table .now) (a .state)) (a .b) (a .flags) d (sym (e .before .stamp-number .ensures) ∙ e .if2 .left))
 
 pub take-spec : {M : Type 1} → statement M
 take-spec =
     tie.close
     (tie.spec
-    label-requires
     cast-dirty
     mul-dirty
     add-dirty

@@ -1,5 +1,4 @@
-use native.Mathlib.Omega.{arith}
-use Rattle.layout.specs.Places.{metaPages}
+use Rattle.layout.proofs.PlaceLaws.{meta-of-low}
 use Rattle.protocol.specs.Recovery.{entryIn}
 use borrow.Author.Needs.{needs}
 use Rattle.stored.proofs.image.entry_of.Statement.{statement}
@@ -9,8 +8,9 @@ meta-of-requires : tie.Need-meta-of-requires
 meta-of-requires c κs = search needs
 
 meta-page-requires : tie.Need-meta-page-requires
-unfolding metaPages
-meta-page-requires c κs = let s = c .before .before in (s .pre .0, rw (c .meta-of .ensures) (omega (arith, s .pre .1)))
+meta-page-requires c κs =
+    let s = c .before .before in
+    (s .pre .0, rw (c .meta-of .ensures) (meta-of-low (s .args .l) (s .args .s) (s .pre .1)))
 
 entry-at-requires : tie.Need-entry-at-requires
 entry-at-requires c κs = search needs

@@ -1,16 +1,19 @@
 use Rattle.protocol.specs.Recovery.{metasOf}
 use Rattle.protocol.proofs.Metas.{length-metas}
-use Rattle.stored.specs.Stored.{pendingOf}
+use Rattle.layout.specs.Window.{windowFrom}
 use Rattle.stored.proofs.StoredLaws.{legal-at, count-low, no-window, some-window}
 use Prim.Native.Nat.{_-_}
-use mathlib.Core.Path.{ap}
+use mathlib.Core.Path.{ap, _∙_}
 use native.Mathlib.Omega.{arith}
 use borrow.Author.Needs.{needs}
 use Rattle.stored.proofs.image.pending.Statement.{statement}
 use Rattle.stored.proofs.image.pending.Tie as tie
 
+empty-requires : tie.Need-empty-requires
+empty-requires c κs = search needs
+
 returns : tie.Need-returns
-returns c = no-window _ _ (c .if1 .taken)
+returns c = c .empty .ensures ∙ no-window _ _ (c .before .if1 .taken)
 
 sub-meta-page : tie.Need-sub-meta-page
 sub-meta-page c = search needs
@@ -31,8 +34,8 @@ window-of-requires c κs =
 returns-2 : tie.Need-returns-2
 returns-2 c =
     let s = c .before .before .before .before in
-    rw (c .window-of .ensures, c .before .meta-page .ensures .0) (ap pendingOf (some-window _ _ (c .before .before .if1 .left)))
+    rw (c .window-of .ensures, c .before .meta-page .ensures .0) (ap windowFrom (some-window _ _ (c .before .before .if1 .left)))
 
 pub pending-spec : {M : Type 1} → statement M
 pending-spec =
-    tie.close (tie.spec returns sub-meta-page meta-page-requires window-of-requires returns-2)
+    tie.close (tie.spec empty-requires returns sub-meta-page meta-page-requires window-of-requires returns-2)

@@ -2,9 +2,9 @@ use mathlib.Core.Path.{_≡_, sym, ap, _∙_}
 use lib.ListN.{take}
 use borrow.Author.Tests.{not-true, not-false}
 use Rattle.protocol.specs.Recovery.{metasOf, Newest, newestOf, allOpenIn}
-use Rattle.protocol.proofs.Windows.{take-array}
+use Rattle.record.proofs.WindowLaws.{take-array}
 use Rattle.protocol.proofs.Metas.{length-metas}
-use Rattle.stored.specs.declared.Pending.{Pending}
+use Rattle.layout.specs.declared.Window.{Window}
 use Rattle.stored.proofs.StoredLaws.{newest-bounded, pending-bounded}
 use Rattle.stored.proofs.RuleLaws.{page-bad, stamps-bad, blocks-bad, by-open}
 use borrow.Author.Needs.{needs}
@@ -52,27 +52,27 @@ pending-requires c κs =
 
 all-open-requires : tie.Need-all-open-requires
 all-open-requires c κs =
-    let s = c .before .before .before .before .before .before .before .before .before .before in
+    let s = c .before .before .before .before .before .before .before .before .before in
     let w = newest-bounded (s .args .l) (metasOf (s .args .l) (s .args .ssd .now)) _
-    (sym (c .before .before .before .before .before .before .before .before .all-legal .ensures) ∙ not-false _
-    (c .before .before .before .before .before .before .before .if1 .left)) (c .before .before .newest .ensures .on-page) in
-    let z = pending-bounded (s .args .l) _ _ (c .before .pending .ensures) w in
+    (sym (c .before .before .before .before .before .before .before .all-legal .ensures) ∙ not-false _
+    (c .before .before .before .before .before .before .if1 .left)) (c .before .newest .ensures .on-page) in
+    let z = pending-bounded (s .args .l) _ _ (c .pending .ensures) w in
     (s .pre .0, (z .0, z .1))
 
 returns-4 : tie.Need-returns-4
 returns-4 c =
-    let s = c .before .before .before .before .before .before .before .before .before .before .before in
+    let s = c .before .before .before .before .before .before .before .before .before .before in
     let pages = metasOf (s .args .l) (s .args .ssd .now) in
-    let n = c .before .before .before .newest .ensures in
-    let w : take (c .before .before .pending .result .count) (c .before .before .pending .result .window) ≡ newestOf pages .window =
-    ap (λ (v : Pending). take (v .count) (v .window)) (c .before .before .pending .ensures) ∙ take-array _ ∙ ap
+    let n = c .before .before .newest .ensures in
+    let w : take (c .before .pending .result .count) (c .before .pending .result .slots) ≡ newestOf pages .window =
+    ap (λ (v : Window). take (v .count) (v .slots)) (c .before .pending .ensures) ∙ take-array _ ∙ ap
     (λ (m : Newest). m .window) (n .newest-is) in
     c .all-open .ensures ∙ ap (allOpenIn pages) w
-    ∙ by-open _ _ (sym (c .before .before .before .before .before .before .before .before .before .all-legal .ensures) ∙ not-false _
-    (c .before .before .before .before .before .before .before .before .if1 .left))
-    (sym (c .before .before .before .before .before .before .before .stamps-differ .ensures) ∙ not-false _
-    (c .before .before .before .before .before .before .if2 .left))
-    (sym (c .before .before .before .before .before .none-twice .ensures) ∙ not-false _ (c .before .before .before .before .if3 .left))
+    ∙ by-open _ _ (sym (c .before .before .before .before .before .before .before .before .all-legal .ensures) ∙ not-false _
+    (c .before .before .before .before .before .before .before .if1 .left))
+    (sym (c .before .before .before .before .before .before .stamps-differ .ensures) ∙ not-false _
+    (c .before .before .before .before .before .if2 .left))
+    (sym (c .before .before .before .before .none-twice .ensures) ∙ not-false _ (c .before .before .before .if3 .left))
 
 pub pages-ok-spec : {M : Type 1} → statement M
 pages-ok-spec =

@@ -2,7 +2,7 @@ use borrow.Author.Tests.{eq-eqb, ne-eqb}
 use mathlib.Core.List.{[]}
 use lib.Dec.{eqb}
 use Rattle.layout.specs.MetaPage.{stampOf}
-use Rattle.table.proofs.WindowLaws.{hit, miss}
+use Rattle.record.proofs.WindowLaws.{hit, miss}
 use Rattle.stored.proofs.RuleLaws.{stamp-left, stamp-end}
 use Prim.Native.Nat.{_-_, _≤_, _<_}
 use mathlib.Core.Path.{_≡_, sym, _∙_}

@@ -1,0 +1,7 @@
+pub mod Each
+pub mod WindowLaws
+pub mod LeaveLaws
+pub mod DistinctLaws
+pub mod RecordLaws
+pub mod RuleLaws
+pub mod Examples

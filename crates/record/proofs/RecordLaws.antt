@@ -1,0 +1,107 @@
+-- A record that keeps its rule: its parts, and its window as an array.
+use Prim.Native.Nat.{ℕ, _-_, _≤_}
+use mathlib.Core.Path.{_≡_, refl, sym, ap, _∙_}
+use mathlib.Core.Bool.{Bool, true}
+use mathlib.Core.List.{List, [], _∷_, _++_}
+use native.Mathlib.Omega.{arith}
+use lib.ListN.{length, take, drop, replicate, length-take, length-drop, take-append-drop}
+use lib.Dec.{eqb, ltb}
+use borrow.Author.Tests.{eqb-true, leb-true}
+use Rattle.layout.specs.declared.Slot.{Slot}
+use Rattle.layout.specs.declared.Label.{Label}
+use Rattle.layout.specs.declared.Window.{Window}
+use Rattle.layout.specs.Places.{withinLimits}
+use Rattle.layout.specs.PageRule.{distinct, inRange}
+use Rattle.layout.specs.Window.{slotsIn, arrayOf, windowFrom, ZeroPast}
+use Rattle.layout.proofs.Booleans.{and-parts}
+use Rattle.record.specs.declared.Record.{Record}
+use Rattle.record.specs.declared.Phase.{Phase}
+use Rattle.record.specs.Window.{zeroSlots, without}
+use Rattle.record.specs.Record.{windowOf, windowIn, recordOf, putWindow, withWindow}
+use Rattle.record.specs.Rule.{stepsTest, recordTest}
+use Rattle.record.proofs.WindowLaws.{take-array}
+
+-- the parts of 3
+pub record Parts (r : Record) : Type 0 where
+  pub in-limits : withinLimits (r .label) ≡ true
+  pub hand : ltb (r .hand .0) (r .label .slots) ≡ true
+  pub steps : stepsTest (r .label) (r .phase) ≡ true
+  pub most : r .count ≤ 63
+  pub size : length (r .window) ≡ 63
+  pub ranged : inRange (r .label) (windowIn r) ≡ true
+  pub apart : distinct (windowIn r) ≡ true
+  pub past : zeroSlots (drop (r .count) (r .window)) ≡ true
+
+pub parts : (r : Record) → recordTest r ≡ true → Parts r
+unfolding recordTest
+parts r e =
+    let p1 = and-parts _ _ e in
+    let p2 = and-parts _ _ (p1 .1) in
+    let p3 = and-parts _ _ (p2 .1) in
+    let p4 = and-parts _ _ (p3 .1) in
+    let p5 = and-parts _ _ (p4 .1) in
+    let p6 = and-parts _ _ (p5 .1) in
+    let p7 = and-parts _ _ (p6 .1) in
+    record {
+      in-limits = p1 .0;
+      hand = p2 .0;
+      steps = p3 .0;
+      most = leb-true _ _ (p4 .0);
+      size = eqb-true _ _ (p5 .0);
+      ranged = p6 .0;
+      apart = p7 .0;
+      past = p7 .1;
+    }
+
+-- zero slots are as many zeros
+zero-all : (w : List Slot) → zeroSlots w ≡ true → w ≡ replicate (length w) (record { 0 = 0 })
+unfolding zeroSlots
+zero-all [] h = refl
+zero-all (s ∷ w) h =
+    let p = and-parts (eqb (s .0) 0) (zeroSlots w) h in
+    let e : s .0 ≡ 0 = eqb-true _ _ (p .0) in
+    let f = zero-all w (p .1) in
+    (λ i. record { 0 = e i } ∷ f i)
+
+pub window-is : (r : Record) → take (r .count) (r .window) ≡ windowIn r
+unfolding windowIn
+window-is r = refl
+
+module _ (r : Record) (P : Parts r) where
+  pub window-length : length (windowIn r) ≡ r .count
+  unfolding windowIn
+  window-length = length-take (r .count) (r .window) ∙ omega (arith, P .most, P .size)
+
+  pub window-array : r .window ≡ arrayOf (windowIn r)
+  unfolding arrayOf windowIn
+  window-array =
+      let n : length (drop (r .count) (r .window)) ≡ 63 - length (take (r .count) (r .window)) =
+      omega (arith, length-drop (r .count) (r .window), length-take (r .count) (r .window), P .most, P .size) in
+      sym (take-append-drop (r .count) (r .window))
+      ∙ ap (λ (z : List Slot). take (r .count) (r .window) ++ z) (zero-all (drop (r .count) (r .window)) (P .past))
+      ∙ ap (λ (m : ℕ). take (r .count) (r .window) ++ replicate m (record { 0 = 0 })) n
+
+  pub window-from : windowOf r ≡ windowFrom (windowIn r)
+  window-from = (λ i. record { slots = window-array i; count = sym window-length i })
+
+  pub window-zero : ZeroPast (windowOf r)
+  window-zero = rw (window-is r) window-from
+
+-- the window of a record that was made of one
+pub window-in : (l : Label) (h : Slot) (n : ℕ) (ph : Phase) (u : Bool) (w : List Slot) → windowIn (recordOf l h n ph u w) ≡ w
+unfolding windowIn
+window-in l h n ph u w = take-array w
+
+-- slots as a window are zero past their length
+pub from-zero : (w : List Slot) → ZeroPast (windowFrom w)
+from-zero w = rw (take-array w)
+
+-- the record with a slot more in its window, or one less
+module _ (r : Record) (s : Slot) (w v : Window) (e : w ≡ windowOf r) where
+  pub joined-is : v ≡ windowFrom (slotsIn w ++ (s ∷ [])) → (q : Record) → q ≡ putWindow r (r .unconfirmed) v
+      → q ≡ withWindow r (r .unconfirmed) (windowIn r ++ (s ∷ []))
+  joined-is j q p = rw (p, j, e, window-is r)
+
+  pub record-left-is : v ≡ windowFrom (without s (slotsIn w)) → (q : Record) → q ≡ putWindow r true v
+      → q ≡ withWindow r true (without s (windowIn r))
+  record-left-is j q p = rw (p, j, e, window-is r)

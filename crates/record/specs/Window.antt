@@ -1,0 +1,20 @@
+-- Windows of slots: a test at each slot, slots that are zero, and a window without a slot.
+use mathlib.Core.Bool.{Bool, true, false, _&&_}
+use mathlib.Core.List.{List, [], _∷_}
+use lib.Dec.{eqb}
+use Rattle.layout.specs.declared.Slot.{Slot}
+
+-- a test at each slot of a window
+unfoldable pub eachSlot : (Slot → Bool) → List Slot → Bool
+eachSlot test [] = true
+eachSlot test (s ∷ w) = test s && eachSlot test w
+
+-- every slot is zero
+unfoldable pub zeroSlots : List Slot → Bool
+zeroSlots [] = true
+zeroSlots (s ∷ w) = eqb (s .0) 0 && zeroSlots w
+
+-- a window without a slot: those after it move up
+unfoldable pub without : Slot → List Slot → List Slot
+without s [] = []
+without s (t ∷ w) = elim (eqb (t .0) (s .0)) [ true ↦ w | false ↦ t ∷ without s w ]

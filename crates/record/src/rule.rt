@@ -1,0 +1,139 @@
+// The record's rule (document 01's table, number 3).
+use crate::Phase;
+use crate::Record;
+use crate::state;
+use crate::window;
+use layout::Label;
+use layout::Slot;
+use layout::WINDOW;
+use layout::Window;
+use layout::places;
+ghost use mathlib.Core.Path.{_≡_};
+ghost use mathlib.Core.Bool.{true, false, _&&_};
+ghost use Prim.Native.Nat.{_+_, _≤_, _<_};
+ghost use lib.ListN.{length, drop};
+ghost use lib.Dec.{eqb};
+ghost use Rattle.layout.specs.PageRule.{listed, distinct, inRange};
+ghost use Rattle.layout.specs.Window.{windowMost, slotsIn};
+ghost use Rattle.record.specs.Window.{zeroSlots};
+ghost use Rattle.record.specs.Rule.{stepsTest, recordTest};
+
+// Whether the window's slots are in range.
+fn in_range(l: Label, w: Window) -> bool
+    requires { ⌜ w .count ≤ windowMost ⌝ }
+    ensures { λ r. ⌜ r ≡ inRange l (slotsIn w) ⌝ }
+{
+    let slots = w.slots;
+    let n = w.count as usize;
+    let mut i: usize = 0;
+    while i < n {
+        let s = slots[i];
+        if l.slots <= s.0 {
+            return false;
+        }
+        i += 1;
+    }
+    true
+}
+
+// Whether slot s is listed from place k on; it has no mark where it surely is not.
+fn listed_again(mark: u8, s: Slot, w: Window, k: usize) -> bool
+    requires { ⌜ w .count ≤ windowMost ⌝ }
+    requires { ⌜ k ≤ w .count ⌝ }
+    requires { ⌜ (mark ≡ 0 → listed s (drop k (slotsIn w)) ≡ false) ⌝ }
+    ensures { λ r. ⌜ r ≡ listed s (drop k (slotsIn w)) ⌝ }
+{
+    if mark == 0 {
+        return false;
+    }
+    window::listed_from(s, w, k)
+}
+
+// Whether the window's slots are distinct: none of them is listed again after it. From the last slot on each leaves a mark, by
+// its number modulo 256, so that only slots that share a mark are compared.
+fn distinct_slots(w: Window) -> bool
+    requires { ⌜ w .count ≤ windowMost ⌝ }
+    ensures { λ r. ⌜ r ≡ distinct (slotsIn w) ⌝ }
+{
+    let slots = w.slots;
+    let mut marks = [0u8; 256];
+    let mut i: usize = w.count as usize;
+    while 0 < i {
+        let k = i - 1;
+        let s = slots[k];
+        let m = (s.0 % 256) as usize;
+        if listed_again(marks[m], s, w, i) {
+            return false;
+        }
+        marks[m] = 1;
+        i = k;
+    }
+    true
+}
+
+// Whether the array is zero past the window's length.
+fn zero_past(w: Window) -> bool
+    requires { ⌜ w .count ≤ windowMost ⌝ }
+    ensures { λ r. ⌜ r ≡ zeroSlots (drop (w .count) (w .slots)) ⌝ }
+{
+    let slots = w.slots;
+    let mut i: usize = w.count as usize;
+    while i < WINDOW {
+        let s = slots[i];
+        if s.0 != 0 {
+            return false;
+        }
+        i += 1;
+    }
+    true
+}
+
+// Whether a window keeps its rule: slots in range and distinct, and zero past its length.
+fn window_ok(l: Label, w: Window) -> bool
+    requires { ⌜ w .count ≤ windowMost ⌝ }
+    ensures { λ r. ⌜ r ≡ (eqb (length (w .slots)) windowMost && (inRange l (slotsIn w) && (distinct (slotsIn w) && zeroSlots (drop (w .count) (w .slots))))) ⌝ }
+{
+    if !in_range(l, w) {
+        return false;
+    }
+    if !distinct_slots(w) {
+        return false;
+    }
+    zero_past(w)
+}
+
+// Whether the number of a format's steps done is in range.
+fn steps_ok(l: Label, phase: Phase) -> bool
+    ensures { λ r. ⌜ r ≡ stepsTest l phase ⌝ }
+{
+    match phase {
+        Phase::Formatting(done) => {
+            let last = places::meta_pages(l) + 1;
+            done <= last
+        }
+        Phase::Recovering => true,
+        Phase::Ready => true,
+    }
+}
+
+// Whether a record keeps its rule.
+pub fn record_ok(r: Record) -> bool
+    ensures { λ q. ⌜ q ≡ recordTest r ⌝ }
+{
+    let l = r.label;
+    if !places::within_limits(l) {
+        return false;
+    }
+    let hand = r.hand;
+    if l.slots <= hand.0 {
+        return false;
+    }
+    let phase = r.phase;
+    if !steps_ok(l, phase) {
+        return false;
+    }
+    if (WINDOW as u32) < r.count {
+        return false;
+    }
+    window_ok(l, state::window_of(r))
+}
