@@ -17,7 +17,7 @@ use Rattle.protocol.specs.Box.{Images, Box, Effect, Result, left, boxAft
 use Rattle.protocol.specs.Recovery.{offPage}
 use Rattle.protocol.specs.Plan.{Call, format, step, flush, reopen, offer, fetch, landFetch, lookUp, view, writeBack, land, lowestPage, flushing, plan}
 use Rattle.protocol.specs.Perform.{confirmed, perform}
-use Rattle.protocol.specs.Judge.{Reason, isEmpty, isReady, judged, test, chain}
+use Rattle.protocol.specs.Judge.{Reason, wrongPhase, isEmpty, isReady, judged, test}
 use Rattle.protocol.specs.Calls.{decided, effectOf, resultOf, viewOf}
 use Rattle.protocol.specs.ReferenceDisk.{Disk, MayBe}
 use Rattle.protocol.specs.Events.{World, Junk, Event, call, reopens, cut, called, lent, readOf, mayFinish, finished, handed, takenIf, reopened, struck, steps, apply, CallFits, Fits}
@@ -28,12 +28,13 @@ use Rattle.protocol.proofs.model.Model as model
 use Rattle.protocol.proofs.model.Model.{Model, Plain, Stored, Mending}
 use Rattle.protocol.proofs.model.View as seen
 use Rattle.protocol.proofs.Windows.{nums, length-nums}
+use Rattle.protocol.proofs.Judged.{passed}
 use Rattle.protocol.proofs.ReadyCalls.{called-as, calledAs, worldOf}
 use Rattle.protocol.proofs.Passes.{flush-judged, step-judged, some-pending, pending-rule}
 use Rattle.protocol.proofs.Views.{view-number, read-view, look-page}
 use Rattle.protocol.proofs.Reopens.{reopenedCore, reopen-shape}
 use Rattle.protocol.proofs.MendingCalls.{finishedWorld, finish-allowed, fewer, mendedCore, mended-here, mended-core-shape, mended-core-abs, step-plan, step-world, reopened-here, reopen-world}
-use Rattle.protocol.proofs.Reachable.{facts, at-core, to-core, core-inv, inv-stored, handed-images, reopen-taken, struck-inv, table-right}
+use Rattle.protocol.proofs.Reachable.{at-core, to-core, core-inv, inv-stored, handed-images, reopen-taken, struck-inv, table-right}
 use Rattle.protocol.proofs.Abstract.{Core, phaseFor, boxOfCore, abs, Shape, Agrees, Phased, is-ready, is-mending, Inv}
 
 pub ready-off : (r : Bool) → isReady (phaseFor r) ≡ true → r ≡ false
@@ -220,7 +221,7 @@ module _ (l : Label) (v : World) (I : Inv l v) (x : Box) (im : x .images ≡ v .
 -- a ready box makes no step
 wrong : (l : Label) (k : Core) → judged step (boxOfCore l k) ≡ none → not (not (isReady (phaseFor (k .recovering)))) ≡ false
 unfolding test
-wrong l k q = facts step (boxOfCore l k) q .1 .1 .1 .0
+wrong l k q = passed step (boxOfCore l k) q wrongPhase refl
 
 step-refused : (l : Label) (k : Core) → k .recovering ≡ false → refused (resultOf step (boxOfCore l k) .said) ≡ true
 unfolding effectOf

@@ -21,14 +21,14 @@ use Rattle.protocol.specs.Condition.{conditionOf}
 use Rattle.protocol.specs.Sweep.{Victim, sweepFrom, sweep}
 use Rattle.protocol.specs.Plan.{Call, offer, Move, stay, opens, copies, takesAs, takes, sweeps, offering, plan}
 use Rattle.protocol.specs.Perform.{confirmed, perform}
-use Rattle.protocol.specs.Judge.{Reason, test, judged}
+use Rattle.protocol.specs.Judge.{Reason, badRecord, wrongLength, badRows, test, judged}
 use Rattle.protocol.specs.Calls.{decided, effectOf, resultOf}
 use Rattle.protocol.specs.Beside.{CopiesOnce}
 use Rattle.layout.proofs.Booleans.{Told, told, told-true, told-false, clash}
 use Rattle.protocol.proofs.model.Base.{and-left}
 use Rattle.protocol.proofs.Flags.{Flags, f0, f1, f3, f5, f7, f9, f11, f13, f15}
 use Rattle.protocol.proofs.Sweeps.{Alike, alike-same, Swept, took, stuck, swept}
-use Rattle.protocol.proofs.Reachable.{facts}
+use Rattle.protocol.proofs.Judged.{passed}
 use Rattle.protocol.proofs.Accepted.{Legal, legal-judged}
 
 -- the answers are not the same
@@ -44,8 +44,8 @@ isRefusal (answer n s) = false
 offer-legal : (b : Block) (x : Box) → judged (offer b) x ≡ none → Legal x
 unfolding test
 offer-legal b x e =
-    let f = facts (offer b) x e in
-    legal-judged x true (f .0) (f .1 .0) (f .1 .1 .0)
+    let q = passed (offer b) x e in
+    legal-judged x true (q badRecord refl) (q wrongLength refl) (q badRows refl)
 
 -- who answers "copied out": a sweep that took a dirty slot
 data CopyingOut (x : Box) (b : Block) : Move → Type 0 where

@@ -29,13 +29,13 @@ use Rattle.protocol.specs.Rows.{windowIn, recordOf}
 use Rattle.protocol.specs.Box.{Box, ssdImage, Store, Effect, left, boxAfter}
 use Rattle.protocol.specs.Plan.{format, step, plan}
 use Rattle.protocol.specs.Perform.{begun, formatStore, formatState, perform}
-use Rattle.protocol.specs.Judge.{Reason, recordTest, lengthsTest, lengthTest, rowTest, eachRow, rowsTest, test, chain, judged}
+use Rattle.protocol.specs.Judge.{Reason, badLimits, wrongLength, recordTest, lengthsTest, lengthTest, rowTest, eachRow, rowsTest, test, chain, judged}
 use Rattle.protocol.specs.Calls.{decided, effectOf, resultOf}
 use Rattle.protocol.specs.Events.{steps, formatted}
 use Rattle.protocol.specs.Beside.{WholeFormat}
 use Rattle.protocol.proofs.Windows.{length-array, zero-past}
 use Rattle.protocol.proofs.Tables.{each-of}
-use Rattle.protocol.proofs.Judged.{none-hold, first-none}
+use Rattle.protocol.proofs.Judged.{first-none, passed}
 
 -- a table of free rows
 abbrev pub freeTable : Label → List ℕ
@@ -272,11 +272,16 @@ format-begun slots blocks x = go (judged (format slots blocks) x) refl
         → Begun l x (decided o (format slots blocks) x)
     go (some r) e h = clash {b = true} refl h
     go none e h =
-        let f = none-hold (chain (format slots blocks)) (λ r. test r (format slots blocks) x) e in
-        let t = and-parts _ _ (not-false _ (f .1 .0)) in
+        let q = passed (format slots blocks) x e in
+        let t = and-parts _ _ (not-false _ (q wrongLength refl)) in
         let a = and-parts (eqb (length (x .images .ssd)) (ssdLength l)) _ (t .0) in
         let b = and-parts (eqb (length (x .images .hdd)) (hddLength l)) _ (a .1) in
-        record { limits = within l .0 (not-false _ (f .0)); ssd-size = eqb-true _ _ (a .0); hdd-size = eqb-true _ _ (b .0); effect = refl }
+        record {
+          limits = within l .0 (not-false _ (q badLimits refl));
+          ssd-size = eqb-true _ _ (a .0);
+          hdd-size = eqb-true _ _ (b .0);
+          effect = refl;
+        }
 
 -- what a whole format leaves: the HDD untouched, a label, every metadata page with stamp 0, no window and free entries
 pub record Formatted (l : Label) (x y : Box) : Type 0 where

@@ -16,7 +16,7 @@ use Rattle.protocol.specs.Box.{Images, Box, Effect, Result, left, boxAft
 use Rattle.protocol.specs.Recovery.{offPage, phaseOf}
 use Rattle.protocol.specs.Plan.{step, mends, lowestPage, stepping, plan}
 use Rattle.protocol.specs.Perform.{confirmed, perform}
-use Rattle.protocol.specs.Judge.{Reason, isEmpty, agreeTest, test, judged}
+use Rattle.protocol.specs.Judge.{Reason, badRecord, wrongLength, badRows, isEmpty, agreeTest, test, judged}
 use Rattle.protocol.specs.Calls.{decided, effectOf, resultOf}
 use Rattle.protocol.specs.Events.{steps}
 use Rattle.protocol.specs.Beside.{MendsSoon}
@@ -24,7 +24,7 @@ use Rattle.layout.proofs.Booleans.{clash}
 use Rattle.protocol.proofs.model.Base.{Window, and-left}
 use Rattle.protocol.proofs.Windows.{nums, length-nums, take-array}
 use Rattle.protocol.proofs.MendingCalls.{fewer}
-use Rattle.protocol.proofs.Reachable.{facts}
+use Rattle.protocol.proofs.Judged.{passed}
 use Rattle.protocol.proofs.UpdateFirst.{none-of}
 use Rattle.protocol.proofs.Accepted.{Legal, legal-judged}
 
@@ -32,8 +32,8 @@ use Rattle.protocol.proofs.Accepted.{Legal, legal-judged}
 pub step-legal : (x : Box) → judged step x ≡ none → Legal x
 unfolding test
 step-legal x e =
-    let f = facts step x e in
-    legal-judged x true (f .0) (f .1 .0) (f .1 .1 .0)
+    let q = passed step x e in
+    legal-judged x true (q badRecord refl) (q wrongLength refl) (q badRows refl)
 
 -- and leaves the pending slots of other pages
 module _ (x : Box) (e : judged step x ≡ none) (on : x .state .phase ≡ Recovering) where

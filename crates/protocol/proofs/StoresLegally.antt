@@ -30,7 +30,7 @@ use Rattle.protocol.specs.Sweep.{nextSlot, Victim, sweep}
 use Rattle.protocol.specs.Recovery.{offPage}
 use Rattle.protocol.specs.Plan.{Call, format, step, flush, reopen, offer, fetch, landFetch, lookUp, view, writeBack, land, Move, stay, uses, opens, lands, copies, confirms, mends, begins, formats, recovers, takesAs, takes, offering, fetching, landing, landingFetch, lookingUp, writingBack, flushing, lowestPage, stepping, plan, storesMeta}
 use Rattle.protocol.specs.Perform.{confirmed, joined, landedAs, mendedAt, formatStore, formatState, perform}
-use Rattle.protocol.specs.Judge.{largestStamp, Reason, eachSlot, isEmpty, agreeTest, openRows, test, judged, isReady}
+use Rattle.protocol.specs.Judge.{largestStamp, Reason, badRecord, wrongLength, badRows, wrongPhase, blockTooHigh, windowFull, stampsSpent, eachSlot, isEmpty, agreeTest, openRows, test, judged, isReady}
 use Rattle.protocol.specs.Calls.{decided, effectOf, resultOf}
 use Rattle.protocol.specs.Beside.{stampStored, MetaStored, StoresLegally}
 use Rattle.layout.proofs.Booleans.{Told, told, told-true, told-false, clash}
@@ -43,7 +43,7 @@ use Rattle.protocol.proofs.Counting.{window-count}
 use Rattle.protocol.proofs.Sweeps.{Alike, alike-same, Swept, took, stuck, swept}
 use Rattle.protocol.proofs.Stores.{page-stamp, page-window, page-entry, page-legal}
 use Rattle.protocol.proofs.ReadyCalls.{by-bool}
-use Rattle.protocol.proofs.Reachable.{facts}
+use Rattle.protocol.proofs.Judged.{passed}
 use Rattle.protocol.proofs.UpdateFirst.{none-of}
 use Rattle.protocol.proofs.Accepted.{Legal, legal-judged}
 
@@ -384,24 +384,22 @@ unfolding test plan perform
 made-stores (format slots blocks) x e = λ s g. no-store g
 made-stores reopen x e = λ s g. no-store g
 made-stores step x e =
-    let f = facts step x e in
-    step-stores x (legal-judged x true (f .0) (f .1 .0) (f .1 .1 .0)) (x .state .phase) refl (f .1 .1 .1 .1 .0)
+    let q = passed step x e in
+    step-stores x (legal-judged x true (q badRecord refl) (q wrongLength refl) (q badRows refl)) (x .state .phase) refl (q stampsSpent refl)
 made-stores flush x e =
-    let f = facts flush x e in
-    flush-stores x (legal-judged x true (f .0) (f .1 .0) (f .1 .1 .0)) (ready-of (x .state .phase) (f .1 .1 .1 .0))
-    (x .state .unconfirmed) (f .1 .1 .1 .1 .0)
+    let q = passed flush x e in
+    flush-stores x (legal-judged x true (q badRecord refl) (q wrongLength refl) (q badRows refl))
+    (ready-of (x .state .phase) (q wrongPhase refl)) (x .state .unconfirmed) (q stampsSpent refl)
 made-stores (offer b) x e =
-    let f = facts (offer b) x e in
-    let L = legal-judged x true (f .0) (f .1 .0) (f .1 .1 .0) in
-    let t = f .1 .1 .1 .1 in
-    offer-stores x L (ready-of (x .state .phase) (f .1 .1 .1 .0)) b (leb-false _ _ (t .0))
-    (stands (labelIn (x .state)) (x .table) (L .table-size) b) (t .1 .1 .0) (t .1 .1 .1 .1 .0)
+    let q = passed (offer b) x e in
+    let L = legal-judged x true (q badRecord refl) (q wrongLength refl) (q badRows refl) in
+    offer-stores x L (ready-of (x .state .phase) (q wrongPhase refl)) b (leb-false _ _ (q blockTooHigh refl))
+    (stands (labelIn (x .state)) (x .table) (L .table-size) b) (q windowFull refl) (q stampsSpent refl)
 made-stores (fetch b) x e =
-    let f = facts (fetch b) x e in
-    let L = legal-judged x true (f .0) (f .1 .0) (f .1 .1 .0) in
-    let t = f .1 .1 .1 .1 in
-    fetch-stores x L (ready-of (x .state .phase) (f .1 .1 .1 .0)) b (leb-false _ _ (t .0))
-    (stands (labelIn (x .state)) (x .table) (L .table-size) b) (t .1 .1 .1 .0) (t .1 .1 .1 .1 .1 .0)
+    let q = passed (fetch b) x e in
+    let L = legal-judged x true (q badRecord refl) (q wrongLength refl) (q badRows refl) in
+    fetch-stores x L (ready-of (x .state .phase) (q wrongPhase refl)) b (leb-false _ _ (q blockTooHigh refl))
+    (stands (labelIn (x .state)) (x .table) (L .table-size) b) (q windowFull refl) (q stampsSpent refl)
 made-stores (landFetch b) x e = landingFetch-stores (labelIn (x .state)) (x .state .phase) x b refl (conditionOf (x .table) b)
 made-stores (lookUp b) x e = lookingUp-stores (labelIn (x .state)) (x .state .phase) x (conditionOf (x .table) b)
 made-stores (view b) x e = λ s g. no-store g

@@ -49,6 +49,26 @@ numberOf windowFull = 11
 numberOf allOpen = 12
 numberOf stampsSpent = 13
 
+-- "Least number first": the order in which conditions are judged. Document 02 puts numbers between these (the first of them, 14,
+-- between 6 and 7), so the order is a list of its own; a reason's rank is its place in it
+abbrev pub order : List Reason
+order =
+    badLimits ∷ noLabel ∷ badRecord ∷ wrongLength ∷ badRows ∷ wrongPhase ∷ blockTooHigh ∷ slotOpen ∷ wrongState ∷ hasSlot ∷ windowFull
+    ∷ allOpen ∷ stampsSpent ∷ []
+
+unfoldable pub rankIn : List Reason → Reason → ℕ
+rankIn [] r = 0
+rankIn (q ∷ qs) r = elim (eqb (numberOf q) (numberOf r)) [ true ↦ 0 | false ↦ suc (rankIn qs r) ]
+
+abbrev pub rank : Reason → ℕ
+rank r = rankIn order r
+
+-- reasons in that order
+unfoldable pub rising : List Reason → Bool
+rising [] = true
+rising (r ∷ []) = true
+rising (r ∷ q ∷ rs) = ltb (rank r) (rank q) && rising (q ∷ rs)
+
 -- the label by which a call judges lengths: format by its arguments, reopen by the label page, others by the record
 abbrev pub labelFor : Call → Box → Label
 labelFor (format slots blocks) x = labelOf slots blocks
@@ -288,7 +308,7 @@ test windowFull c x = opensAnother c (conditionOf (x .table) (blockFor c)) && le
 test allOpen c x = not (isCached (conditionOf (x .table) (blockFor c))) && allWriting (x .table)
 test stampsSpent c x = storesMeta (plan c x) && leb (stampBound c) (x .state .newest)
 
--- the numbers that belong to each call, least first
+-- the numbers that belong to each call, in the order of judging
 abbrev pub chain : Call → List Reason
 chain (format slots blocks) = badLimits ∷ wrongLength ∷ []
 chain reopen = noLabel ∷ wrongLength ∷ badRows ∷ []

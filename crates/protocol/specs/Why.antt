@@ -187,8 +187,8 @@ Why windowFull c x = OpensAnother c (x .table) × (63 ≤ openRows (x .table))
 Why allOpen c x = (SlotOf (x .table) (blockFor c) → ⊥) × ((s : Slot) → IsRow (x .table) s → writing (rowFlags (x .table) s) ≡ true)
 Why stampsSpent c x = (storesMeta (plan c x) ≡ true) × (stampBound c ≤ x .state .newest)
 
--- "Least number first .. A number is used if its condition holds for that call, and in no other case": r is the first of
--- a chain whose condition holds
+-- "Least number first .. A number is used if its condition holds for that call, and in no other case": r is the first in a
+-- call's order whose condition holds
 abbrev pub FirstWhy : List Reason → Reason → (Reason → Type 0) → Type 0
 FirstWhy [] r why = ⊥
 FirstWhy (q ∷ rs) r why = ((q ≡ r) × why r) ⊎ ((why q → ⊥) × FirstWhy rs r why)

@@ -6,8 +6,7 @@ use mathlib.Core.Bool.{Bool, true, false, _&&_}
 use mathlib.Core.List.{List, [], _∷_}
 use mathlib.Core.Option.{Option, some, none}
 use native.Mathlib.Omega.{arith}
-use lib.ListN.{getD}
-use lib.Dec.{leb, ltb}
+use lib.Dec.{leb}
 use borrow.Author.Tests.{leb-true, le-leb, not-true}
 use Rattle.layout.proofs.PlaceLaws.{within}
 use Rattle.layout.proofs.Booleans.{Told, told, told-true, told-false, clash}
@@ -19,13 +18,13 @@ use Rattle.protocol.specs.Rows.{writing, labelIn}
 use Rattle.protocol.specs.Box.{Box, left, boxAfter}
 use Rattle.protocol.specs.Condition.{conditionOf}
 use Rattle.protocol.specs.Plan.{Call, format, step, flush, reopen, offer, fetch, landFetch, lookUp, view, writeBack, land, plan, storesMeta}
-use Rattle.protocol.specs.Judge.{Reason, badLimits, noLabel, badRecord, wrongLength, badRows, wrongPhase, blockTooHigh, slotOpen, wrongState, hasSlot, windowFull, allOpen, stampsSpent, numberOf, labelFor, blockFor, contentsTest, isReady, phaseTest, stateTest, opensAnother, openRows, stampBound, test, chain, firstOf, judged}
+use Rattle.protocol.specs.Judge.{Reason, badLimits, noLabel, badRecord, wrongLength, badRows, wrongPhase, blockTooHigh, slotOpen, wrongState, hasSlot, windowFull, allOpen, stampsSpent, numberOf, rankIn, rising, labelFor, blockFor, contentsTest, isReady, phaseTest, stateTest, opensAnother, openRows, stampBound, test, chain, firstOf, judged}
 use Rattle.protocol.specs.Recovery.{labelAt, metasOf}
 use Rattle.protocol.specs.Calls.{decided, effectOf, resultOf, boxOf, View, viewed, viewOf}
 use Rattle.pages.specs.Parts.{Part}
 use Rattle.layout.specs.declared.Block.{Block}
 use Rattle.protocol.specs.declared.Record.{Record}
-use Rattle.protocol.proofs.Judged.{NoneHold, none-hold, first-none}
+use Rattle.protocol.proofs.Judged.{number-is, number-some, NoneHold, none-hold, first-none}
 use Rattle.protocol.specs.Why.{Contents, RightPhase, RightState, OpensAnother, Why, FirstWhy}
 use Rattle.protocol.proofs.why.Basics.{none-same, and-same, is-same, unit-same}
 use Rattle.protocol.proofs.why.Records.{label-same, record-same, lengths-same}
@@ -146,52 +145,20 @@ first-same (q ∷ rs) t why e r = go (told (t q)) (first-same rs t why e r)
     go (told-true h) ih = (λ k. let i = some-is (sym (first-yes q rs t h) ∙ k) in inl (i, subst why i (e q .0 h)), taken h)
     go (told-false h) ih = (λ k. inr (λ w. clash (e q .1 w) h, ih .0 (sym (first-no q rs t h) ∙ k)), passed h (ih .1))
 
--- a number is one reason's, and 0 is none's
-reasonAt : ℕ → Option Reason
-reasonAt n =
-    getD
-    (none ∷ some badLimits ∷ some noLabel ∷ some badRecord ∷ some wrongLength ∷ some badRows ∷ some wrongPhase ∷ some blockTooHigh
-    ∷ some slotOpen ∷ some wrongState ∷ some hasSlot ∷ some windowFull ∷ some allOpen ∷ some stampsSpent ∷ [])
-    n none
-
-number-back : (r : Reason) → reasonAt (numberOf r) ≡ some r
-unfolding reasonAt
-number-back badLimits = refl
-number-back noLabel = refl
-number-back badRecord = refl
-number-back wrongLength = refl
-number-back badRows = refl
-number-back wrongPhase = refl
-number-back blockTooHigh = refl
-number-back slotOpen = refl
-number-back wrongState = refl
-number-back hasSlot = refl
-number-back windowFull = refl
-number-back allOpen = refl
-number-back stampsSpent = refl
-
-number-same : (n : ℕ) (r : Reason) → n ≡ numberOf r → reasonAt n ≡ some r
-number-same n r e = ap reasonAt e ∙ number-back r
-
--- "Least number first"
-unfoldable pub rising : List Reason → Bool
-rising [] = true
-rising (r ∷ []) = true
-rising (r ∷ q ∷ rs) = ltb (numberOf r) (numberOf q) && rising (q ∷ rs)
-
-pub least-first : (c : Call) → rising (chain c) ≡ true
-unfolding rising
-least-first (format slots blocks) = refl
-least-first step = refl
-least-first flush = refl
-least-first reopen = refl
-least-first (offer b) = refl
-least-first (fetch b) = refl
-least-first (landFetch b) = refl
-least-first (lookUp b) = refl
-least-first (view b) = refl
-least-first (writeBack b) = refl
-least-first (land b page) = refl
+-- every chain is in the order of judging, so that its first reason is the one of least rank
+pub in-order : (c : Call) → rising (chain c) ≡ true
+unfolding rising rankIn
+in-order (format slots blocks) = refl
+in-order step = refl
+in-order flush = refl
+in-order reopen = refl
+in-order (offer b) = refl
+in-order (fetch b) = refl
+in-order (landFetch b) = refl
+in-order (lookUp b) = refl
+in-order (view b) = refl
+in-order (writeBack b) = refl
+in-order (land b page) = refl
 
 -- a call says a number exactly if that reason is judged
 said-same : (c : Call) (x : Box) (r : Reason) → (resultOf c x .said ≡ refusal (numberOf r)) ↔ (judged c x ≡ some r)
@@ -199,14 +166,14 @@ unfolding effectOf
 said-same c x r = (to (judged c x), λ e. ap (λ (o : Option Reason). decided o c x .said) e)
   where
     to : (o : Option Reason) → decided o c x .said ≡ refusal (numberOf r) → o ≡ some r
-    to (some q) e = sym (number-back q) ∙ number-same (numberOf q) r cc
+    to (some q) e = ap some (number-is q r cc)
     to none e = clash (ap refused e) (plan-answers c x)
 
 judged-same : (c : Call) (x : Box) (r : Reason) → (judged c x ≡ some r) ↔ FirstWhy (chain c) r (λ q. Why q c x)
 unfolding judged
 judged-same c x r = first-same (chain c) (λ q. test q c x) (λ q. Why q c x) (λ q. same q c x) r
 
--- "A number is used if its condition holds for that call, and in no other case": "Least number first"
+-- "A number is used if its condition holds for that call, and in no other case": the first in the call's order whose condition holds
 pub refuses : (c : Call) (x : Box) (r : Reason) → (resultOf c x .said ≡ refusal (numberOf r)) ↔ FirstWhy (chain c) r (λ q. Why q c x)
 refuses c x r = (λ h. judged-same c x r .0 (said-same c x r .0 h), λ h. said-same c x r .1 (judged-same c x r .1 h))
 
@@ -223,8 +190,8 @@ view-refuses ssd hdd table state b r =
     shown o = viewed o ssd hdd (labelIn state) b (conditionOf table b)
 
     to : (o : Option Reason) → shown o .number ≡ numberOf r → o ≡ some r
-    to (some q) e = sym (number-back q) ∙ number-same (numberOf q) r e
-    to none e = unfold reasonAt in number-same 0 r e
+    to (some q) e = ap some (number-is q r e)
+    to none e = absurd (number-some r (sym e))
 
     from : judged (view b) (boxOf (ssd .bytes) (hdd .bytes) table state) ≡ some r
         → shown (judged (view b) (boxOf (ssd .bytes) (hdd .bytes) table state)) .number ≡ numberOf r
