@@ -15,7 +15,8 @@ use Rattle.layout.specs.PageRule.{listed}
 use Rattle.protocol.specs.Paper.{refused, inSlot}
 use Rattle.protocol.specs.Box.{Images, Box, Effect, Result, left, boxAfter}
 use Rattle.protocol.specs.Recovery.{offPage}
-use Rattle.protocol.specs.Plan.{Call, format, step, flush, reopen, offer, fetch, landFetch, lookUp, view, writeBack, land, lowestPage, flushing, plan}
+use Rattle.protocol.specs.Plan.{Call, format, step, flush, reopen, lookUp, lowestPage, flushing, plan}
+use Rattle.protocol.specs.Kinds.{kind}
 use Rattle.protocol.specs.Perform.{confirmed, perform}
 use Rattle.protocol.specs.Judge.{Reason, wrongPhase, isEmpty, isReady, judged, test}
 use Rattle.protocol.specs.Calls.{decided, effectOf, resultOf, viewOf}
@@ -29,6 +30,7 @@ use Rattle.protocol.proofs.model.Model.{Model, Plain, Stored, Mending}
 use Rattle.protocol.proofs.model.View as seen
 use Rattle.protocol.proofs.Windows.{nums, length-nums}
 use Rattle.protocol.proofs.Judged.{passed}
+use Rattle.protocol.proofs.Sorted.{Sorted, is-format, is-reopen, is-step, is-service, sorted}
 use Rattle.protocol.proofs.ReadyCalls.{called-as, calledAs, worldOf}
 use Rattle.protocol.proofs.Passes.{flush-judged, step-judged, some-pending, pending-rule}
 use Rattle.protocol.proofs.Views.{view-number, read-view, look-page}
@@ -279,24 +281,21 @@ junk-allowed l j v I f b h =
     rw (reopened-taken j v (not-of r (and-left (not r) (true && q) f))) (reopen-allowed l v I (handed j (v .box)) refl f b h)
 
 -- a call that is neither a step nor a reopening finishes none
-no-finish : {A : Type 0} (c : Call) (w : World) → mayFinish c ≡ false → finished c (resultOf c (w .box)) ≡ true → A
+no-finish : {A : Type 0} (c : Call) (w : World) → mayFinish (kind c) ≡ false → finished c (resultOf c (w .box)) ≡ true → A
 no-finish c w m f =
     let r = not (refused (resultOf c (w .box) .said)) in
     let q = isReady (resultOf c (w .box) .state .phase) in
-    clash (and-left (mayFinish c) q (and-right r (mayFinish c && q) f)) m
+    clash (and-left (mayFinish (kind c)) q (and-right r (mayFinish (kind c) && q) f)) m
+
+call-allowed : (l : Label) (w : World) → Inv l w → {c : Call} → Sorted c → finished c (resultOf c (w .box)) ≡ true → (b : Block)
+    → b .0 < l .blocks → MayBe (w .disk) b (readOf (called c w .box) b)
+call-allowed l w I (is-format slots blocks) g b h = no-finish (format slots blocks) w refl g
+call-allowed l w I is-step g b h = step-allowed l w I g b h
+call-allowed l w I is-reopen g b h = reopen-allowed l w I (w .box) refl g b h
+call-allowed l w I (is-service {c} a q) g b h = no-finish c w (ap mayFinish q) g
 
 pub allowed-of : (l : Label) (w : World) → Inv l w → (e : Event) → Fits l e w → finishes e w ≡ true → (b : Block) → b .0 < l .blocks
     → MayBe (before e w .disk) b (readOf (apply e w .box) b)
-allowed-of l w I (call (format slots blocks)) f g b h = no-finish (format slots blocks) w refl g
-allowed-of l w I (call step) f g b h = step-allowed l w I g b h
-allowed-of l w I (call flush) f g b h = no-finish flush w refl g
-allowed-of l w I (call reopen) f g b h = reopen-allowed l w I (w .box) refl g b h
-allowed-of l w I (call (offer c)) f g b h = no-finish (offer c) w refl g
-allowed-of l w I (call (fetch c)) f g b h = no-finish (fetch c) w refl g
-allowed-of l w I (call (landFetch c)) f g b h = no-finish (landFetch c) w refl g
-allowed-of l w I (call (lookUp c)) f g b h = no-finish (lookUp c) w refl g
-allowed-of l w I (call (view c)) f g b h = no-finish (view c) w refl g
-allowed-of l w I (call (writeBack c)) f g b h = no-finish (writeBack c) w refl g
-allowed-of l w I (call (land c page)) f g b h = no-finish (land c page) w refl g
+allowed-of l w I (call c) f g b h = call-allowed l w I (sorted c) g b h
 allowed-of l w I (reopens j) f g b h = junk-allowed l j w I g b h
 allowed-of l w I (cut c a j) f g b h = junk-allowed l j (struck c a w) (struck-inv l c a w (f .0) I) g b h

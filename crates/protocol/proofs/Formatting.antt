@@ -29,13 +29,13 @@ use Rattle.protocol.specs.Rows.{windowIn, recordOf}
 use Rattle.protocol.specs.Box.{Box, ssdImage, Store, Effect, left, boxAfter}
 use Rattle.protocol.specs.Plan.{format, step, plan}
 use Rattle.protocol.specs.Perform.{begun, formatStore, formatState, perform}
-use Rattle.protocol.specs.Judge.{Reason, badLimits, wrongLength, recordTest, lengthsTest, lengthTest, rowTest, eachRow, rowsTest, test, chain, judged}
+use Rattle.protocol.specs.Judge.{Reason, badLimits, wrongLength, recordTest, lengthsTest, lengthTest, rowTest, eachRow, rowsTest, test, judged}
 use Rattle.protocol.specs.Calls.{decided, effectOf, resultOf}
 use Rattle.protocol.specs.Events.{steps, formatted}
 use Rattle.protocol.specs.Beside.{WholeFormat}
 use Rattle.protocol.proofs.Windows.{length-array, zero-past}
 use Rattle.protocol.proofs.Tables.{each-of}
-use Rattle.protocol.proofs.Judged.{first-none, passed}
+use Rattle.protocol.proofs.Judged.{passed, accepted}
 
 -- a table of free rows
 abbrev pub freeTable : Label → List ℕ
@@ -121,10 +121,8 @@ module _ (l : Label) (ssd hdd : List ℕ) (d : ℕ) (L : Limits l) (hs : length 
       (free-each (λ s block flags. eqb block 0 && eqb flags 0) (tableLength l) (λ s. refl))
 
   step-judged : judged step (formatBox l ssd hdd (Formatting d)) ≡ none
-  unfolding judged test plan
-  step-judged =
-      first-none (chain step) (λ r. test r step (formatBox l ssd hdd (Formatting d)))
-      (rw record-pass, (rw length-pass, (rw rows-pass, (refl, (refl, tt)))))
+  unfolding test plan
+  step-judged = accepted step (formatBox l ssd hdd (Formatting d)) (rw record-pass, (rw length-pass, (rw rows-pass, (refl, tt)))) (refl, tt)
 
   state-after : formatState l (recordOf l (record { 0 = 0 }) 0 (Formatting d) false []) d ≡ recordOf l (record { 0 = 0 }) 0
       (phaseAfter l (suc d)) false []

@@ -1,4 +1,5 @@
 pub mod Report
+pub mod Reasons
 pub mod Quick
 pub mod QuickRows
 pub mod Known
@@ -16,6 +17,7 @@ pub mod Counting
 pub mod Sweeps
 pub mod Performed
 pub mod Judged
+pub mod Sorted
 pub mod ReadyCalls
 pub mod Entries
 pub mod Reopens

@@ -20,8 +20,9 @@ use Rattle.protocol.specs.declared.Phase.{Phase}
 use Rattle.protocol.specs.declared.Phase.the-variants.{Formatting, Recovering, Ready}
 use Rattle.protocol.specs.Rows.{rowBlock, rowFlags, valid, dirty, writing, windowIn, recordOf}
 use Rattle.protocol.specs.Box.{Images, Box}
-use Rattle.protocol.specs.Plan.{Call, format, step, flush, reopen, offer, fetch, landFetch, lookUp, view, writeBack, land, lowestPage, flushing, plan, storesMeta}
-use Rattle.protocol.specs.Judge.{largestStamp, stepsTest, recordTest, lengthsTest, lengthTest, rowTest, eachRow, eachSlot, isEmpty, agreeTest, rowsTest, isReady, test, chain, firstOf, judged}
+use Rattle.protocol.specs.Plan.{Call, step, flush, lookUp, view, flushing, plan, storesMeta}
+use Rattle.protocol.specs.Kinds.{Aim, toSettle, atBlock, aService, kind}
+use Rattle.protocol.specs.Judge.{largestStamp, stepsTest, recordTest, lengthsTest, lengthTest, rowTest, eachRow, eachSlot, isEmpty, agreeTest, rowsTest, isReady, pageLengthTest, test, askedFirst, judged}
 use Rattle.protocol.proofs.model.Base as base
 use Rattle.layout.proofs.Booleans.{Told, told, told-true, told-false, clash}
 use Rattle.protocol.proofs.model.Base.{has, Window, eqb-same}
@@ -31,7 +32,7 @@ use Rattle.protocol.proofs.model.Rows.{opn-valid, shut-opn}
 use Rattle.protocol.proofs.Windows.{nums, length-nums, has-nums, distinct-nums, below-nums, length-array, zero-past, empty-nums}
 use Rattle.protocol.proofs.Flags.{rowOf, Flags, f0, f1, f3, f5, f7, f9, f11, f13, f15, LegalRow, row-legal}
 use Rattle.protocol.proofs.Tables.{rowAt, rowAt-out, Rows, each-of, at-open}
-use Rattle.protocol.proofs.Judged.{NoneHold, first-none}
+use Rattle.protocol.proofs.Judged.{NoneHold, accepted}
 use Rattle.protocol.proofs.Performed.{window-in}
 use Rattle.protocol.proofs.Abstract.{Core, phaseFor, boxOfCore, abs, ImagesKept, Shape}
 
@@ -141,17 +142,17 @@ module _ (l : Label) (k : Core) (S : Shape l k) (p : Plain) (R : model.Ready (ab
   ready-phase : isReady (phaseFor (k .recovering)) ≡ true
   ready-phase = rw on
 
+  -- so no service is refused by what is asked first
+  ready-first : (c : Call) (a : Aim) → kind c ≡ aService a → pageLengthTest a ≡ true
+      → NoneHold (askedFirst (kind c)) (λ r. test r c (boxOfCore l k))
+  unfolding test
+  ready-first c a q m = rw q (rw ready-record, (rw (q, length-pass l k S W, m), (rw (q, ready-rows), (rw (q, on), tt))))
+
   pub view-judged : (b : Block) → b .0 < l .blocks → judged (view b) (boxOfCore l k) ≡ none
-  unfolding judged test
-  view-judged b h =
-      first-none (chain (view b)) (λ r. test r (view b) (boxOfCore l k))
-      (rw ready-record, (rw (length-pass l k S W), (rw ready-rows, (rw on, (lt-leb _ _ h, tt)))))
+  view-judged b h = accepted (view b) (boxOfCore l k) (ready-first (view b) (atBlock b) refl refl) (unfold test in (lt-leb _ _ h, tt))
 
   pub look-judged : (b : Block) → b .0 < l .blocks → judged (lookUp b) (boxOfCore l k) ≡ none
-  unfolding judged test
-  look-judged b h =
-      first-none (chain (lookUp b)) (λ r. test r (lookUp b) (boxOfCore l k))
-      (rw ready-record, (rw (length-pass l k S W), (rw ready-rows, (rw on, (lt-leb _ _ h, tt)))))
+  look-judged b h = accepted (lookUp b) (boxOfCore l k) (ready-first (lookUp b) (atBlock b) refl refl) (unfold test in (lt-leb _ _ h, tt))
 
   -- a flush has a stamp left
   flush-left : k .unconfirmed ≡ true → k .newest < largestStamp
@@ -159,10 +160,8 @@ module _ (l : Label) (k : Core) (S : Shape l k) (p : Plain) (R : model.Ready (ab
   flush-left u = omega (arith, R .budget, rw u at (R .short))
 
   pub flush-judged : judged flush (boxOfCore l k) ≡ none
-  unfolding judged test plan
-  flush-judged =
-      first-none (chain flush) (λ r. test r flush (boxOfCore l k))
-      (rw ready-record, (rw (length-pass l k S W), (rw ready-rows, (rw on, (go (told (k .unconfirmed)), tt)))))
+  unfolding test plan
+  flush-judged = accepted flush (boxOfCore l k) (ready-first flush toSettle refl refl) (go (told (k .unconfirmed)), tt)
     where
       go : Told (k .unconfirmed) → (storesMeta (flushing (k .unconfirmed)) && leb largestStamp (k .newest)) ≡ false
       go (told-true u) = rw (u, lt-leb _ _ (flush-left u))
@@ -230,12 +229,8 @@ module _ (l : Label) (k : Core) (S : Shape l k) (p : Plain) (M : Mending (abs l 
       some-length (s ∷ w) e = omega arith
 
   pub step-judged : judged step (boxOfCore l k) ≡ none
-  unfolding judged test plan
+  unfolding test plan
   step-judged =
-      first-none (chain step) (λ r. test r step (boxOfCore l k)) (
-        rw (record-pass l k S pending-rule),
-        (
-          rw (length-pass l k S pending-rule),
-          (rw (rows-pass l k S pending-rule agree-mending), (rw on, (rw (on, lt-leb _ _ mending-left), tt))),
-        ),
-      )
+      accepted step (boxOfCore l k)
+      (rw (record-pass l k S pending-rule), (rw (length-pass l k S pending-rule), (rw (rows-pass l k S pending-rule agree-mending), (rw on, tt))))
+      (rw (on, lt-leb _ _ mending-left), tt)

@@ -18,6 +18,7 @@ use Rattle.protocol.specs.Paper.{refused}
 use Rattle.protocol.specs.Box.{Images, Box, Store, Effect, Result, left, boxAfter, refusing, applied}
 use Rattle.protocol.specs.Condition.{conditionOf}
 use Rattle.protocol.specs.Plan.{Call, format, step, flush, reopen, offer, fetch, landFetch, lookUp, view, writeBack, land, plan}
+use Rattle.protocol.specs.Kinds.{aService}
 use Rattle.protocol.specs.Perform.{perform}
 use Rattle.protocol.specs.Judge.{Reason, wrongLength, wrongPhase, blockTooHigh, slotOpen, wrongState, windowFull, stampsSpent, test, lengthsTest, lengthTest, judged, isReady}
 use Rattle.protocol.specs.Calls.{decided, effectOf, resultOf}
@@ -27,7 +28,8 @@ use Rattle.layout.proofs.Booleans.{Told, told, told-true, told-false, clash}
 use Rattle.protocol.proofs.model.Base.{and-left, and-right}
 use Rattle.protocol.proofs.model.Model as model
 use Rattle.protocol.proofs.model.Model.{Model, Plain, Stored, Mending}
-use Rattle.protocol.proofs.Judged.{passed}
+use Rattle.protocol.proofs.Judged.{passed, passed-first}
+use Rattle.protocol.proofs.Sorted.{Sorted, is-format, is-reopen, is-step, is-service, sorted}
 use Rattle.protocol.proofs.Conditions.{stands}
 use Rattle.protocol.proofs.ReadyCalls.{calledAs, called-as, refused-same, worldOf, stay-next, offer-next, fetch-next, land-next, landFetch-next, lookUp-next, writeBack-next, flush-next}
 use Rattle.protocol.proofs.Reopens.{label-is, reopen-judged}
@@ -52,18 +54,14 @@ pub data Mendable : Call → Type 0 where
 
 pub mendable : (l : Label) (k : Core) (d : Disk) → k .recovering ≡ true → (c : Call) → CallFits c (worldOf l k d)
     → judged c (boxOfCore l k) ≡ none → Mendable c
-unfolding test
-mendable l k d on (format slots blocks) f e = no-format slots blocks (worldOf l k d) f e
-mendable l k d on step f e = steps
-mendable l k d on reopen f e = reopens-it
-mendable l k d on flush f e = clash {b = true} refl (rw on at (passed flush (boxOfCore l k) e wrongPhase refl))
-mendable l k d on (offer b) f e = clash {b = true} refl (rw on at (passed (offer b) (boxOfCore l k) e wrongPhase refl))
-mendable l k d on (fetch b) f e = clash {b = true} refl (rw on at (passed (fetch b) (boxOfCore l k) e wrongPhase refl))
-mendable l k d on (landFetch b) f e = clash {b = true} refl (rw on at (passed (landFetch b) (boxOfCore l k) e wrongPhase refl))
-mendable l k d on (lookUp b) f e = clash {b = true} refl (rw on at (passed (lookUp b) (boxOfCore l k) e wrongPhase refl))
-mendable l k d on (view b) f e = clash {b = true} refl (rw on at (passed (view b) (boxOfCore l k) e wrongPhase refl))
-mendable l k d on (writeBack b) f e = clash {b = true} refl (rw on at (passed (writeBack b) (boxOfCore l k) e wrongPhase refl))
-mendable l k d on (land b page) f e = clash {b = true} refl (rw on at (passed (land b page) (boxOfCore l k) e wrongPhase refl))
+mendable l k d on c = go (sorted c)
+  where
+    go : {c : Call} → Sorted c → CallFits c (worldOf l k d) → judged c (boxOfCore l k) ≡ none → Mendable c
+    go (is-format slots blocks) f e = no-format slots blocks (worldOf l k d) f e
+    go is-step f e = steps
+    go is-reopen f e = reopens-it
+    go (is-service {c} a q) f e =
+        clash {b = true} refl (unfold test in (rw (q, on) at (passed-first c (boxOfCore l k) e (aService a) q wrongPhase refl)))
 
 -- a call that is not refused
 module _ (l : Label) (k : Core) (S : Shape l k) (d : Disk) (p : Plain) (A : Agrees l d p) where

@@ -24,6 +24,7 @@ use Rattle.protocol.specs.Box.{Images, Box, Effect, left, boxAfter, refu
 use Rattle.protocol.specs.Sweep.{nextSlot, Victim, sweep}
 use Rattle.protocol.specs.Recovery.{metasOf, Newest, newestOf}
 use Rattle.protocol.specs.Plan.{Call, format, step, flush, reopen, offer, fetch, landFetch, lookUp, view, writeBack, land, Move, stay, uses, opens, lands, copies, confirms, mends, takesAs, takes, offering, fetching, landing, landingFetch, lookingUp, writingBack, flushing, plan, storesMeta}
+use Rattle.protocol.specs.Kinds.{kind, aim}
 use Rattle.protocol.specs.Perform.{confirmed, landedAs, perform}
 use Rattle.protocol.specs.Judge.{largestStamp, Reason, firstOf, judged, isOpen, takesWrite, takesFetch, openRows, isReady}
 use Rattle.protocol.specs.Calls.{decided, effectOf}
@@ -58,7 +59,7 @@ calledAs c e w =
     record {
       box = boxAfter r;
       disk = fed c (refused (r .said))
-          (readsIf (not (refused (r .said)) && (mayFinish c && isReady (r .state .phase))) (boxAfter r)) (w .disk);
+          (readsIf (not (refused (r .said)) && (mayFinish (kind c) && isReady (r .state .phase))) (boxAfter r)) (w .disk);
     }
 
 pub called-as : (c : Call) (w : World) → called c w ≡ calledAs c (decided (judged c (w .box)) c (w .box)) w
@@ -81,8 +82,8 @@ worldOf l k d = record { box = boxOfCore l k; disk = d }
 
 module _ (l : Label) (k : Core) (S : Shape l k) (d : Disk) (p : Plain) (A : Agrees l d p) (R : model.Ready (abs l k) p) where
   -- a move that leaves this core
-  next : (c : Call) (v : Move) (k′ : Core) (p′ : Plain) → mayFinish c ≡ false → refused (perform v (boxOfCore l k) .said) ≡ false
-      → after l k v ≡ boxOfCore l k′ → Shape l k′ → Agrees l (fedCall c d) p′ → model.Ready (abs l k′) p′
+  next : (c : Call) (v : Move) (k′ : Core) (p′ : Plain) → mayFinish (kind c) ≡ false → refused (perform v (boxOfCore l k) .said) ≡ false
+      → after l k v ≡ boxOfCore l k′ → Shape l k′ → Agrees l (fedCall (aim c) d) p′ → model.Ready (abs l k′) p′
       → Inv l (calledAs c (perform v (boxOfCore l k)) (worldOf l k d))
   unfolding calledAs
   next c v k′ p′ m n e S′ A′ R′ =
@@ -96,7 +97,7 @@ module _ (l : Label) (k : Core) (S : Shape l k) (d : Disk) (p : Plain) (A : Agre
       }
 
   -- nothing changed
-  pub stay-next : (c : Call) (said : Paper) (p′ : Plain) → mayFinish c ≡ false → refused said ≡ false → Agrees l (fedCall c d) p′
+  pub stay-next : (c : Call) (said : Paper) (p′ : Plain) → mayFinish (kind c) ≡ false → refused said ≡ false → Agrees l (fedCall (aim c) d) p′
       → model.Ready (abs l k) p′ → Inv l (calledAs c (perform (stay said) (boxOfCore l k)) (worldOf l k d))
   unfolding perform
   stay-next c said p′ m n A′ R′ = next c (stay said) k p′ m n refl S A′ R′
@@ -194,7 +195,7 @@ module _ (l : Label) (k : Core) (S : Shape l k) (d : Disk) (p : Plain) (A : Agre
         stamps-left = left-over;
       }
 
-      pub opens-next : (c : Call) → mayFinish c ≡ false → Agrees l (fedCall c d) p
+      pub opens-next : (c : Call) → mayFinish (kind c) ≡ false → Agrees l (fedCall (aim c) d) p
           → Inv l (calledAs c (perform (opens (record { 0 = s }) (record { 0 = b }) f v hand) (boxOfCore l k)) (worldOf l k d))
       unfolding perform confirmed v′ core′
       opens-next c m A′ =
@@ -221,7 +222,7 @@ module _ (l : Label) (k : Core) (S : Shape l k) (d : Disk) (p : Plain) (A : Agre
       is-valid : valid (getD v (2 * s + 1) 0) ≡ true
       is-valid = sym (at-valid l v (T .legal) s s-slot) ∙ ap model.valid (T .row s) ∙ dty-valid (rowAt (k .table) s) row-dirty
 
-      pub copies-next : (c : Call) (said : Paper) → mayFinish c ≡ false → refused said ≡ false → Agrees l (fedCall c d) p
+      pub copies-next : (c : Call) (said : Paper) → mayFinish (kind c) ≡ false → refused said ≡ false → Agrees l (fedCall (aim c) d) p
           → Inv l (calledAs c (perform (copies (record { 0 = s }) said v hand) (boxOfCore l k)) (worldOf l k d))
       unfolding perform
       copies-next c said m n A′ =
@@ -231,7 +232,7 @@ module _ (l : Label) (k : Core) (S : Shape l k) (d : Disk) (p : Plain) (A : Agre
           (rw (copies-abs l k S s s-slot v T hand hand-ok is-shut is-valid) (copies-ready (abs l k) p R asks))
 
   -- a slot that was swept for
-  sweep-next : (c : Call) (b f : ℕ) → mayFinish c ≡ false → Agrees l (fedCall c d) p → b < l .blocks → LegalRow l b f
+  sweep-next : (c : Call) (b f : ℕ) → mayFinish (kind c) ≡ false → Agrees l (fedCall (aim c) d) p → b < l .blocks → LegalRow l b f
       → opn (rowOf b (f % 8)) ≡ true → blk (rowOf b (f % 8)) ≡ b
       → ((t : ℕ) → model.valid (rowAt (k .table) t) ≡ true → blk (rowAt (k .table) t) ≢ b) → openRows (k .table) < 63
       → {o : Option Victim} → Swept l (k .table) o
@@ -313,9 +314,9 @@ module _ (l : Label) (k : Core) (S : Shape l k) (d : Disk) (p : Plain) (A : Agre
       go true = refl
       go false = refl
 
-  lands-next : (c : Call) (s : ℕ) (page : List ℕ) (p′ : Plain) (o : Bool) → mayFinish c ≡ false → s < l .slots → length page ≡ 4096
+  lands-next : (c : Call) (s : ℕ) (page : List ℕ) (p′ : Plain) (o : Bool) → mayFinish (kind c) ≡ false → s < l .slots → length page ≡ 4096
       → writing (getD (k .table) (2 * s + 1) 0) ≡ o
-      → Agrees l (fedCall c d) p′ → model.Ready (landed s page (abs l k)) p′
+      → Agrees l (fedCall (aim c) d) p′ → model.Ready (landed s page (abs l k)) p′
       → Inv l (calledAs c (perform (lands (record { 0 = s }) page) (boxOfCore l k)) (worldOf l k d))
   lands-next c s page p′ o m h z e A′ R′ =
       let has : base.has (nums (k .window)) s ≡ o = sym (open-is s) ∙ at-open l (k .table) (S .rows) s h ∙ e in
@@ -373,7 +374,7 @@ module _ (l : Label) (k : Core) (S : Shape l k) (d : Disk) (p : Plain) (A : Agre
       lands-next (landFetch b) s (pageAt (k .hdd) (b .0)) p true refl (H .low) (hdd-page (b .0) bl) ws A (fetched-ready (b .0) s H bl ws)
 
   -- look up
-  uses-next : (c : Call) (b s : ℕ) → mayFinish c ≡ false → Agrees l (fedCall c d) p → Held l (k .table) b s
+  uses-next : (c : Call) (b s : ℕ) → mayFinish (kind c) ≡ false → Agrees l (fedCall (aim c) d) p → Held l (k .table) b s
       → Inv l (calledAs c (perform (uses (record { 0 = s })) (boxOfCore l k)) (worldOf l k d))
   unfolding perform
   uses-next c b s m A′ H =

@@ -18,6 +18,7 @@ use Rattle.protocol.specs.Paper.{Paper, refusal, announced, overwrite, c
 use Rattle.protocol.specs.Rows.{recordOf}
 use Rattle.protocol.specs.Box.{Images, Box, Image, ssdImage, hddImage, Store, Effect, refusing}
 use Rattle.protocol.specs.Plan.{Call, format, step, flush, reopen, offer, land, fetch, landFetch, lookUp, view, writeBack, plan}
+use Rattle.protocol.specs.Kinds.{kind}
 use Rattle.protocol.specs.Recovery.{Recovered, recoverFrom}
 use Rattle.protocol.specs.Perform.{perform}
 use Rattle.protocol.specs.Judge.{Reason, windowFull, allOpen, labelFor, lengthsTest, lengthTest, test, judged}
@@ -372,7 +373,7 @@ windows =
 
 -- the lengths of such a box are known
 counted : (c : Call) (table : List ℕ) (state : Record) (wanted : Effect)
-    → sameLabel (labelFor c (boxed table state)) one ≡ true
+    → sameLabel (labelFor (kind c) (boxed table state)) one ≡ true
     → effectKnown one c (boxed table state) ≡ wanted
     → effectOf c (boxed table state) ≡ wanted
 counted c table state wanted e h = effect-known one c (boxed table state) sized-one e ∙ h

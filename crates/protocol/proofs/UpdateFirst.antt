@@ -17,9 +17,11 @@ use Rattle.protocol.specs.Rows.{valid, dirty, writing}
 use Rattle.protocol.specs.Box.{Images, Box, Effect}
 use Rattle.protocol.specs.Condition.{conditionOf}
 use Rattle.protocol.specs.Plan.{Call, land, landFetch}
+use Rattle.protocol.specs.Kinds.{kind}
 use Rattle.protocol.specs.Recovery.{metasOf, entryIn, newestOf}
 use Rattle.protocol.specs.Judge.{Reason, judged}
 use Rattle.protocol.specs.Calls.{decided, effectOf, resultOf}
+use Rattle.protocol.specs.ReferenceDisk.{Disk}
 use Rattle.protocol.specs.Events.{World, mayFinish, CallFits}
 use Rattle.protocol.specs.Beside.{Announced, StoredDirty, UpdateFirst}
 use Rattle.layout.proofs.Booleans.{clash}
@@ -80,21 +82,25 @@ module _ (l : Label) (k : Core) (S : Shape l k) (p : Plain) (R : model.Ready (ab
     block = entry-block;
   }
 
-may-of : {c : Call} → Mendable c → mayFinish c ≡ true
+-- any reference disk
+abbrev blank : Disk
+blank = record { page = λ b. []; contents = λ b. [] }
+
+may-of : {c : Call} → Mendable c → mayFinish (kind c) ≡ true
 may-of steps = refl
 may-of reopens-it = refl
 
 module _ (l : Label) (k : Core) (S : Shape l k) (p : Plain) (P : Phased (abs l k) p) where
   -- no landing is made while mending
-  ready-at : (c : Call) → mayFinish c ≡ false → CallFits c (worldOf l k (record { page = λ b. []; contents = λ b. [] }))
+  ready-at : (c : Call) → mayFinish (kind c) ≡ false → CallFits c (worldOf l k blank)
       → refused (resultOf c (boxOfCore l k) .said) ≡ false → model.Ready (abs l k) p
   ready-at c m f r = go P
     where
       go : Phased (abs l k) p → model.Ready (abs l k) p
       go (is-ready R) = R
-      go (is-mending on M) = clash (may-of (mendable l k _ (unfold abs in on) c f (none-of c (boxOfCore l k) r))) m
+      go (is-mending on M) = clash (may-of (mendable l k blank (unfold abs in on) c f (none-of c (boxOfCore l k) r))) m
 
-  core-first : UpdateFirst l (worldOf l k (record { page = λ b. []; contents = λ b. [] }))
+  core-first : UpdateFirst l (worldOf l k blank)
   core-first = record {
     land-open = λ b page r s e. go-open b s (ready-at (land b page) refl tt r)
         (subst (λ (z : Condition). Stands l (k .table) (b .0) z) e (stands l (k .table) (S .table-size) b));
@@ -120,6 +126,6 @@ pub update-first : (l : Label) (w : World) → Inv l w → UpdateFirst l w
 update-first l w I = subst (λ (x : Box). UpdateFirst l (record { box = x; disk = w .disk })) (sym (I .is-core))
     (any (core-first l (I .core) (I .shape) (I .plain) (I .phased)))
   where
-    any : UpdateFirst l (worldOf l (I .core) (record { page = λ b. []; contents = λ b. [] }))
+    any : UpdateFirst l (worldOf l (I .core) blank)
         → UpdateFirst l (worldOf l (I .core) (w .disk))
     any F = record { land-open = F .land-open; land-closed = F .land-closed; fetch-open = F .fetch-open }

@@ -1,7 +1,7 @@
 -- Why a call says no: one test for each number of document 01's table, and each call's chain of them, "Least number first".
 use Prim.Native.Nat.{ℕ, zero, suc, _+_, _-_, _*_, _/_, _%_}
 use mathlib.Core.Bool.{Bool, true, false, not, _&&_, _||_}
-use mathlib.Core.List.{List, [], _∷_}
+use mathlib.Core.List.{List, [], _∷_, _++_}
 use mathlib.Core.Option.{Option, some, none}
 use lib.ListN.{length, drop}
 use lib.Dec.{eqb, ltb, leb}
@@ -23,6 +23,7 @@ use Rattle.protocol.specs.Rows.{rowBlock, rowFlags, valid, writing, used
 use Rattle.protocol.specs.Box.{Images, Box}
 use Rattle.protocol.specs.Condition.{conditionOf}
 use Rattle.protocol.specs.Plan.{Call, format, step, flush, reopen, offer, fetch, landFetch, lookUp, view, writeBack, land, plan, storesMeta}
+use Rattle.protocol.specs.Kinds.{Aim, atNone, toSettle, atBlock, toWrite, toFetch, toLandFetch, toLand, Kind, aFormat, aReopening, aStep, aService, kind, aim}
 use Rattle.protocol.specs.Recovery.{labelAt, metasOf, pagesTest}
 
 -- the largest stamp
@@ -70,32 +71,21 @@ rising (r ∷ []) = true
 rising (r ∷ q ∷ rs) = ltb (rank r) (rank q) && rising (q ∷ rs)
 
 -- the label by which a call judges lengths: format by its arguments, reopen by the label page, others by the record
-abbrev pub labelFor : Call → Box → Label
-labelFor (format slots blocks) x = labelOf slots blocks
-labelFor reopen x = labelAt (x .images .ssd)
-labelFor step x = labelIn (x .state)
-labelFor flush x = labelIn (x .state)
-labelFor (offer b) x = labelIn (x .state)
-labelFor (fetch b) x = labelIn (x .state)
-labelFor (landFetch b) x = labelIn (x .state)
-labelFor (lookUp b) x = labelIn (x .state)
-labelFor (view b) x = labelIn (x .state)
-labelFor (writeBack b) x = labelIn (x .state)
-labelFor (land b page) x = labelIn (x .state)
+abbrev pub labelFor : Kind → Box → Label
+labelFor (aFormat l) x = l
+labelFor aReopening x = labelAt (x .images .ssd)
+labelFor aStep x = labelIn (x .state)
+labelFor (aService a) x = labelIn (x .state)
 
 -- the block that a call names (0 where it names none: no such call asks for it)
-abbrev pub blockFor : Call → Block
-blockFor (format slots blocks) = record { 0 = 0 }
-blockFor reopen = record { 0 = 0 }
-blockFor step = record { 0 = 0 }
-blockFor flush = record { 0 = 0 }
-blockFor (offer b) = b
-blockFor (fetch b) = b
-blockFor (landFetch b) = b
-blockFor (lookUp b) = b
-blockFor (view b) = b
-blockFor (writeBack b) = b
-blockFor (land b page) = b
+abbrev pub blockFor : Aim → Block
+blockFor atNone = record { 0 = 0 }
+blockFor toSettle = record { 0 = 0 }
+blockFor (atBlock b) = b
+blockFor (toWrite b) = b
+blockFor (toFetch b) = b
+blockFor (toLandFetch b) = b
+blockFor (toLand b page) = b
 
 -- 2: "SSD under a page, or first page no legal label"
 abbrev pub isLabel : LabelRead → Bool
@@ -125,18 +115,14 @@ recordTest r =
     && (inRange (labelIn r) (windowIn r) && (distinct (windowIn r) && zeroSlots (drop (r .count) (r .window))))))))
 
 -- 4: "an image, table or data page of the wrong length"
-abbrev pub pageLengthTest : Call → Bool
-pageLengthTest (format slots blocks) = true
-pageLengthTest reopen = true
-pageLengthTest step = true
-pageLengthTest flush = true
-pageLengthTest (offer b) = true
-pageLengthTest (fetch b) = true
-pageLengthTest (landFetch b) = true
-pageLengthTest (lookUp b) = true
-pageLengthTest (view b) = true
-pageLengthTest (writeBack b) = true
-pageLengthTest (land b page) = eqb (length page) 4096
+abbrev pub pageLengthTest : Aim → Bool
+pageLengthTest atNone = true
+pageLengthTest toSettle = true
+pageLengthTest (atBlock b) = true
+pageLengthTest (toWrite b) = true
+pageLengthTest (toFetch b) = true
+pageLengthTest (toLandFetch b) = true
+pageLengthTest (toLand b page) = eqb (length page) 4096
 
 unfoldable pub lengthsTest : Label → ℕ → ℕ → ℕ → Bool
 lengthsTest l ssd hdd table = eqb ssd (ssdLength l) && (eqb hdd (hddLength l) && eqb table (tableLength l))
@@ -178,18 +164,11 @@ unfoldable pub rowsTest : Record → List ℕ → Bool
 rowsTest r table = eachRow (λ s block flags. rowTest (labelIn r) block flags) 0 table && agreeTest (r .phase) table (windowIn r)
 
 -- 5 of a reopening judges the metadata pages, of any other call the table
-abbrev pub contentsTest : Call → Box → Bool
-contentsTest (format slots blocks) x = true
-contentsTest reopen x = pagesTest (labelAt (x .images .ssd)) (metasOf (labelAt (x .images .ssd)) (x .images .ssd))
-contentsTest step x = rowsTest (x .state) (x .table)
-contentsTest flush x = rowsTest (x .state) (x .table)
-contentsTest (offer b) x = rowsTest (x .state) (x .table)
-contentsTest (fetch b) x = rowsTest (x .state) (x .table)
-contentsTest (landFetch b) x = rowsTest (x .state) (x .table)
-contentsTest (lookUp b) x = rowsTest (x .state) (x .table)
-contentsTest (view b) x = rowsTest (x .state) (x .table)
-contentsTest (writeBack b) x = rowsTest (x .state) (x .table)
-contentsTest (land b page) x = rowsTest (x .state) (x .table)
+abbrev pub contentsTest : Kind → Box → Bool
+contentsTest (aFormat l) x = true
+contentsTest aReopening x = pagesTest (labelAt (x .images .ssd)) (metasOf (labelAt (x .images .ssd)) (x .images .ssd))
+contentsTest aStep x = rowsTest (x .state) (x .table)
+contentsTest (aService a) x = rowsTest (x .state) (x .table)
 
 -- 6: "wrong phase: step when ready, anything else before"
 abbrev pub isReady : Phase → Bool
@@ -197,18 +176,11 @@ isReady Ready = true
 isReady Recovering = false
 isReady (Formatting d) = false
 
-abbrev pub phaseTest : Call → Phase → Bool
-phaseTest (format slots blocks) p = true
-phaseTest reopen p = true
-phaseTest step p = not (isReady p)
-phaseTest flush p = isReady p
-phaseTest (offer b) p = isReady p
-phaseTest (fetch b) p = isReady p
-phaseTest (landFetch b) p = isReady p
-phaseTest (lookUp b) p = isReady p
-phaseTest (view b) p = isReady p
-phaseTest (writeBack b) p = isReady p
-phaseTest (land b page) p = isReady p
+abbrev pub phaseTest : Kind → Phase → Bool
+phaseTest (aFormat l) p = true
+phaseTest aReopening p = true
+phaseTest aStep p = not (isReady p)
+phaseTest (aService a) p = isReady p
 
 -- 8 to 10, by the block's condition
 abbrev pub isOpen : Condition → Bool
@@ -242,18 +214,14 @@ takesFetch (Writing s) = false
 takesFetch (Fetching s) = true
 
 -- 9: "land: block in neither state named; land a fetch: not open for fetch"
-abbrev pub stateTest : Call → Condition → Bool
-stateTest (format slots blocks) k = true
-stateTest reopen k = true
-stateTest step k = true
-stateTest flush k = true
-stateTest (offer b) k = true
-stateTest (fetch b) k = true
-stateTest (landFetch b) k = takesFetch k
-stateTest (lookUp b) k = true
-stateTest (view b) k = true
-stateTest (writeBack b) k = true
-stateTest (land b page) k = takesWrite k
+abbrev pub stateTest : Aim → Condition → Bool
+stateTest atNone k = true
+stateTest toSettle k = true
+stateTest (atBlock b) k = true
+stateTest (toWrite b) k = true
+stateTest (toFetch b) k = true
+stateTest (toLandFetch b) k = takesFetch k
+stateTest (toLand b page) k = takesWrite k
 
 -- 11: "a fetch, or an offer of a block that isn't dirty, while 63 are open"
 unfoldable pub openRows : List ℕ → ℕ
@@ -261,67 +229,68 @@ openRows [] = 0
 openRows (block ∷ []) = 0
 openRows (block ∷ flags ∷ rows) = elim (writing flags) [ true ↦ suc (openRows rows) | false ↦ openRows rows ]
 
-abbrev pub opensAnother : Call → Condition → Bool
-opensAnother (format slots blocks) k = false
-opensAnother reopen k = false
-opensAnother step k = false
-opensAnother flush k = false
-opensAnother (offer b) k = not (takesWrite k)
-opensAnother (fetch b) k = true
-opensAnother (landFetch b) k = false
-opensAnother (lookUp b) k = false
-opensAnother (view b) k = false
-opensAnother (writeBack b) k = false
-opensAnother (land b page) k = false
+abbrev pub opensAnother : Aim → Condition → Bool
+opensAnother atNone k = false
+opensAnother toSettle k = false
+opensAnother (atBlock b) k = false
+opensAnother (toWrite b) k = not (takesWrite k)
+opensAnother (toFetch b) k = true
+opensAnother (toLandFetch b) k = false
+opensAnother (toLand b page) k = false
 
 -- 12: "a slot must be swept for, all are open"
 abbrev pub allWriting : List ℕ → Bool
 allWriting table = eachRow (λ s block flags. writing flags) 0 table
 
 -- 13: "the newest stamp is 4,294,967,295, or for an offer or fetch 4,294,967,232 or more"
-abbrev pub stampBound : Call → ℕ
-stampBound (format slots blocks) = largestStamp
-stampBound reopen = largestStamp
-stampBound step = largestStamp
-stampBound flush = largestStamp
-stampBound (offer b) = largestStamp - 63
-stampBound (fetch b) = largestStamp - 63
-stampBound (landFetch b) = largestStamp
-stampBound (lookUp b) = largestStamp
-stampBound (view b) = largestStamp
-stampBound (writeBack b) = largestStamp
-stampBound (land b page) = largestStamp
+abbrev pub stampBound : Aim → ℕ
+stampBound atNone = largestStamp
+stampBound toSettle = largestStamp
+stampBound (atBlock b) = largestStamp
+stampBound (toWrite b) = largestStamp - 63
+stampBound (toFetch b) = largestStamp - 63
+stampBound (toLandFetch b) = largestStamp
+stampBound (toLand b page) = largestStamp
 
 -- does the condition of a row of the table hold for this call
 unfoldable pub test : Reason → Call → Box → Bool
-test badLimits c x = not (withinLimits (labelFor c x))
+test badLimits c x = not (withinLimits (labelFor (kind c) x))
 test noLabel c x = not (labelTest (x .images .ssd))
 test badRecord c x = not (recordTest (x .state))
-test wrongLength c x = not (lengthTest (labelFor c x) (x .images) (x .table) && pageLengthTest c)
-test badRows c x = not (contentsTest c x)
-test wrongPhase c x = not (phaseTest c (x .state .phase))
-test blockTooHigh c x = leb (x .state .blocks) (blockFor c .0)
-test slotOpen c x = isOpen (conditionOf (x .table) (blockFor c))
-test wrongState c x = not (stateTest c (conditionOf (x .table) (blockFor c)))
-test hasSlot c x = isCached (conditionOf (x .table) (blockFor c))
-test windowFull c x = opensAnother c (conditionOf (x .table) (blockFor c)) && leb 63 (openRows (x .table))
-test allOpen c x = not (isCached (conditionOf (x .table) (blockFor c))) && allWriting (x .table)
-test stampsSpent c x = storesMeta (plan c x) && leb (stampBound c) (x .state .newest)
+test wrongLength c x = not (lengthTest (labelFor (kind c) x) (x .images) (x .table) && pageLengthTest (aim c))
+test badRows c x = not (contentsTest (kind c) x)
+test wrongPhase c x = not (phaseTest (kind c) (x .state .phase))
+test blockTooHigh c x = leb (x .state .blocks) (blockFor (aim c) .0)
+test slotOpen c x = isOpen (conditionOf (x .table) (blockFor (aim c)))
+test wrongState c x = not (stateTest (aim c) (conditionOf (x .table) (blockFor (aim c))))
+test hasSlot c x = isCached (conditionOf (x .table) (blockFor (aim c)))
+test windowFull c x = opensAnother (aim c) (conditionOf (x .table) (blockFor (aim c))) && leb 63 (openRows (x .table))
+test allOpen c x = not (isCached (conditionOf (x .table) (blockFor (aim c)))) && allWriting (x .table)
+test stampsSpent c x = storesMeta (plan c x) && leb (stampBound (aim c)) (x .state .newest)
 
--- the numbers that belong to each call, in the order of judging
+-- the numbers that belong to each call, in the order of judging: first those of its kind ("Format and reopen judge neither that
+-- record nor the table's contents"), then its own
+abbrev pub askedFirst : Kind → List Reason
+askedFirst (aFormat l) = badLimits ∷ wrongLength ∷ []
+askedFirst aReopening = noLabel ∷ wrongLength ∷ badRows ∷ []
+askedFirst aStep = badRecord ∷ wrongLength ∷ badRows ∷ wrongPhase ∷ []
+askedFirst (aService a) = badRecord ∷ wrongLength ∷ badRows ∷ wrongPhase ∷ []
+
+abbrev pub askedThen : Call → List Reason
+askedThen (format slots blocks) = []
+askedThen reopen = []
+askedThen step = stampsSpent ∷ []
+askedThen flush = stampsSpent ∷ []
+askedThen (offer b) = blockTooHigh ∷ slotOpen ∷ windowFull ∷ allOpen ∷ stampsSpent ∷ []
+askedThen (fetch b) = blockTooHigh ∷ slotOpen ∷ hasSlot ∷ windowFull ∷ allOpen ∷ stampsSpent ∷ []
+askedThen (landFetch b) = blockTooHigh ∷ wrongState ∷ []
+askedThen (lookUp b) = blockTooHigh ∷ []
+askedThen (view b) = blockTooHigh ∷ []
+askedThen (writeBack b) = blockTooHigh ∷ slotOpen ∷ []
+askedThen (land b page) = blockTooHigh ∷ wrongState ∷ []
+
 abbrev pub chain : Call → List Reason
-chain (format slots blocks) = badLimits ∷ wrongLength ∷ []
-chain reopen = noLabel ∷ wrongLength ∷ badRows ∷ []
-chain step = badRecord ∷ wrongLength ∷ badRows ∷ wrongPhase ∷ stampsSpent ∷ []
-chain flush = badRecord ∷ wrongLength ∷ badRows ∷ wrongPhase ∷ stampsSpent ∷ []
-chain (offer b) = badRecord ∷ wrongLength ∷ badRows ∷ wrongPhase ∷ blockTooHigh ∷ slotOpen ∷ windowFull ∷ allOpen ∷ stampsSpent ∷ []
-chain (fetch b) =
-    badRecord ∷ wrongLength ∷ badRows ∷ wrongPhase ∷ blockTooHigh ∷ slotOpen ∷ hasSlot ∷ windowFull ∷ allOpen ∷ stampsSpent ∷ []
-chain (landFetch b) = badRecord ∷ wrongLength ∷ badRows ∷ wrongPhase ∷ blockTooHigh ∷ wrongState ∷ []
-chain (lookUp b) = badRecord ∷ wrongLength ∷ badRows ∷ wrongPhase ∷ blockTooHigh ∷ []
-chain (view b) = badRecord ∷ wrongLength ∷ badRows ∷ wrongPhase ∷ blockTooHigh ∷ []
-chain (writeBack b) = badRecord ∷ wrongLength ∷ badRows ∷ wrongPhase ∷ blockTooHigh ∷ slotOpen ∷ []
-chain (land b page) = badRecord ∷ wrongLength ∷ badRows ∷ wrongPhase ∷ blockTooHigh ∷ wrongState ∷ []
+chain c = askedFirst (kind c) ++ askedThen c
 
 -- the first reason of a chain whose condition holds; a later one is not asked
 unfoldable pub firstOf : List Reason → (Reason → Bool) → Option Reason

@@ -18,13 +18,15 @@ use Rattle.protocol.specs.Rows.{writing, labelIn}
 use Rattle.protocol.specs.Box.{Box, left, boxAfter}
 use Rattle.protocol.specs.Condition.{conditionOf}
 use Rattle.protocol.specs.Plan.{Call, format, step, flush, reopen, offer, fetch, landFetch, lookUp, view, writeBack, land, plan, storesMeta}
+use Rattle.protocol.specs.Kinds.{Aim, atNone, toSettle, atBlock, toWrite, toFetch, toLandFetch, toLand, Kind, aFormat, aReopening, aStep, aService, kind, aim}
 use Rattle.protocol.specs.Judge.{Reason, badLimits, noLabel, badRecord, wrongLength, badRows, wrongPhase, blockTooHigh, slotOpen, wrongState, hasSlot, windowFull, allOpen, stampsSpent, numberOf, rankIn, rising, labelFor, blockFor, contentsTest, isReady, phaseTest, stateTest, opensAnother, openRows, stampBound, test, chain, firstOf, judged}
 use Rattle.protocol.specs.Recovery.{labelAt, metasOf}
 use Rattle.protocol.specs.Calls.{decided, effectOf, resultOf, boxOf, View, viewed, viewOf}
 use Rattle.pages.specs.Parts.{Part}
 use Rattle.layout.specs.declared.Block.{Block}
 use Rattle.protocol.specs.declared.Record.{Record}
-use Rattle.protocol.proofs.Judged.{number-is, number-some, NoneHold, none-hold, first-none}
+use Rattle.protocol.proofs.Reasons.{number-is, number-some}
+use Rattle.protocol.proofs.Judged.{NoneHold, none-hold, first-none}
 use Rattle.protocol.specs.Why.{Contents, RightPhase, RightState, OpensAnother, Why, FirstWhy}
 use Rattle.protocol.proofs.why.Basics.{none-same, and-same, is-same, unit-same}
 use Rattle.protocol.proofs.why.Records.{label-same, record-same, lengths-same}
@@ -33,65 +35,43 @@ use Rattle.protocol.proofs.why.PagesRules.{pages-same}
 use Rattle.protocol.proofs.why.Answers.{plan-answers}
 use Rattle.protocol.proofs.why.Slots.{cached-same, open-same, write-same, fetch-same, clean-same}
 
-contents-same : (c : Call) (x : Box) → contentsTest c x ⇔ Contents c x
-contents-same (format slots blocks) x = unit-same
-contents-same reopen x = pages-same (labelAt (x .images .ssd)) (metasOf (labelAt (x .images .ssd)) (x .images .ssd))
-contents-same step x = rows-same (x .state) (x .table)
-contents-same flush x = rows-same (x .state) (x .table)
-contents-same (offer b) x = rows-same (x .state) (x .table)
-contents-same (fetch b) x = rows-same (x .state) (x .table)
-contents-same (landFetch b) x = rows-same (x .state) (x .table)
-contents-same (lookUp b) x = rows-same (x .state) (x .table)
-contents-same (view b) x = rows-same (x .state) (x .table)
-contents-same (writeBack b) x = rows-same (x .state) (x .table)
-contents-same (land b page) x = rows-same (x .state) (x .table)
+contents-same : (k : Kind) (x : Box) → contentsTest k x ⇔ Contents k x
+contents-same (aFormat l) x = unit-same
+contents-same aReopening x = pages-same (labelAt (x .images .ssd)) (metasOf (labelAt (x .images .ssd)) (x .images .ssd))
+contents-same aStep x = rows-same (x .state) (x .table)
+contents-same (aService a) x = rows-same (x .state) (x .table)
 
 ready-same : (p : Phase) → isReady p ⇔ (p ≡ Ready)
 ready-same Ready = (λ h. refl, λ h. refl)
 ready-same Recovering = (λ h. clash h refl, λ h. ap isReady h)
 ready-same (Formatting d) = (λ h. clash h refl, λ h. ap isReady h)
 
-phase-same : (c : Call) (p : Phase) → phaseTest c p ⇔ RightPhase c p
-phase-same (format slots blocks) p = unit-same
-phase-same reopen p = unit-same
-phase-same step p = none-same (ready-same p)
-phase-same flush p = ready-same p
-phase-same (offer b) p = ready-same p
-phase-same (fetch b) p = ready-same p
-phase-same (landFetch b) p = ready-same p
-phase-same (lookUp b) p = ready-same p
-phase-same (view b) p = ready-same p
-phase-same (writeBack b) p = ready-same p
-phase-same (land b page) p = ready-same p
+phase-same : (k : Kind) (p : Phase) → phaseTest k p ⇔ RightPhase k p
+phase-same (aFormat l) p = unit-same
+phase-same aReopening p = unit-same
+phase-same aStep p = none-same (ready-same p)
+phase-same (aService a) p = ready-same p
 
-state-same : (c : Call) (table : List ℕ) → stateTest c (conditionOf table (blockFor c)) ⇔ RightState c table
-state-same (format slots blocks) table = unit-same
-state-same reopen table = unit-same
-state-same step table = unit-same
-state-same flush table = unit-same
-state-same (offer b) table = unit-same
-state-same (fetch b) table = unit-same
-state-same (landFetch b) table = fetch-same table b
-state-same (lookUp b) table = unit-same
-state-same (view b) table = unit-same
-state-same (writeBack b) table = unit-same
-state-same (land b page) table = write-same table b
+state-same : (a : Aim) (table : List ℕ) → stateTest a (conditionOf table (blockFor a)) ⇔ RightState a table
+state-same atNone table = unit-same
+state-same toSettle table = unit-same
+state-same (atBlock b) table = unit-same
+state-same (toWrite b) table = unit-same
+state-same (toFetch b) table = unit-same
+state-same (toLandFetch b) table = fetch-same table b
+state-same (toLand b page) table = write-same table b
 
 never : false ⇔ ⊥
 never = (λ h. clash h refl, λ h. absurd h)
 
-another-same : (c : Call) (table : List ℕ) → opensAnother c (conditionOf table (blockFor c)) ⇔ OpensAnother c table
-another-same (format slots blocks) table = never
-another-same reopen table = never
-another-same step table = never
-another-same flush table = never
-another-same (offer b) table = clean-same table b
-another-same (fetch b) table = unit-same
-another-same (landFetch b) table = never
-another-same (lookUp b) table = never
-another-same (view b) table = never
-another-same (writeBack b) table = never
-another-same (land b page) table = never
+another-same : (a : Aim) (table : List ℕ) → opensAnother a (conditionOf table (blockFor a)) ⇔ OpensAnother a table
+another-same atNone table = never
+another-same toSettle table = never
+another-same (atBlock b) table = never
+another-same (toWrite b) table = clean-same table b
+another-same (toFetch b) table = unit-same
+another-same (toLandFetch b) table = never
+another-same (toLand b page) table = never
 
 most-same : (m n : ℕ) → leb m n ⇔ (m ≤ n)
 most-same m n = (leb-true m n, le-leb m n)
@@ -99,21 +79,21 @@ most-same m n = (leb-true m n, le-leb m n)
 -- each test says what document 01 says
 pub same : (r : Reason) (c : Call) (x : Box) → (test r c x ≡ true) ↔ Why r c x
 unfolding test
-same badLimits c x = none-same (within (labelFor c x))
+same badLimits c x = none-same (within (labelFor (kind c) x))
 same noLabel c x = none-same (label-same (x .images .ssd))
 same badRecord c x = none-same (record-same (x .state))
-same wrongLength c x = none-same (lengths-same (labelFor c x) c (x .images) (x .table))
-same badRows c x = none-same (contents-same c x)
-same wrongPhase c x = none-same (phase-same c (x .state .phase))
-same blockTooHigh c x = most-same (x .state .blocks) (blockFor c .0)
-same slotOpen c x = open-same (x .table) (blockFor c)
-same wrongState c x = none-same (state-same c (x .table))
-same hasSlot c x = cached-same (x .table) (blockFor c)
-same windowFull c x = and-same (another-same c (x .table)) (most-same 63 (openRows (x .table)))
+same wrongLength c x = none-same (lengths-same (labelFor (kind c) x) (aim c) (x .images) (x .table))
+same badRows c x = none-same (contents-same (kind c) x)
+same wrongPhase c x = none-same (phase-same (kind c) (x .state .phase))
+same blockTooHigh c x = most-same (x .state .blocks) (blockFor (aim c) .0)
+same slotOpen c x = open-same (x .table) (blockFor (aim c))
+same wrongState c x = none-same (state-same (aim c) (x .table))
+same hasSlot c x = cached-same (x .table) (blockFor (aim c))
+same windowFull c x = and-same (another-same (aim c) (x .table)) (most-same 63 (openRows (x .table)))
 same allOpen c x =
-    and-same (none-same (cached-same (x .table) (blockFor c)))
+    and-same (none-same (cached-same (x .table) (blockFor (aim c))))
     (each-same _ (λ s b f. writing f ≡ true) (λ s b f. is-same (writing f)) (x .table))
-same stampsSpent c x = and-same (is-same (storesMeta (plan c x))) (most-same (stampBound c) (x .state .newest))
+same stampsSpent c x = and-same (is-same (storesMeta (plan c x))) (most-same (stampBound (aim c)) (x .state .newest))
 
 -- the first reason of a chain whose condition holds
 module _ (q : Reason) (rs : List Reason) (t : Reason → Bool) where
