@@ -15,13 +15,13 @@ use Rattle.protocol.specs.declared.Record.{Record}
 use Rattle.protocol.specs.declared.Condition.{Condition}
 use Rattle.protocol.specs.declared.Condition.the-variants.{NotCached, Clean, Dirty}
 use Rattle.protocol.specs.Paper.{overwrite, nothingToDo}
-use Rattle.protocol.specs.Rows.{rowFlags, withWriting, labelIn}
+use Rattle.protocol.specs.Rows.{rowFlags, withWriting, labelIn, openRows, allWriting}
 use Rattle.protocol.specs.Box.{Box, Effect, refusing, left}
-use Rattle.protocol.specs.Condition.{conditionOf}
+use Rattle.protocol.specs.Condition.{conditionOf, isOpen, isCached, takesWrite, takesFetch}
 use Rattle.protocol.specs.Plan.{Call, flush, offer, fetch, landFetch, lookUp, view, writeBack, land, stay, opens, confirms, lookingUp, writingBack, landing, landingFetch, offering, fetching, flushing, sweeps, storesMeta, plan}
 use Rattle.protocol.specs.Kinds.{toWrite, toFetch}
 use Rattle.protocol.specs.Perform.{perform}
-use Rattle.protocol.specs.Judge.{Reason, slotOpen, wrongState, hasSlot, windowFull, allOpen, stampsSpent, largestStamp, isOpen, isCached, takesWrite, takesFetch, opensAnother, openRows, allWriting, test, firstOf, judged}
+use Rattle.protocol.specs.Judge.{Reason, slotOpen, wrongState, hasSlot, windowFull, allOpen, stampsSpent, largestStamp, opensAnother, test, firstOf, judged}
 use Rattle.protocol.specs.Calls.{resultOf, boxOf, lookUpOf, writeBackOf, landOf, landFetchOf, offerOf, fetchOf, flushOf, viewed, viewPart, viewOf}
 use Rattle.layout.proofs.Booleans.{Told, told, told-true, told-false}
 use Rattle.serving.specs.Judging.{refuseIf, readyThen, servesThen}

@@ -12,9 +12,9 @@ use Rattle.layout.specs.Places.{Limits, withinLimits, ssdLength, hddLength, tab
 use Rattle.layout.specs.PageRule.{distinct, inRange}
 use Rattle.layout.proofs.PlaceLaws.{within}
 use Rattle.protocol.specs.declared.Record.{Record}
-use Rattle.protocol.specs.Rows.{labelIn, windowIn, arrayOf}
+use Rattle.protocol.specs.Rows.{labelIn, windowIn, arrayOf, eachRow}
 use Rattle.protocol.specs.Box.{Box}
-use Rattle.protocol.specs.Judge.{stepsTest, zeroSlots, recordTest, lengthsTest, lengthTest, rowTest, eachRow, agreeTest, rowsTest}
+use Rattle.protocol.specs.Judge.{stepsTest, zeroSlots, recordTest, lengthsTest, lengthTest, rowTest, agreeTest, rowsTest}
 use Rattle.protocol.proofs.model.Base.{Window, and-left, and-right}
 use Rattle.protocol.proofs.Windows.{nums, window-of}
 use Rattle.protocol.proofs.Flags.{legal-row}

@@ -8,8 +8,7 @@ use native.Mathlib.Omega.{arith}
 use lib.ListN.{length, getD, set, length-set}
 use lib.Seq.{getD-set-same, getD-set-other}
 use lib.Dec.{eqb}
-use Rattle.protocol.specs.Rows.{writing}
-use Rattle.protocol.specs.Judge.{openRows}
+use Rattle.protocol.specs.Rows.{writing, openRows}
 use Rattle.layout.proofs.Booleans.{Told, told, told-true, told-false, clash}
 use Rattle.protocol.proofs.model.Base.{has, distinct, and-left, and-right, not-true, eqb-same, eqb-is}
 

@@ -25,11 +25,11 @@ use Rattle.layout.proofs.MetaLaws as meta
 use Rattle.protocol.specs.declared.Phase.{Phase}
 use Rattle.protocol.specs.declared.Phase.the-variants.{Formatting, Ready}
 use Rattle.protocol.specs.Paper.{refused, done}
-use Rattle.protocol.specs.Rows.{windowIn, recordOf}
+use Rattle.protocol.specs.Rows.{windowIn, recordOf, eachRow}
 use Rattle.protocol.specs.Box.{Box, ssdImage, Store, Effect, left, boxAfter}
 use Rattle.protocol.specs.Plan.{format, step, plan}
 use Rattle.protocol.specs.Perform.{begun, formatStore, formatState, perform}
-use Rattle.protocol.specs.Judge.{Reason, badLimits, wrongLength, recordTest, lengthsTest, lengthTest, rowTest, eachRow, rowsTest, test, judged}
+use Rattle.protocol.specs.Judge.{Reason, badLimits, wrongLength, recordTest, lengthsTest, lengthTest, rowTest, rowsTest, test, judged}
 use Rattle.protocol.specs.Calls.{decided, effectOf, resultOf}
 use Rattle.protocol.specs.Events.{steps, formatted}
 use Rattle.protocol.specs.Beside.{WholeFormat}

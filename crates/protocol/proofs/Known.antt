@@ -19,8 +19,8 @@ use Rattle.protocol.specs.Box.{Images, Box, Image, ssdImage, hddImage, S
 use Rattle.protocol.specs.Condition.{conditionOf, slotFrom}
 use Rattle.protocol.specs.Plan.{Call, reopen, view, lowestFrom, plan}
 use Rattle.protocol.specs.Kinds.{kind, aim}
-use Rattle.protocol.specs.Rows.{labelIn, arrayOf, windowIn, without}
-use Rattle.protocol.specs.Judge.{Reason, noLabel, wrongLength, numberOf, isLabel, labelFor, lengthsTest, lengthTest, pageLengthTest, test, chain, firstOf, judged, eachRow, eachSlot, labelTest, openRows, recordTest, rowTest, rowsTest, zeroSlots}
+use Rattle.protocol.specs.Rows.{labelIn, arrayOf, windowIn, without, eachRow, openRows}
+use Rattle.protocol.specs.Judge.{Reason, noLabel, wrongLength, numberOf, isLabel, labelFor, lengthsTest, lengthTest, pageLengthTest, test, chain, firstOf, judged, eachSlot, labelTest, recordTest, rowTest, rowsTest, zeroSlots}
 use Rattle.protocol.specs.Calls.{decided, effectOf, viewed, viewOf}
 use Rattle.protocol.specs.Events.{World, Junk, Arrival, old, new, Event, call, reopens, cut, lent, readOf, handed, survived, made}
 use Rattle.layout.proofs.Booleans.{Told, told, told-true, told-false}

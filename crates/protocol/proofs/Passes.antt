@@ -18,11 +18,11 @@ use Rattle.layout.proofs.PlaceLaws.{within}
 use Rattle.protocol.specs.declared.Record.{Record}
 use Rattle.protocol.specs.declared.Phase.{Phase}
 use Rattle.protocol.specs.declared.Phase.the-variants.{Formatting, Recovering, Ready}
-use Rattle.protocol.specs.Rows.{rowBlock, rowFlags, valid, dirty, writing, windowIn, recordOf}
+use Rattle.protocol.specs.Rows.{rowBlock, rowFlags, valid, dirty, writing, windowIn, recordOf, eachRow}
 use Rattle.protocol.specs.Box.{Images, Box}
 use Rattle.protocol.specs.Plan.{Call, step, flush, lookUp, view, flushing, plan, storesMeta}
 use Rattle.protocol.specs.Kinds.{Aim, toSettle, atBlock, aService, kind}
-use Rattle.protocol.specs.Judge.{largestStamp, stepsTest, recordTest, lengthsTest, lengthTest, rowTest, eachRow, eachSlot, isEmpty, agreeTest, rowsTest, isReady, pageLengthTest, test, askedFirst, judged}
+use Rattle.protocol.specs.Judge.{largestStamp, stepsTest, recordTest, lengthsTest, lengthTest, rowTest, eachSlot, isEmpty, agreeTest, rowsTest, isReady, pageLengthTest, test, askedFirst, judged}
 use Rattle.protocol.proofs.model.Base as base
 use Rattle.layout.proofs.Booleans.{Told, told, told-true, told-false, clash}
 use Rattle.protocol.proofs.model.Base.{has, Window, eqb-same}

@@ -16,13 +16,13 @@ use Rattle.layout.specs.Places.{withinLimits, metaPages}
 use Rattle.layout.specs.LabelPage.{digits, labelText, encodeLabel, after, numberFrom, number, allZero, decodeLabel}
 use Rattle.layout.specs.MetaPage.{slotsBytes, entryBytes, rowsBytes, encodeMeta, stampOf, countOf, slotAt, firsts, windowOf, entryPart, decodeEntry, rowsFrom}
 use Rattle.layout.specs.PageRule.{countTest, zeroTest, listed, distinct, inRange, windowTest, legalFlags, pairTest, entryTest, entriesFrom, entriesTest, passes, pageTest}
-use Rattle.protocol.specs.Rows.{windowIn, arrayOf, without}
+use Rattle.protocol.specs.Rows.{windowIn, arrayOf, without, eachRow, openRows}
 use Rattle.protocol.specs.Condition.{slotFrom, conditionOf}
 use Rattle.protocol.specs.Sweep.{sweepFrom}
 use Rattle.protocol.specs.Plan.{Call, reopen, lowestFrom, plan}
 use Rattle.protocol.specs.Recovery.{metasOf, entryIn, newestFrom, eachLegal, stampIn, stampsDiffer, blockIn, noneTwice, allOpenIn, pagesTest, recover, recoverFrom, offPage}
 use Rattle.protocol.specs.Perform.{confirmed, perform}
-use Rattle.protocol.specs.Judge.{labelTest, zeroSlots, recordTest, lengthTest, rowTest, eachRow, eachSlot, rowsTest, openRows, test, firstOf, judged}
+use Rattle.protocol.specs.Judge.{labelTest, zeroSlots, recordTest, lengthTest, rowTest, eachSlot, rowsTest, test, firstOf, judged}
 use Rattle.protocol.specs.Calls.{effectOf, resultOf, viewOf}
 use Rattle.protocol.specs.Events.{World, Junk, Arrival, Event, call, reopens, cut, readOf, called, handed, takenIf, reopened, survived, made, struck, apply, run, steps, formatted}
 use Rattle.protocol.proofs.Report.{Line, lineOf, seen, linesOf, readsOf, Report, reported, report, diskFrom, unformatted, start, metaPage, labelPage, pages}

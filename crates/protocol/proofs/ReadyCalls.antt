@@ -19,14 +19,15 @@ use Rattle.layout.specs.PageRule.{listed, distinct}
 use Rattle.protocol.specs.declared.Condition.{Condition}
 use Rattle.protocol.specs.declared.Condition.the-variants.{NotCached, Clean, Dirty, Writing, Fetching}
 use Rattle.protocol.specs.Paper.{Paper, refused, copiedOut, nothingToDo}
-use Rattle.protocol.specs.Rows.{rowFlags, setRow, valid, dirty, writing, withWriting}
+use Rattle.protocol.specs.Rows.{rowFlags, setRow, valid, dirty, writing, withWriting, openRows}
 use Rattle.protocol.specs.Box.{Images, Box, Effect, left, boxAfter, refusing}
 use Rattle.protocol.specs.Sweep.{nextSlot, Victim, sweep}
 use Rattle.protocol.specs.Recovery.{metasOf, Newest, newestOf}
 use Rattle.protocol.specs.Plan.{Call, format, step, flush, reopen, offer, fetch, landFetch, lookUp, view, writeBack, land, Move, stay, uses, opens, lands, copies, confirms, mends, takesAs, takes, offering, fetching, landing, landingFetch, lookingUp, writingBack, flushing, plan, storesMeta}
 use Rattle.protocol.specs.Kinds.{kind, aim}
 use Rattle.protocol.specs.Perform.{confirmed, landedAs, perform}
-use Rattle.protocol.specs.Judge.{largestStamp, Reason, firstOf, judged, isOpen, takesWrite, takesFetch, openRows, isReady}
+use Rattle.protocol.specs.Condition.{isOpen, takesWrite, takesFetch}
+use Rattle.protocol.specs.Judge.{largestStamp, Reason, firstOf, judged, isReady}
 use Rattle.protocol.specs.Calls.{decided, effectOf}
 use Rattle.protocol.specs.ReferenceDisk.{Disk, settled, written, fedCall, fed}
 use Rattle.protocol.specs.Events.{World, mayFinish, readsIf, called}

@@ -23,14 +23,14 @@ use Rattle.protocol.specs.declared.Phase.the-variants.{Formatting, Recov
 use Rattle.protocol.specs.declared.Condition.{Condition}
 use Rattle.protocol.specs.declared.Condition.the-variants.{NotCached, Clean, Dirty, Writing, Fetching}
 use Rattle.protocol.specs.Paper.{Paper, refused, announced, done}
-use Rattle.protocol.specs.Rows.{rowFlags, setRow, valid, dirty, writing, withWriting, labelIn, windowIn, withHand, withPhase, withStamp, withWindow}
+use Rattle.protocol.specs.Rows.{rowFlags, setRow, valid, dirty, writing, withWriting, labelIn, windowIn, withHand, withPhase, withStamp, withWindow, openRows}
 use Rattle.protocol.specs.Box.{Images, Box, Image, ssdImage, hddImage, Store, Effect, Result, left, boxAfter}
 use Rattle.protocol.specs.Condition.{conditionOf}
 use Rattle.protocol.specs.Sweep.{nextSlot, Victim, sweep}
 use Rattle.protocol.specs.Recovery.{offPage}
 use Rattle.protocol.specs.Plan.{Call, format, step, flush, reopen, offer, fetch, landFetch, lookUp, view, writeBack, land, Move, stay, uses, opens, lands, copies, confirms, mends, begins, formats, recovers, takesAs, takes, offering, fetching, landing, landingFetch, lookingUp, writingBack, flushing, lowestPage, stepping, plan, storesMeta}
 use Rattle.protocol.specs.Perform.{confirmed, joined, landedAs, mendedAt, formatStore, formatState, perform}
-use Rattle.protocol.specs.Judge.{largestStamp, Reason, badRecord, wrongLength, badRows, wrongPhase, blockTooHigh, windowFull, stampsSpent, eachSlot, isEmpty, agreeTest, openRows, test, judged, isReady}
+use Rattle.protocol.specs.Judge.{largestStamp, Reason, badRecord, wrongLength, badRows, wrongPhase, blockTooHigh, windowFull, stampsSpent, eachSlot, isEmpty, agreeTest, test, judged, isReady}
 use Rattle.protocol.specs.Calls.{decided, effectOf, resultOf}
 use Rattle.protocol.specs.Beside.{stampStored, MetaStored, StoresLegally}
 use Rattle.layout.proofs.Booleans.{Told, told, told-true, told-false, clash}
@@ -230,7 +230,7 @@ module _ (x : Box) (L : Legal x) (on : x .state .phase ≡ Ready) where
       (x .state .hand) (L .hand-low)
 
   offer-stores : (b : Block) → b .0 < x .state .blocks → {z : Condition} → Stands lab (x .table) (b .0) z
-      → (not (Rattle.protocol.specs.Judge.takesWrite z) && leb 63 (openRows (x .table))) ≡ false
+      → (not (Rattle.protocol.specs.Condition.takesWrite z) && leb 63 (openRows (x .table))) ≡ false
       → (storesMeta (offering x b z) && leb (largestStamp - 63) (x .state .newest)) ≡ false
       → Stores lab (x .state .phase) (perform (offering x b z) x)
   unfolding perform

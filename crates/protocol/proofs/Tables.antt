@@ -18,8 +18,8 @@ use Rattle.layout.specs.declared.Label.{Label}
 use Rattle.layout.specs.Places.{tableLength}
 use Rattle.protocol.specs.declared.Condition.{Condition}
 use Rattle.protocol.specs.declared.Condition.the-variants.{NotCached, Clean, Dirty, Writing, Fetching}
-use Rattle.protocol.specs.Rows.{rowBlock, rowFlags, setFlags, setRow, valid, dirty, writing, used, withoutDirty, withoutWriting, withoutUsed, withUsed, withWriting}
-use Rattle.protocol.specs.Judge.{rowTest, eachRow}
+use Rattle.protocol.specs.Rows.{rowBlock, rowFlags, setFlags, setRow, valid, dirty, writing, used, withoutDirty, withoutWriting, withoutUsed, withUsed, withWriting, eachRow}
+use Rattle.protocol.specs.Judge.{rowTest}
 use Rattle.protocol.specs.Condition.{slotFrom, slotOf, conditionAt, conditionOf}
 use Rattle.layout.proofs.Booleans.{Told, told, told-true, told-false, clash}
 use Rattle.protocol.proofs.model.Base.{upd, upd-same, upd-other, and-left, and-right, eqb-same, eqb-is, eqb-other}

@@ -18,10 +18,9 @@ use Rattle.protocol.specs.declared.Record.{Record}
 use Rattle.protocol.specs.declared.Phase.{Phase}
 use Rattle.protocol.specs.declared.Phase.the-variants.{Formatting, Recovering, Ready}
 use Rattle.protocol.specs.declared.Condition.{Condition}
-use Rattle.protocol.specs.declared.Condition.the-variants.{NotCached, Clean, Dirty, Writing, Fetching}
-use Rattle.protocol.specs.Rows.{rowBlock, rowFlags, valid, writing, used, labelIn, windowIn}
+use Rattle.protocol.specs.Rows.{rowBlock, rowFlags, valid, writing, used, labelIn, windowIn, eachRow, openRows, allWriting}
 use Rattle.protocol.specs.Box.{Images, Box}
-use Rattle.protocol.specs.Condition.{conditionOf}
+use Rattle.protocol.specs.Condition.{conditionOf, isOpen, isCached, takesWrite, takesFetch}
 use Rattle.protocol.specs.Plan.{Call, format, step, flush, reopen, offer, fetch, landFetch, lookUp, view, writeBack, land, plan, storesMeta}
 use Rattle.protocol.specs.Kinds.{Aim, atNone, toSettle, atBlock, toWrite, toFetch, toLandFetch, toLand, Kind, aFormat, aReopening, aStep, aService, kind, aim}
 use Rattle.protocol.specs.Recovery.{labelAt, metasOf, pagesTest}
@@ -134,11 +133,6 @@ lengthTest l im table = lengthsTest l (length (im .ssd)) (length (im .hdd)) (len
 unfoldable pub rowTest : Label → ℕ → ℕ → Bool
 rowTest l block flags = pairTest l block (flags % 8) && (ltb flags 16 && (not (used flags) || valid flags))
 
-unfoldable pub eachRow : (ℕ → ℕ → ℕ → Bool) → ℕ → List ℕ → Bool
-eachRow test s [] = true
-eachRow test s (block ∷ []) = true
-eachRow test s (block ∷ flags ∷ rows) = test s block flags && eachRow test (suc s) rows
-
 -- a test at each slot of a window
 unfoldable pub eachSlot : (Slot → Bool) → List Slot → Bool
 eachSlot test [] = true
@@ -182,37 +176,6 @@ phaseTest aReopening p = true
 phaseTest aStep p = not (isReady p)
 phaseTest (aService a) p = isReady p
 
--- 8 to 10, by the block's condition
-abbrev pub isOpen : Condition → Bool
-isOpen NotCached = false
-isOpen (Clean s) = false
-isOpen (Dirty s) = false
-isOpen (Writing s) = true
-isOpen (Fetching s) = true
-
-abbrev pub isCached : Condition → Bool
-isCached NotCached = false
-isCached (Clean s) = true
-isCached (Dirty s) = true
-isCached (Writing s) = true
-isCached (Fetching s) = true
-
--- "open for writing, or dirty and not open"
-abbrev pub takesWrite : Condition → Bool
-takesWrite NotCached = false
-takesWrite (Clean s) = false
-takesWrite (Dirty s) = true
-takesWrite (Writing s) = true
-takesWrite (Fetching s) = false
-
--- "open for fetch"
-abbrev pub takesFetch : Condition → Bool
-takesFetch NotCached = false
-takesFetch (Clean s) = false
-takesFetch (Dirty s) = false
-takesFetch (Writing s) = false
-takesFetch (Fetching s) = true
-
 -- 9: "land: block in neither state named; land a fetch: not open for fetch"
 abbrev pub stateTest : Aim → Condition → Bool
 stateTest atNone k = true
@@ -224,11 +187,6 @@ stateTest (toLandFetch b) k = takesFetch k
 stateTest (toLand b page) k = takesWrite k
 
 -- 11: "a fetch, or an offer of a block that isn't dirty, while 63 are open"
-unfoldable pub openRows : List ℕ → ℕ
-openRows [] = 0
-openRows (block ∷ []) = 0
-openRows (block ∷ flags ∷ rows) = elim (writing flags) [ true ↦ suc (openRows rows) | false ↦ openRows rows ]
-
 abbrev pub opensAnother : Aim → Condition → Bool
 opensAnother atNone k = false
 opensAnother toSettle k = false
@@ -237,10 +195,6 @@ opensAnother (toWrite b) k = not (takesWrite k)
 opensAnother (toFetch b) k = true
 opensAnother (toLandFetch b) k = false
 opensAnother (toLand b page) k = false
-
--- 12: "a slot must be swept for, all are open"
-abbrev pub allWriting : List ℕ → Bool
-allWriting table = eachRow (λ s block flags. writing flags) 0 table
 
 -- 13: "the newest stamp is 4,294,967,295, or for an offer or fetch 4,294,967,232 or more"
 abbrev pub stampBound : Aim → ℕ

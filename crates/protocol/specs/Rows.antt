@@ -54,6 +54,21 @@ withUsed flags = cond (used flags) flags (flags + 8)
 abbrev pub withWriting : ℕ → ℕ
 withWriting flags = flags + 6
 
+-- a test at every row, with its slot
+unfoldable pub eachRow : (ℕ → ℕ → ℕ → Bool) → ℕ → List ℕ → Bool
+eachRow test s [] = true
+eachRow test s (block ∷ []) = true
+eachRow test s (block ∷ flags ∷ rows) = test s block flags && eachRow test (suc s) rows
+
+-- how many rows are writing, and whether all are (11: "while 63 are open", 12: "all are open")
+unfoldable pub openRows : List ℕ → ℕ
+openRows [] = 0
+openRows (block ∷ []) = 0
+openRows (block ∷ flags ∷ rows) = elim (writing flags) [ true ↦ suc (openRows rows) | false ↦ openRows rows ]
+
+abbrev pub allWriting : List ℕ → Bool
+allWriting table = eachRow (λ s block flags. writing flags) 0 table
+
 -- the label of a record
 abbrev pub labelIn : Record → Label
 labelIn r = labelOf (r .slots) (r .blocks)

@@ -17,12 +17,12 @@ use Rattle.layout.specs.PageRule.{PageRule, PairRule, listed}
 use Rattle.protocol.specs.declared.Record.{Record}
 use Rattle.protocol.specs.declared.Phase.{Phase}
 use Rattle.protocol.specs.declared.Phase.the-variants.{Formatting, Recovering, Ready}
-use Rattle.protocol.specs.Rows.{rowBlock, rowFlags, valid, dirty, writing, used, labelIn, windowIn}
+use Rattle.protocol.specs.Rows.{rowBlock, rowFlags, valid, dirty, writing, used, labelIn, windowIn, openRows}
 use Rattle.protocol.specs.Box.{Images, Box}
 use Rattle.protocol.specs.Plan.{Call, plan, storesMeta}
 use Rattle.protocol.specs.Kinds.{Aim, atNone, toSettle, atBlock, toWrite, toFetch, toLandFetch, toLand, Kind, aFormat, aReopening, aStep, aService, kind, aim}
 use Rattle.protocol.specs.Recovery.{labelAt, metasOf, entryIn}
-use Rattle.protocol.specs.Judge.{Reason, badLimits, noLabel, badRecord, wrongLength, badRows, wrongPhase, blockTooHigh, slotOpen, wrongState, hasSlot, windowFull, allOpen, stampsSpent, labelFor, blockFor, openRows, stampBound}
+use Rattle.protocol.specs.Judge.{Reason, badLimits, noLabel, badRecord, wrongLength, badRows, wrongPhase, blockTooHigh, slotOpen, wrongState, hasSlot, windowFull, allOpen, stampsSpent, labelFor, blockFor, stampBound}
 
 -- 2: the first page is the page of a label within the limits
 pub record HasLabel (ssd : List ℕ) : Type 0 where

@@ -12,9 +12,9 @@ use Rattle.layout.specs.declared.Block.{Block}
 use Rattle.layout.specs.declared.Label.{Label}
 use Rattle.layout.specs.Places.{ssdLength, hddLength, tableLength}
 use Rattle.protocol.specs.declared.Record.{Record}
-use Rattle.protocol.specs.Rows.{labelIn, windowIn}
+use Rattle.protocol.specs.Rows.{labelIn, windowIn, openRows}
 use Rattle.protocol.specs.Condition.{conditionOf}
-use Rattle.protocol.specs.Judge.{recordTest, lengthsTest, rowsTest, agreeTest, isReady, openRows}
+use Rattle.protocol.specs.Judge.{recordTest, lengthsTest, rowsTest, agreeTest, isReady}
 use Rattle.protocol.proofs.model.Base.{and-right}
 use Rattle.table.specs.Scan.{legalRows}
 use Rattle.serving.specs.declared.Judged.{Judged}

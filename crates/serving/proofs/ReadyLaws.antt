@@ -14,8 +14,8 @@ use Rattle.layout.specs.PageRule.{listed}
 use Rattle.protocol.specs.declared.Record.{Record}
 use Rattle.protocol.specs.declared.Phase.{Phase}
 use Rattle.protocol.specs.declared.Phase.the-variants.{Formatting, Recovering, Ready}
-use Rattle.protocol.specs.Rows.{rowFlags, writing, labelIn, windowIn}
-use Rattle.protocol.specs.Judge.{recordTest, lengthsTest, lengthTest, rowsTest, eachSlot, agreeTest, isReady, openRows}
+use Rattle.protocol.specs.Rows.{rowFlags, writing, labelIn, windowIn, openRows}
+use Rattle.protocol.specs.Judge.{recordTest, lengthsTest, lengthTest, rowsTest, eachSlot, agreeTest, isReady}
 use Rattle.protocol.specs.Calls.{boxOf}
 use Rattle.layout.proofs.Booleans.{clash}
 use Rattle.protocol.proofs.model.Base.{and-left, and-right}

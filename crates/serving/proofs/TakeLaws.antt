@@ -16,12 +16,12 @@ use Rattle.layout.specs.Places.{Limits, tableLength}
 use Rattle.layout.proofs.PlaceLaws.{within}
 use Rattle.protocol.specs.declared.Record.{Record}
 use Rattle.protocol.specs.Paper.{copiedOut}
-use Rattle.protocol.specs.Rows.{rowFlags, dirty, labelIn}
+use Rattle.protocol.specs.Rows.{rowFlags, dirty, labelIn, openRows, allWriting}
 use Rattle.protocol.specs.Box.{Box, Effect, refusing, left}
 use Rattle.protocol.specs.Sweep.{nextSlot, Victim, sweep}
 use Rattle.protocol.specs.Plan.{Move, opens, copies, takesAs, takes, storesMeta}
 use Rattle.protocol.specs.Perform.{perform}
-use Rattle.protocol.specs.Judge.{recordTest, rowTest, openRows, allWriting, largestStamp}
+use Rattle.protocol.specs.Judge.{recordTest, rowTest, largestStamp}
 use Rattle.protocol.proofs.Accepted.{parts}
 use Rattle.protocol.proofs.Flags.{legal-row}
 use Rattle.protocol.proofs.Tables.{Rows, each-get}

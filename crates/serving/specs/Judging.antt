@@ -7,9 +7,9 @@ use lib.Dec.{eqb, leb}
 use Rattle.layout.specs.declared.Block.{Block}
 use Rattle.protocol.specs.declared.Record.{Record}
 use Rattle.protocol.specs.declared.Condition.the-variants.{NotCached}
-use Rattle.protocol.specs.Rows.{labelIn}
+use Rattle.protocol.specs.Rows.{labelIn, openRows}
 use Rattle.protocol.specs.Condition.{conditionOf}
-use Rattle.protocol.specs.Judge.{recordTest, lengthsTest, rowsTest, isReady, openRows}
+use Rattle.protocol.specs.Judge.{recordTest, lengthsTest, rowsTest, isReady}
 use Rattle.serving.specs.declared.Judged.{Judged}
 
 -- refused by n, or the rest

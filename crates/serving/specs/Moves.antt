@@ -8,11 +8,11 @@ use Rattle.layout.specs.declared.Slot.{Slot}
 use Rattle.layout.specs.declared.Block.{Block}
 use Rattle.layout.specs.Places.{ssdLength, tableLength}
 use Rattle.protocol.specs.declared.Record.{Record}
-use Rattle.protocol.specs.Rows.{labelIn}
+use Rattle.protocol.specs.Rows.{labelIn, openRows, allWriting}
 use Rattle.protocol.specs.Box.{Box, Effect, refusing}
 use Rattle.protocol.specs.Plan.{Move, takes, sweeps, storesMeta}
 use Rattle.protocol.specs.Perform.{perform}
-use Rattle.protocol.specs.Judge.{largestStamp, openRows, allWriting}
+use Rattle.protocol.specs.Judge.{largestStamp}
 use Rattle.table.specs.Sweeps.{clearedFrom}
 use Rattle.serving.specs.Judging.{refuseIf}
 

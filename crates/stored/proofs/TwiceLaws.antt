@@ -16,8 +16,7 @@ use Rattle.layout.specs.Places.{metaPages}
 use Rattle.layout.specs.MetaPage.{entryAt, rowsFrom}
 use Rattle.layout.proofs.Booleans.{Told, told, told-true, told-false, clash, and-assoc}
 use Rattle.layout.proofs.RuleLaws.{page-rule}
-use Rattle.protocol.specs.Rows.{valid}
-use Rattle.protocol.specs.Judge.{eachRow}
+use Rattle.protocol.specs.Rows.{valid, eachRow}
 use Rattle.protocol.specs.Recovery.{entryIn, eachLegal, blockIn, noneTwice, storedRows}
 use Rattle.protocol.proofs.model.Base.{and-left, and-right, eqb-is}
 use Rattle.protocol.proofs.Entries.{length-rows, rows-block, rows-flags}

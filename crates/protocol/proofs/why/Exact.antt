@@ -14,12 +14,12 @@ use Rattle.layout.proofs.RuleLaws.{_⇔_}
 use Rattle.protocol.specs.declared.Phase.{Phase}
 use Rattle.protocol.specs.declared.Phase.the-variants.{Formatting, Recovering, Ready}
 use Rattle.protocol.specs.Paper.{refusal, refused}
-use Rattle.protocol.specs.Rows.{writing, labelIn}
+use Rattle.protocol.specs.Rows.{writing, labelIn, openRows}
 use Rattle.protocol.specs.Box.{Box, left, boxAfter}
 use Rattle.protocol.specs.Condition.{conditionOf}
 use Rattle.protocol.specs.Plan.{Call, format, step, flush, reopen, offer, fetch, landFetch, lookUp, view, writeBack, land, plan, storesMeta}
 use Rattle.protocol.specs.Kinds.{Aim, atNone, toSettle, atBlock, toWrite, toFetch, toLandFetch, toLand, Kind, aFormat, aReopening, aStep, aService, kind, aim}
-use Rattle.protocol.specs.Judge.{Reason, badLimits, noLabel, badRecord, wrongLength, badRows, wrongPhase, blockTooHigh, slotOpen, wrongState, hasSlot, windowFull, allOpen, stampsSpent, numberOf, rankIn, rising, labelFor, blockFor, contentsTest, isReady, phaseTest, stateTest, opensAnother, openRows, stampBound, test, chain, firstOf, judged}
+use Rattle.protocol.specs.Judge.{Reason, badLimits, noLabel, badRecord, wrongLength, badRows, wrongPhase, blockTooHigh, slotOpen, wrongState, hasSlot, windowFull, allOpen, stampsSpent, numberOf, rankIn, rising, labelFor, blockFor, contentsTest, isReady, phaseTest, stateTest, opensAnother, stampBound, test, chain, firstOf, judged}
 use Rattle.protocol.specs.Recovery.{labelAt, metasOf}
 use Rattle.protocol.specs.Calls.{decided, effectOf, resultOf, boxOf, View, viewed, viewOf}
 use Rattle.pages.specs.Parts.{Part}

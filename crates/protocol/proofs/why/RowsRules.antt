@@ -14,8 +14,8 @@ use Rattle.layout.proofs.RuleLaws.{_⇔_, pair-rule}
 use Rattle.protocol.specs.declared.Record.{Record}
 use Rattle.protocol.specs.declared.Phase.{Phase}
 use Rattle.protocol.specs.declared.Phase.the-variants.{Formatting, Recovering, Ready}
-use Rattle.protocol.specs.Rows.{rowBlock, rowFlags, valid, writing, used, labelIn, windowIn}
-use Rattle.protocol.specs.Judge.{rowTest, eachRow, eachSlot, isEmpty, agreeTest, rowsTest}
+use Rattle.protocol.specs.Rows.{rowBlock, rowFlags, valid, writing, used, labelIn, windowIn, eachRow}
+use Rattle.protocol.specs.Judge.{rowTest, eachSlot, isEmpty, agreeTest, rowsTest}
 use Rattle.protocol.specs.Why.{IsRow, RowRule, Agree, RowsRule}
 use Rattle.protocol.proofs.Tables.{each-get, each-of}
 use Rattle.protocol.proofs.why.Basics.{none-same, and-same, if-same, is-same, via}
