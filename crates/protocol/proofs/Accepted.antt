@@ -1,8 +1,9 @@
 -- A box that passes 3, 4 and 5, whatever it is: what its record and its table are.
-use Prim.Native.Nat.{ℕ, zero, _+_, _-_, _≤_, _<_}
-use mathlib.Core.Path.{_≡_, refl, sym, ap, _∙_}
+use Prim.Native.Nat.{ℕ, _-_, _≤_, _<_}
+use mathlib.Core.Path.{_≡_, refl, sym, ap, subst, _∙_}
 use mathlib.Core.Bool.{Bool, true, false, not, _&&_}
 use mathlib.Core.List.{List, [], _∷_, _++_}
+use mathlib.Core.Option.{none}
 use native.Mathlib.Omega.{arith}
 use lib.ListN.{length, take, drop, replicate, length-take, length-drop, take-append-drop}
 use lib.Dec.{eqb, ltb, leb}
@@ -11,14 +12,21 @@ use Rattle.layout.specs.declared.Slot.{Slot}
 use Rattle.layout.specs.Places.{Limits, withinLimits, ssdLength, hddLength, tableLength}
 use Rattle.layout.specs.PageRule.{distinct, inRange}
 use Rattle.layout.proofs.PlaceLaws.{within}
+use Rattle.layout.proofs.Booleans.{clash}
 use Rattle.protocol.specs.declared.Record.{Record}
+use Rattle.protocol.specs.declared.Phase.{Phase}
+use Rattle.protocol.specs.declared.Phase.the-variants.{Formatting, Recovering, Ready}
 use Rattle.protocol.specs.Rows.{labelIn, windowIn, arrayOf, eachRow}
 use Rattle.protocol.specs.Box.{Box}
-use Rattle.protocol.specs.Judge.{stepsTest, zeroSlots, recordTest, lengthsTest, lengthTest, rowTest, agreeTest, rowsTest}
+use Rattle.protocol.specs.Plan.{Call, step}
+use Rattle.protocol.specs.Kinds.{Aim, aService, kind}
+use Rattle.protocol.specs.Judge.{badRecord, wrongLength, badRows, wrongPhase, stepsTest, zeroSlots, recordTest, lengthsTest, lengthTest, rowTest, agreeTest, rowsTest, isReady, pageLengthTest, test, judged}
 use Rattle.protocol.proofs.model.Base.{Window, and-left, and-right}
 use Rattle.protocol.proofs.Windows.{nums, window-of}
-use Rattle.protocol.proofs.Flags.{legal-row}
-use Rattle.protocol.proofs.Tables.{Rows, each-get}
+use Rattle.protocol.proofs.Tables.{Rows}
+use Rattle.protocol.proofs.Judged.{passed, passed-first}
+use Rattle.protocol.proofs.Sound.{Sound, sound-of, rows-legal}
+use Rattle.protocol.proofs.why.RowsRules.{agree-same}
 
 -- zero slots are as many zeros
 zero-all : (w : List Slot) → zeroSlots w ≡ true → w ≡ replicate (length w) (record { 0 = 0 })
@@ -105,8 +113,7 @@ legal x e f g =
       ssd-size = eqb-true _ _ (q1 .0);
       hdd-size = eqb-true _ _ (q2 .0);
       table-size = size;
-      rows = λ s h. legal-row (labelIn (x .state)) _ _
-          (each-get (λ s block flags. rowTest (labelIn (x .state)) block flags) 0 (x .table) (r1 .0) s (omega arith));
+      rows = rows-legal (labelIn (x .state)) (x .table) size .0 (r1 .0);
       agree = r1 .1;
     }
 
@@ -115,3 +122,31 @@ pub legal-judged : (x : Box) (t : Bool) → not (recordTest (x .state)) ≡ fals
     → not (lengthTest (labelIn (x .state)) (x .images) (x .table) && t) ≡ false → not (rowsTest (x .state) (x .table)) ≡ false → Legal x
 legal-judged x t e f g = legal x (not-false _ e) (and-left (lengthTest (labelIn (x .state)) (x .images) (x .table)) t (not-false _ f))
     (not-false _ g)
+
+-- of a step, or of a service, that no reason refuses
+pub step-legal : (x : Box) → judged step x ≡ none → Legal x
+unfolding test
+step-legal x e = let q = passed step x e in legal-judged x true (q badRecord refl) (q wrongLength refl) (q badRows refl)
+
+module _ (c : Call) (x : Box) (a : Aim) (k : kind c ≡ aService a) (e : judged c x ≡ none) where
+  pub service-legal : Legal x
+  unfolding test
+  service-legal =
+      let q = passed-first c x e (aService a) k in
+      legal-judged x (pageLengthTest a) (q badRecord refl) (rw k at (q wrongLength refl)) (rw k at (q badRows refl))
+
+  pub service-ready : x .state .phase ≡ Ready
+  unfolding test
+  service-ready = ready-of (x .state .phase) (rw k at (passed-first c x e (aService a) k wrongPhase refl))
+    where
+      ready-of : (p : Phase) → not (isReady p) ≡ false → p ≡ Ready
+      ready-of Ready q = refl
+      ready-of Recovering q = clash {b = true} refl q
+      ready-of (Formatting d) q = clash {b = true} refl q
+
+-- a legal box that is ready is sound
+pub legal-sound : (x : Box) → Legal x → x .state .phase ≡ Ready → Sound (labelIn (x .state)) (x .table) (windowIn (x .state))
+legal-sound x L on =
+    sound-of (labelIn (x .state)) (x .table) (windowIn (x .state)) (L .table-size) (L .rows) (L .window-rule)
+    (agree-same Ready (x .table) (windowIn (x .state)) .0
+    (subst (λ (p : Phase). agreeTest p (x .table) (windowIn (x .state)) ≡ true) on (L .agree)))

@@ -109,7 +109,8 @@ length-known l im table z =
     (eq-eqb (length (im .ssd)) (ssdLength l) (z .ssd-size))
     ∙ ap (λ (b : Bool). b && eqb (length table) (tableLength l)) (eq-eqb (length (im .hdd)) (hddLength l) (z .hdd-size))
 
-test-known : (l : Label) (c : Call) (x : Box) → Sized l (x .images) → labelFor (kind c) x ≡ l → (r : Reason) → test r c x ≡ testKnown l c x r
+test-known : (l : Label) (c : Call) (x : Box) → Sized l (x .images) → labelFor (kind c) x ≡ l → (r : Reason)
+    → test r c x ≡ testKnown l c x r
 unfolding testKnown
 test-known l c x z e r = go (told (eqb (numberOf r) 2)) (told (eqb (numberOf r) 4))
   where
@@ -122,9 +123,12 @@ test-known l c x z e r = go (told (eqb (numberOf r) 2)) (told (eqb (numberOf r) 
         (ap (λ (k : Label). not (lengthTest k (x .images) (x .table) && pageLengthTest (aim c))) e
         ∙ ap (λ (b : Bool). not (b && pageLengthTest (aim c))) (length-known l (x .images) (x .table) z))
 
+    at : (s : Reason) → eqb (numberOf r) (numberOf s) ≡ true → test r c x ≡ test s c x
+    at s p = ap (λ (q : Reason). test q c x) (number-is r s (eqb-true _ _ p))
+
     go : Told (eqb (numberOf r) 2) → Told (eqb (numberOf r) 4) → test r c x ≡ testKnown l c x r
-    go (told-true p) q = rw (testKnown, p) (ap (λ (s : Reason). test s c x) (number-is r noLabel (eqb-true _ _ p)) ∙ label-known)
-    go (told-false p) (told-true q) = rw (testKnown, p, q) (ap (λ (s : Reason). test s c x) (number-is r wrongLength (eqb-true _ _ q)) ∙ sizes-known)
+    go (told-true p) q = rw (testKnown, p) (at noLabel p ∙ label-known)
+    go (told-false p) (told-true q) = rw (testKnown, p, q) (at wrongLength q ∙ sizes-known)
     go (told-false p) (told-false q) = rw (testKnown, p, q)
 
 first-same : (rs : List Reason) (f g : Reason → Bool) → ((r : Reason) → f r ≡ g r) → firstOf rs f ≡ firstOf rs g
@@ -137,9 +141,11 @@ first-same (r ∷ rs) f g h =
 unfoldable pub judgedKnown : Label → Call → Box → Option Reason
 judgedKnown l c x = firstOf (chain c) (testKnown l c x)
 
-judged-known : (l : Label) (c : Call) (x : Box) → Sized l (x .images) → sameLabel (labelFor (kind c) x) l ≡ true → judged c x ≡ judgedKnown l c x
+judged-known : (l : Label) (c : Call) (x : Box) → Sized l (x .images) → sameLabel (labelFor (kind c) x) l ≡ true
+    → judged c x ≡ judgedKnown l c x
 unfolding judged judgedKnown
-judged-known l c x z h = first-same (chain c) (λ r. test r c x) (testKnown l c x) (test-known l c x z (same-label (labelFor (kind c) x) l h))
+judged-known l c x z h =
+    first-same (chain c) (λ r. test r c x) (testKnown l c x) (test-known l c x z (same-label (labelFor (kind c) x) l h))
 
 unfoldable pub effectKnown : Label → Call → Box → Effect
 effectKnown l c x = decided (judgedKnown l c x) c x

@@ -11,13 +11,15 @@ pub mod Flags
 pub mod Tables
 pub mod Conditions
 pub mod Metas
-pub mod Abstract
-pub mod Stores
 pub mod Counting
 pub mod Sweeps
-pub mod Performed
+pub mod Sound
 pub mod Judged
+pub mod Accepted
 pub mod Sorted
+pub mod Abstract
+pub mod Stores
+pub mod Performed
 pub mod ReadyCalls
 pub mod Entries
 pub mod Reopens
@@ -31,7 +33,6 @@ pub mod Keeps
 pub mod Formatting
 pub mod UpdateFirst
 pub mod Demand3
-pub mod Accepted
 pub mod MendsSoon
 pub mod CopiesOnce
 pub mod StoresLegally

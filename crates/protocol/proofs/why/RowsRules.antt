@@ -53,7 +53,7 @@ empty-same : (w : List Slot) → isEmpty w ⇔ (w ≡ [])
 empty-same [] = (λ h. refl, λ h. refl)
 empty-same (s ∷ w) = (λ h. clash h refl, λ h. ap isEmpty h)
 
-agree-same : (p : Phase) (table : List ℕ) (w : List Slot) → agreeTest p table w ⇔ Agree p table w
+pub agree-same : (p : Phase) (table : List ℕ) (w : List Slot) → agreeTest p table w ⇔ Agree p table w
 agree-same Ready table w =
     via
     (and-same
