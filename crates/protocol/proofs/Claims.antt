@@ -1,8 +1,8 @@
 -- What holds of every reachable world: reads, look-ups, flushes, reopenings and mending.
-use Prim.Native.Nat.{ℕ, zero, suc, _+_, _-_, _*_, _≤_, _<_}
+use Prim.Native.Nat.{ℕ, zero, suc, _≤_, _<_}
 use mathlib.Core.Path.{_≡_, refl, sym, ap, subst, _∙_}
 use mathlib.Core.Bool.{Bool, true, false, not, _&&_}
-use mathlib.Core.List.{List, [], _∷_, List·Memᴰ}
+use mathlib.Core.List.{[]}
 use mathlib.Core.Option.{Option, some, none}
 use native.Mathlib.Omega.{arith}
 use lib.ListN.{length}
@@ -10,34 +10,32 @@ use Rattle.pages.specs.Pages.{pageAt}
 use Rattle.layout.specs.declared.Slot.{Slot}
 use Rattle.layout.specs.declared.Block.{Block}
 use Rattle.layout.specs.declared.Label.{Label}
-use Rattle.layout.specs.Places.{dataPlace, metaPages, tableLength}
-use Rattle.layout.specs.PageRule.{listed}
+use Rattle.layout.specs.Places.{dataPlace, tableLength}
 use Rattle.protocol.specs.Paper.{refused, inSlot}
-use Rattle.protocol.specs.Box.{Images, Box, Effect, Result, left, boxAfter}
-use Rattle.protocol.specs.Recovery.{offPage}
-use Rattle.protocol.specs.Plan.{Call, format, step, flush, reopen, lookUp, lowestPage, flushing, plan}
+use Rattle.protocol.specs.Box.{Box, boxAfter}
+use Rattle.protocol.specs.Plan.{Call, format, step, flush, reopen, lookUp, flushing, plan}
 use Rattle.protocol.specs.Kinds.{kind}
 use Rattle.protocol.specs.Perform.{confirmed, perform}
-use Rattle.protocol.specs.Judge.{Reason, wrongPhase, isEmpty, isReady, judged, test}
+use Rattle.protocol.specs.Judge.{Reason, wrongPhase, isReady, judged, test}
 use Rattle.protocol.specs.Calls.{decided, effectOf, resultOf, viewOf}
-use Rattle.protocol.specs.ReferenceDisk.{Disk, MayBe}
-use Rattle.protocol.specs.Events.{World, Junk, Event, call, reopens, cut, called, lent, readOf, mayFinish, finished, handed, takenIf, reopened, struck, steps, apply, CallFits, Fits}
+use Rattle.protocol.specs.ReferenceDisk.{MayBe}
+use Rattle.protocol.specs.Events.{World, Junk, Event, call, reopens, cut, called, lent, readOf, mayFinish, finished, handed, takenIf, reopened, struck, steps, apply, Fits}
 use Rattle.protocol.specs.Demand3.{Reopening, own, whole, broken, before, reopenedBox, finishes, Mends}
-use Rattle.layout.proofs.Booleans.{Told, told, told-true, told-false, clash}
+use Rattle.layout.proofs.Booleans.{clash}
 use Rattle.protocol.proofs.model.Base.{and-left, and-right}
 use Rattle.protocol.proofs.model.Model as model
-use Rattle.protocol.proofs.model.Model.{Model, Plain, Stored, Mending}
+use Rattle.protocol.proofs.model.Model.{Plain, Mending}
 use Rattle.protocol.proofs.model.View as seen
-use Rattle.protocol.proofs.Windows.{nums, length-nums}
+use Rattle.protocol.proofs.Windows.{length-nums}
 use Rattle.protocol.proofs.Judged.{passed}
 use Rattle.protocol.proofs.Sorted.{Sorted, is-format, is-reopen, is-step, is-service, sorted}
-use Rattle.protocol.proofs.ReadyCalls.{called-as, calledAs, worldOf}
+use Rattle.protocol.proofs.ReadyCalls.{worldOf}
 use Rattle.protocol.proofs.Passes.{flush-judged, step-judged, some-pending, pending-rule}
 use Rattle.protocol.proofs.Views.{view-number, read-view, look-page}
 use Rattle.protocol.proofs.Reopens.{reopenedCore, reopen-shape}
 use Rattle.protocol.proofs.MendingCalls.{finishedWorld, finish-allowed, fewer, mendedCore, mended-here, mended-core-shape, mended-core-abs, step-plan, step-world, reopened-here, reopen-world}
-use Rattle.protocol.proofs.Reachable.{at-core, to-core, core-inv, inv-stored, handed-images, reopen-taken, struck-inv, table-right}
-use Rattle.protocol.proofs.Abstract.{Core, phaseFor, boxOfCore, abs, Shape, Agrees, Phased, is-ready, is-mending, Inv}
+use Rattle.protocol.proofs.Reachable.{at-core, inv-stored, reopen-taken, struck-inv, table-right}
+use Rattle.protocol.proofs.Abstract.{Core, phaseFor, boxOfCore, abs, Shape, Phased, is-ready, is-mending, Inv}
 
 pub ready-off : (r : Bool) → isReady (phaseFor r) ≡ true → r ≡ false
 ready-off true e = sym e
@@ -292,7 +290,7 @@ call-allowed : (l : Label) (w : World) → Inv l w → {c : Call} → Sorted c �
 call-allowed l w I (is-format slots blocks) g b h = no-finish (format slots blocks) w refl g
 call-allowed l w I is-step g b h = step-allowed l w I g b h
 call-allowed l w I is-reopen g b h = reopen-allowed l w I (w .box) refl g b h
-call-allowed l w I (is-service {c} a q) g b h = no-finish c w (ap mayFinish q) g
+call-allowed l w I (is-service {c} a q _) g b h = no-finish c w (ap mayFinish q) g
 
 pub allowed-of : (l : Label) (w : World) → Inv l w → (e : Event) → Fits l e w → finishes e w ≡ true → (b : Block) → b .0 < l .blocks
     → MayBe (before e w .disk) b (readOf (apply e w .box) b)

@@ -1,35 +1,32 @@
 -- An offer repeated with nothing in between is never "copied out" a second time running.
-use Prim.Native.Nat.{ℕ, zero, suc, _+_, _-_, _*_, _≤_, _<_}
+use Prim.Native.Nat.{ℕ, suc, _+_, _-_, _*_, _<_}
 use mathlib.Core.Path.{_≡_, refl, sym, ap, subst, _∙_}
 use mathlib.Core.Logic.{_≢_}
-use mathlib.Core.Bool.{Bool, true, false, not, _&&_}
-use mathlib.Core.List.{List, [], _∷_}
+use mathlib.Core.Bool.{Bool, true, false}
+use mathlib.Core.List.{List}
 use mathlib.Core.Option.{Option, some, none}
 use native.Mathlib.Omega.{arith}
-use lib.ListN.{length, getD, set, length-set}
 use lib.Seq.{getD-set-same}
 use Rattle.layout.specs.declared.Slot.{Slot}
 use Rattle.layout.specs.declared.Block.{Block}
 use Rattle.layout.specs.declared.Label.{Label}
-use Rattle.layout.specs.Places.{tableLength}
 use Rattle.protocol.specs.declared.Condition.{Condition}
 use Rattle.protocol.specs.declared.Condition.the-variants.{NotCached, Clean, Dirty, Writing, Fetching}
-use Rattle.protocol.specs.Paper.{Paper, refusal, answer, refused, copiedOut, overwrite, nothingToDo, announced}
+use Rattle.protocol.specs.Paper.{Paper, refusal, answer, copiedOut, overwrite, nothingToDo, announced}
 use Rattle.protocol.specs.Rows.{rowFlags, setFlags, dirty, writing, used, withoutDirty, labelIn}
-use Rattle.protocol.specs.Box.{Images, Box, Effect, Result, left, boxAfter}
+use Rattle.protocol.specs.Box.{Box, left, boxAfter}
 use Rattle.protocol.specs.Condition.{conditionOf}
 use Rattle.protocol.specs.Sweep.{Victim, sweepFrom, sweep}
-use Rattle.protocol.specs.Plan.{Call, offer, Move, stay, opens, copies, takesAs, takes, sweeps, offering, plan}
+use Rattle.protocol.specs.Plan.{offer, Move, copies, takesAs, takes, offering, plan}
+use Rattle.protocol.specs.Kinds.{toWrite}
 use Rattle.protocol.specs.Perform.{confirmed, perform}
-use Rattle.protocol.specs.Judge.{Reason, badRecord, wrongLength, badRows, test, judged}
+use Rattle.protocol.specs.Judge.{Reason, judged}
 use Rattle.protocol.specs.Calls.{decided, effectOf, resultOf}
 use Rattle.protocol.specs.Beside.{CopiesOnce}
-use Rattle.layout.proofs.Booleans.{Told, told, told-true, told-false, clash}
-use Rattle.protocol.proofs.model.Base.{and-left}
+use Rattle.layout.proofs.Booleans.{clash}
 use Rattle.protocol.proofs.Flags.{Flags, f0, f1, f3, f5, f7, f9, f11, f13, f15}
-use Rattle.protocol.proofs.Sweeps.{Alike, alike-same, Swept, took, stuck, swept}
-use Rattle.protocol.proofs.Judged.{passed}
-use Rattle.protocol.proofs.Accepted.{Legal, legal-judged}
+use Rattle.protocol.proofs.Sweeps.{Alike, alike-same, Swept, took, swept}
+use Rattle.protocol.proofs.Accepted.{Legal, service-legal}
 
 -- the answers are not the same
 number : Paper → ℕ
@@ -39,13 +36,6 @@ number (answer n s) = n
 isRefusal : Paper → Bool
 isRefusal (refusal n) = true
 isRefusal (answer n s) = false
-
--- an offer that no reason refuses finds a legal box
-offer-legal : (b : Block) (x : Box) → judged (offer b) x ≡ none → Legal x
-unfolding test
-offer-legal b x e =
-    let q = passed (offer b) x e in
-    legal-judged x true (q badRecord refl) (q wrongLength refl) (q badRows refl)
 
 -- who answers "copied out": a sweep that took a dirty slot
 data CopyingOut (x : Box) (b : Block) : Move → Type 0 where
@@ -154,7 +144,7 @@ module _ (b : Block) (x : Box) (L : Legal x) (v : Victim) (low : v .slot .0 < x 
 pub copies-once : (b : Block) (x : Box) → CopiesOnce b x
 unfolding x′
 copies-once b x e again =
-    let L = offer-legal b x (none-copied b x e) in
+    let L = service-legal (offer b) x (toWrite b) refl (none-copied b x e) in
     go L (left-by x b e)
     (swept (2 * x .state .slots) (labelIn (x .state)) (x .table) (x .table)
     (alike-same (labelIn (x .state)) (x .table) (L .table-size) (L .rows)) (x .state .hand) (L .hand-low))

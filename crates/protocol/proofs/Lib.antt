@@ -16,6 +16,7 @@ pub mod Sweeps
 pub mod Sound
 pub mod Judged
 pub mod Accepted
+pub mod Does
 pub mod Sorted
 pub mod Abstract
 pub mod Stores

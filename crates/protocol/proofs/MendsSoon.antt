@@ -1,41 +1,32 @@
 -- Mending takes at most 63 steps, whatever the box.
-use Prim.Native.Nat.{ℕ, zero, suc, _+_, _-_, _*_, _≤_, _<_}
+use Prim.Native.Nat.{ℕ, zero, suc, _+_, _≤_, _<_}
 use mathlib.Core.Path.{_≡_, refl, sym, ap, subst, _∙_}
-use mathlib.Core.Bool.{Bool, true, false, not, _&&_}
+use mathlib.Core.Bool.{Bool, true, false, not}
 use mathlib.Core.List.{List, [], _∷_}
-use mathlib.Core.Option.{Option, some, none}
+use mathlib.Core.Option.{Option, none}
 use native.Mathlib.Omega.{arith}
 use lib.ListN.{length}
 use Rattle.layout.specs.declared.Slot.{Slot}
-use Rattle.protocol.specs.declared.Record.{Record}
 use Rattle.protocol.specs.declared.Phase.{Phase}
-use Rattle.protocol.specs.declared.Phase.the-variants.{Formatting, Recovering, Ready}
+use Rattle.protocol.specs.declared.Phase.the-variants.{Recovering}
 use Rattle.protocol.specs.Paper.{refused}
-use Rattle.protocol.specs.Rows.{labelIn, windowIn, recordOf}
-use Rattle.protocol.specs.Box.{Images, Box, Effect, Result, left, boxAfter}
-use Rattle.protocol.specs.Recovery.{offPage, phaseOf}
-use Rattle.protocol.specs.Plan.{step, mends, lowestPage, stepping, plan}
+use Rattle.protocol.specs.Rows.{windowIn}
+use Rattle.protocol.specs.Box.{Box, boxAfter}
+use Rattle.protocol.specs.Recovery.{offPage}
+use Rattle.protocol.specs.Plan.{step, lowestPage, stepping, plan}
 use Rattle.protocol.specs.Perform.{confirmed, perform}
-use Rattle.protocol.specs.Judge.{Reason, badRecord, wrongLength, badRows, isEmpty, agreeTest, test, judged}
+use Rattle.protocol.specs.Judge.{Reason, isEmpty, agreeTest, judged}
 use Rattle.protocol.specs.Calls.{decided, effectOf, resultOf}
 use Rattle.protocol.specs.Events.{steps}
 use Rattle.protocol.specs.Beside.{MendsSoon}
 use Rattle.layout.proofs.Booleans.{clash}
-use Rattle.protocol.proofs.model.Base.{Window, and-left}
-use Rattle.protocol.proofs.Windows.{nums, length-nums, take-array}
+use Rattle.protocol.proofs.model.Base.{and-left}
+use Rattle.protocol.proofs.Windows.{length-nums, take-array}
 use Rattle.protocol.proofs.MendingCalls.{fewer}
-use Rattle.protocol.proofs.Judged.{passed}
 use Rattle.protocol.proofs.UpdateFirst.{none-of}
-use Rattle.protocol.proofs.Accepted.{Legal, legal-judged}
+use Rattle.protocol.proofs.Accepted.{step-legal}
 
--- a step that is not refused finds a legal box
-pub step-legal : (x : Box) → judged step x ≡ none → Legal x
-unfolding test
-step-legal x e =
-    let q = passed step x e in
-    legal-judged x true (q badRecord refl) (q wrongLength refl) (q badRows refl)
-
--- and leaves the pending slots of other pages
+-- a step that is not refused leaves the pending slots of other pages
 module _ (x : Box) (e : judged step x ≡ none) (on : x .state .phase ≡ Recovering) where
   rest : List Slot
   rest = offPage (lowestPage (windowIn (x .state))) (windowIn (x .state))

@@ -1,8 +1,8 @@
 -- Each refusal number is used exactly where document 01's condition holds and no earlier one of the call's does.
-use Prim.Native.Nat.{ℕ, _-_, _≤_}
+use Prim.Native.Nat.{ℕ, _≤_}
 use mathlib.Core.Path.{_≡_, refl, sym, ap, subst, _∙_}
 use mathlib.Core.Logic.{inl, inr, _↔_}
-use mathlib.Core.Bool.{Bool, true, false, _&&_}
+use mathlib.Core.Bool.{Bool, true, false}
 use mathlib.Core.List.{List, [], _∷_}
 use mathlib.Core.Option.{Option, some, none}
 use native.Mathlib.Omega.{arith}
@@ -143,11 +143,11 @@ in-order (land b page) = refl
 -- a call says a number exactly if that reason is judged
 said-same : (c : Call) (x : Box) (r : Reason) → (resultOf c x .said ≡ refusal (numberOf r)) ↔ (judged c x ≡ some r)
 unfolding effectOf
-said-same c x r = (to (judged c x), λ e. ap (λ (o : Option Reason). decided o c x .said) e)
+said-same c x r = (to (judged c x) refl, λ e. ap (λ (o : Option Reason). decided o c x .said) e)
   where
-    to : (o : Option Reason) → decided o c x .said ≡ refusal (numberOf r) → o ≡ some r
-    to (some q) e = ap some (number-is q r cc)
-    to none e = clash (ap refused e) (plan-answers c x)
+    to : (o : Option Reason) → judged c x ≡ o → decided o c x .said ≡ refusal (numberOf r) → o ≡ some r
+    to (some q) j e = ap some (number-is q r cc)
+    to none j e = clash (ap refused e) (plan-answers c x j)
 
 judged-same : (c : Call) (x : Box) (r : Reason) → (judged c x ≡ some r) ↔ FirstWhy (chain c) r (λ q. Why q c x)
 unfolding judged
@@ -193,7 +193,8 @@ unfolding effectOf judged
 accepts c x =
     let n = none-why (chain c) (λ q. test q c x) (λ q. Why q c x) (λ q. same q c x) in (
       λ h. n .0 (none-hold (chain c) (λ q. test q c x) (to (judged c x) h)),
-      λ h. ap (λ (o : Option Reason). refused (decided o c x .said)) (first-none (chain c) (λ q. test q c x) (n .1 h)) ∙ plan-answers c x,
+      λ h. let j = first-none (chain c) (λ q. test q c x) (n .1 h) in
+          ap (λ (o : Option Reason). refused (decided o c x .said)) j ∙ plan-answers c x j,
     )
   where
     to : (o : Option Reason) → refused (decided o c x .said) ≡ false → o ≡ none
@@ -203,8 +204,8 @@ accepts c x =
 -- "A refusal returns its number and the record handed in; every image, table and page is unchanged"
 pub unchanged : (c : Call) (x : Box) → refused (resultOf c x .said) ≡ true → boxAfter (resultOf c x) ≡ x
 unfolding effectOf
-unchanged c x = go (judged c x)
+unchanged c x = go (judged c x) refl
   where
-    go : (o : Option Reason) → refused (decided o c x .said) ≡ true → boxAfter (left (decided o c x) (x .images)) ≡ x
-    go (some r) h = refl
-    go none h = clash h (plan-answers c x)
+    go : (o : Option Reason) → judged c x ≡ o → refused (decided o c x .said) ≡ true → boxAfter (left (decided o c x) (x .images)) ≡ x
+    go (some r) j h = refl
+    go none j h = clash h (plan-answers c x j)
