@@ -13,8 +13,7 @@ use Rattle.layout.specs.declared.Slot.{Slot}
 use Rattle.protocol.specs.declared.Record.{Record}
 use Rattle.protocol.specs.declared.Phase.{Phase}
 use Rattle.protocol.specs.declared.Phase.the-variants.{Formatting, Recovering, Ready}
-use Rattle.layout.proofs.Booleans.{clash}
-use Rattle.protocol.proofs.model.Base.{and-left, and-right}
+use Rattle.layout.proofs.Booleans.{clash, and-parts}
 use Rattle.c_record.specs.Words.{phaseWord, stepsWord, flagWord, phaseIn, isPhase, numbersOf, slotsOf, wordsOf, unpacked, isRecord, recordIn}
 use Rattle.c_record.proofs.WordLaws.{numbers-length}
 
@@ -100,10 +99,10 @@ eight l h =
 pub words-kept : (words : List ℕ) → isRecord words ≡ true → wordsOf (unpacked words) ≡ words
 unfolding isRecord wordsOf unpacked
 words-kept words h =
-    let all : length words ≡ 71 = eqb-true _ _ (and-left (eqb (length words) 71) _ h) in
-    let rest = and-right (eqb (length words) 71) _ h in
-    let p = and-left (isPhase (getD words 4 0) (getD words 5 0)) _ rest in
-    let u = and-right (isPhase (getD words 4 0) (getD words 5 0)) _ rest in
+    let all : length words ≡ 71 = eqb-true _ _ (and-parts (eqb (length words) 71) _ h .0) in
+    let rest = and-parts (eqb (length words) 71) _ h .1 in
+    let p = and-parts (isPhase (getD words 4 0) (getD words 5 0)) _ rest .0 in
+    let u = and-parts (isPhase (getD words 4 0) (getD words 5 0)) _ rest .1 in
     rw (
       phase-kept (getD words 4 0) (getD words 5 0) p,
       steps-kept (getD words 4 0) (getD words 5 0) p,

@@ -12,7 +12,7 @@ use Rattle.layout.specs.declared.Slot.{Slot}
 use Rattle.layout.specs.Places.{Limits, withinLimits, ssdLength, hddLength, tableLength}
 use Rattle.layout.specs.PageRule.{distinct, inRange}
 use Rattle.layout.proofs.PlaceLaws.{within}
-use Rattle.layout.proofs.Booleans.{clash}
+use Rattle.layout.proofs.Booleans.{clash, and-parts}
 use Rattle.protocol.specs.declared.Record.{Record}
 use Rattle.protocol.specs.declared.Phase.{Phase}
 use Rattle.protocol.specs.declared.Phase.the-variants.{Formatting, Recovering, Ready}
@@ -21,7 +21,7 @@ use Rattle.protocol.specs.Box.{Box}
 use Rattle.protocol.specs.Plan.{Call, step}
 use Rattle.protocol.specs.Kinds.{Aim, aService, kind}
 use Rattle.protocol.specs.Judge.{badRecord, wrongLength, badRows, wrongPhase, stepsTest, zeroSlots, recordTest, lengthsTest, lengthTest, rowTest, agreeTest, rowsTest, isReady, pageLengthTest, test, judged}
-use Rattle.protocol.proofs.model.Base.{Window, and-left, and-right}
+use Rattle.protocol.proofs.model.Base.{Window}
 use Rattle.protocol.proofs.Windows.{nums, window-of}
 use Rattle.protocol.proofs.Tables.{Rows}
 use Rattle.protocol.proofs.Judged.{passed, passed-first}
@@ -33,8 +33,8 @@ zero-all : (w : List Slot) → zeroSlots w ≡ true → w ≡ replicate (length 
 unfolding zeroSlots
 zero-all [] h = refl
 zero-all (s ∷ w) h =
-    let e : s .0 ≡ 0 = eqb-true _ _ (and-left (eqb (s .0) 0) (zeroSlots w) h) in
-    let f = zero-all w (and-right (eqb (s .0) 0) (zeroSlots w) h) in
+    let e : s .0 ≡ 0 = eqb-true _ _ (and-parts (eqb (s .0) 0) (zeroSlots w) h .0) in
+    let f = zero-all w (and-parts (eqb (s .0) 0) (zeroSlots w) h .1) in
     (λ i. record { 0 = e i } ∷ f i)
 
 pub record Legal (x : Box) : Type 0 where
@@ -61,19 +61,16 @@ pub record Parts (r : Record) : Type 0 where
   pub apart : distinct (windowIn r) ≡ true
   pub past : zeroSlots (drop (r .count) (r .window)) ≡ true
 
-both : (a b : Bool) → (a && b) ≡ true → (a ≡ true) × (b ≡ true)
-both a b e = (and-left a b e, and-right a b e)
-
 pub parts : (r : Record) → recordTest r ≡ true → Parts r
 unfolding recordTest
 parts r e =
-    let p1 = both _ _ e in
-    let p2 = both _ _ (p1 .1) in
-    let p3 = both _ _ (p2 .1) in
-    let p4 = both _ _ (p3 .1) in
-    let p5 = both _ _ (p4 .1) in
-    let p6 = both _ _ (p5 .1) in
-    let p7 = both _ _ (p6 .1) in
+    let p1 = and-parts _ _ e in
+    let p2 = and-parts _ _ (p1 .1) in
+    let p3 = and-parts _ _ (p2 .1) in
+    let p4 = and-parts _ _ (p3 .1) in
+    let p5 = and-parts _ _ (p4 .1) in
+    let p6 = and-parts _ _ (p5 .1) in
+    let p7 = and-parts _ _ (p6 .1) in
     record { in-limits = p1 .0; hand = p2 .0; steps = p3 .0; count = p4 .0; array = p5 .0; ranged = p6 .0; apart = p7 .0; past = p7 .1 }
 
 -- a record's window, from its array
@@ -98,9 +95,9 @@ legal x e f g =
     let P = parts (x .state) e in
     let most : x .state .count ≤ 63 = leb-true _ _ (P .count) in
     let whole : length (x .state .window) ≡ 63 = eqb-true _ _ (P .array) in
-    let q1 = both _ _ f in
-    let q2 = both _ _ (q1 .1) in
-    let r1 = both (eachRow (λ s block flags. rowTest (labelIn (x .state)) block flags) 0 (x .table)) _ g in
+    let q1 = and-parts _ _ f in
+    let q2 = and-parts _ _ (q1 .1) in
+    let r1 = and-parts (eachRow (λ s block flags. rowTest (labelIn (x .state)) block flags) 0 (x .table)) _ g in
     let size : length (x .table) ≡ tableLength (labelIn (x .state)) = eqb-true _ _ (q2 .1) in
     record {
       limits = within (labelIn (x .state)) .0 (P .in-limits);
@@ -120,7 +117,7 @@ legal x e f g =
 -- the same, from the tests of a chain that fail
 pub legal-judged : (x : Box) (t : Bool) → not (recordTest (x .state)) ≡ false
     → not (lengthTest (labelIn (x .state)) (x .images) (x .table) && t) ≡ false → not (rowsTest (x .state) (x .table)) ≡ false → Legal x
-legal-judged x t e f g = legal x (not-false _ e) (and-left (lengthTest (labelIn (x .state)) (x .images) (x .table)) t (not-false _ f))
+legal-judged x t e f g = legal x (not-false _ e) (and-parts (lengthTest (labelIn (x .state)) (x .images) (x .table)) t (not-false _ f) .0)
     (not-false _ g)
 
 -- of a step, or of a service, that no reason refuses

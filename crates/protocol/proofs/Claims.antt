@@ -6,6 +6,7 @@ use mathlib.Core.List.{[]}
 use mathlib.Core.Option.{Option, some, none}
 use native.Mathlib.Omega.{arith}
 use lib.ListN.{length}
+use borrow.Author.Tests.{not-true}
 use Rattle.pages.specs.Pages.{pageAt}
 use Rattle.layout.specs.declared.Slot.{Slot}
 use Rattle.layout.specs.declared.Block.{Block}
@@ -21,8 +22,7 @@ use Rattle.protocol.specs.Calls.{decided, effectOf, resultOf, viewOf}
 use Rattle.protocol.specs.ReferenceDisk.{MayBe}
 use Rattle.protocol.specs.Events.{World, Junk, Event, call, reopens, cut, called, lent, readOf, mayFinish, finished, handed, takenIf, reopened, struck, steps, apply, Fits}
 use Rattle.protocol.specs.Demand3.{Reopening, own, whole, broken, before, reopenedBox, finishes, Mends}
-use Rattle.layout.proofs.Booleans.{clash}
-use Rattle.protocol.proofs.model.Base.{and-left, and-right}
+use Rattle.layout.proofs.Booleans.{clash, and-parts}
 use Rattle.protocol.proofs.model.Model as model
 use Rattle.protocol.proofs.model.Model.{Plain, Mending}
 use Rattle.protocol.proofs.model.View as seen
@@ -184,10 +184,6 @@ taken-of l w I e f (whole j h) = handed-taken l w I (handed j (w .box)) refl h
 taken-of l w I e f (broken c a j h) = handed-taken l (struck c a w) (struck-inv l c a w (f .0) I) (handed j (struck c a w .box)) refl h
 
 -- a finished reopening: each block reads as one of its contents
-not-of : (b : Bool) → not b ≡ true → b ≡ false
-not-of true e = sym e
-not-of false e = refl
-
 called-box : (c : Call) (w : World) → called c w .box ≡ boxAfter (resultOf c (w .box))
 unfolding called
 called-box c w = refl
@@ -206,13 +202,13 @@ module _ (l : Label) (v : World) (I : Inv l v) (x : Box) (im : x .images ≡ v .
       let r = refused (resultOf reopen x .said) in
       let q = isReady (resultOf reopen x .state .phase) in
       let size = table-right l (I .core) (I .plain) (I .shape .images) (inv-stored I) x images-are
-      (not-of r (and-left (not r) (true && q) f)) in
+      (not-true r (and-parts (not r) (true && q) f .0)) in
       let e = after-reopen size in
       let ph : q ≡ isReady (phaseFor (reopenedCore l (I .core) .recovering)) =
       ap (λ (y : Box). isReady (y .state .phase)) (sym (called-box reopen (record { box = x; disk = v .disk })))
       ∙ ap (λ (z : World). isReady (z .box .state .phase)) e in
       let done : reopenedCore l (I .core) .recovering ≡ false =
-      ready-off (reopenedCore l (I .core) .recovering) (sym ph ∙ and-right (not r) (true && q) f) in
+      ready-off (reopenedCore l (I .core) .recovering) (sym ph ∙ and-parts (not r) (true && q) f .1) in
       rw e
       (finish-allowed l (reopenedCore l (I .core)) (reopen-shape l (I .core) (I .plain) (I .shape .images) (inv-stored I)) (I .plain)
       (v .disk) (I .agrees)
@@ -236,7 +232,7 @@ no-step : {A : Type 0} (l : Label) (k : Core) → k .recovering ≡ false → fi
 no-step l k e f =
     let r = refused (resultOf step (boxOfCore l k) .said) in
     let q = isReady (resultOf step (boxOfCore l k) .state .phase) in
-    clash (step-refused l k e) (not-of r (and-left (not r) (true && q) f))
+    clash (step-refused l k e) (not-true r (and-parts (not r) (true && q) f .0))
 
 -- a step that finishes
 step-allowed : (l : Label) (w : World) (I : Inv l w) → finished step (resultOf step (w .box)) ≡ true → (b : Block) → b .0 < l .blocks
@@ -259,7 +255,7 @@ step-allowed l w I f b h = at-core (λ v. finished step (resultOf step (v .box))
             ap (λ (y : Box). isReady (y .state .phase)) (sym (called-box step (worldOf l (I .core) (w .disk))))
             ∙ ap (λ (z : World). isReady (z .box .state .phase)) e in
             let done : mendedCore (I .core) .recovering ≡ false =
-            ready-off (mendedCore (I .core) .recovering) (sym ph ∙ and-right (not f) (true && q) g) in
+            ready-off (mendedCore (I .core) .recovering) (sym ph ∙ and-parts (not f) (true && q) g .1) in
             rw e
             (finish-allowed l (mendedCore (I .core)) (mended-core-shape l (I .core) (I .shape) (I .plain) M r) (I .plain) (w .disk)
             (I .agrees)
@@ -276,14 +272,14 @@ junk-allowed : (l : Label) (j : Junk) (v : World) → Inv l v → finished reope
 junk-allowed l j v I f b h =
     let r = refused (resultOf reopen (handed j (v .box)) .said) in
     let q = isReady (resultOf reopen (handed j (v .box)) .state .phase) in
-    rw (reopened-taken j v (not-of r (and-left (not r) (true && q) f))) (reopen-allowed l v I (handed j (v .box)) refl f b h)
+    rw (reopened-taken j v (not-true r (and-parts (not r) (true && q) f .0))) (reopen-allowed l v I (handed j (v .box)) refl f b h)
 
 -- a call that is neither a step nor a reopening finishes none
 no-finish : {A : Type 0} (c : Call) (w : World) → mayFinish (kind c) ≡ false → finished c (resultOf c (w .box)) ≡ true → A
 no-finish c w m f =
     let r = not (refused (resultOf c (w .box) .said)) in
     let q = isReady (resultOf c (w .box) .state .phase) in
-    clash (and-left (mayFinish (kind c)) q (and-right r (mayFinish (kind c) && q) f)) m
+    clash (and-parts (mayFinish (kind c)) q (and-parts r (mayFinish (kind c) && q) f .1) .0) m
 
 call-allowed : (l : Label) (w : World) → Inv l w → {c : Call} → Sorted c → finished c (resultOf c (w .box)) ≡ true → (b : Block)
     → b .0 < l .blocks → MayBe (w .disk) b (readOf (called c w .box) b)

@@ -9,6 +9,7 @@ use native.Mathlib.Omega.{arith}
 use native.Mathlib.Nat.{zero-add}
 use lib.ListN.{length, getD}
 use lib.Dec.{eqb}
+use borrow.Author.Tests.{eqb-true}
 use Rattle.layout.specs.declared.Slot.{Slot}
 use Rattle.layout.specs.declared.Block.{Block}
 use Rattle.layout.specs.declared.Label.{Label}
@@ -17,8 +18,8 @@ use Rattle.protocol.specs.declared.Condition.{Condition}
 use Rattle.protocol.specs.declared.Condition.the-variants.{NotCached, Clean, Dirty, Writing, Fetching}
 use Rattle.protocol.specs.Rows.{rowFlags, valid, dirty, writing}
 use Rattle.protocol.specs.Condition.{slotFrom, slotOf, openAs, closedAs, conditionAt, conditionOf}
-use Rattle.layout.proofs.Booleans.{Told, told, told-true, told-false, clash}
-use Rattle.protocol.proofs.model.Base.{and-left, and-right, eqb-same, eqb-is}
+use Rattle.layout.proofs.Booleans.{Told, told, told-true, told-false, clash, and-parts}
+use Rattle.protocol.proofs.model.Base.{eqb-same}
 
 -- what a search among rows from slot k on finds
 pub data Located (k : ℕ) (t : List ℕ) (b : ℕ) : Option Slot → Type 0 where
@@ -54,7 +55,7 @@ located k (x ∷ f ∷ t) b = go (told (valid f && eqb x (b .0))) (located (suc 
     go (told-true e) L =
         let z : k + 0 ≡ k = omega arith in
         let first : Located k (x ∷ f ∷ t) (b .0) (some (record { 0 = k + 0 })) =
-        at 0 (omega arith) (and-left (valid f) (eqb x (b .0)) e) (eqb-is _ _ (and-right (valid f) (eqb x (b .0)) e))
+        at 0 (omega arith) (and-parts (valid f) (eqb x (b .0)) e .0) (eqb-true _ _ (and-parts (valid f) (eqb x (b .0)) e .1))
         (λ j q. absurd (omega arith))
         in
         rw e (rw z at first)

@@ -155,7 +155,7 @@ store-else l d p n = go (decLt d (metaPages l))
     go (no h) = rw (store-label l d (omega arith)) (λ e. absurd (omega arith))
 
 -- one step more
-steps-more : (n : ℕ) (x : Box) → steps (suc n) x ≡ boxAfter (resultOf step (steps n x))
+pub steps-more : (n : ℕ) (x : Box) → steps (suc n) x ≡ boxAfter (resultOf step (steps n x))
 unfolding steps
 steps-more zero x = refl
 steps-more (suc n) x = steps-more n (boxAfter (resultOf step x))

@@ -3,7 +3,7 @@ use mathlib.Core.Path.{_≡_, refl, sym, ap, _∙_}
 use mathlib.Core.Logic.{_⊎_, inl, inr}
 use mathlib.Core.Bool.{Bool, true, false, _||_, or-true}
 use mathlib.Core.List.{List, [], _∷_, _++_}
-use mathlib.Core.Option.{none}
+use mathlib.Core.Option.{some, none, Option·some-ne-none}
 use lib.Dec.{eqb}
 use borrow.Author.Tests.{eqb-true}
 use Rattle.layout.proofs.Booleans.{clash, or-cases}
@@ -11,7 +11,7 @@ use Rattle.protocol.specs.Box.{Box}
 use Rattle.protocol.specs.Plan.{Call}
 use Rattle.protocol.specs.Kinds.{Kind, kind}
 use Rattle.protocol.specs.Judge.{Reason, numberOf, test, askedFirst, askedThen, chain, firstOf, judged}
-use Rattle.protocol.proofs.Reasons.{number-is, no-reason, belongs}
+use Rattle.protocol.proofs.Reasons.{number-is, belongs}
 use Rattle.protocol.proofs.Shown as computed-first
 
 -- no reason of a chain holds
@@ -25,13 +25,23 @@ none-hold [] t e = tt
 none-hold (r ∷ rs) t e = go (t r) refl (λ q. none-hold rs t q)
   where
     go : (b : Bool) → t r ≡ b → (firstOf rs t ≡ none → NoneHold rs t) → (t r ≡ false) × NoneHold rs t
-    go true q ih = no-reason (rw (firstOf, q) at e)
+    go true q ih = absurd (Option·some-ne-none r (rw (firstOf, q) at e))
     go false q ih = (q, ih (rw (firstOf, q) at e))
 
 pub first-none : (rs : List Reason) (t : Reason → Bool) → NoneHold rs t → firstOf rs t ≡ none
 unfolding firstOf
 first-none [] t n = refl
 first-none (r ∷ rs) t n = rw (firstOf, n .0) (first-none rs t (n .1))
+
+-- a reason is asked: it holds, or the next ones are asked
+module _ (t : Reason → Bool) (q : Reason) (rs : List Reason) where
+  pub first-yes : t q ≡ true → firstOf (q ∷ rs) t ≡ some q
+  unfolding firstOf
+  first-yes e = rw (e, firstOf)
+
+  pub first-no : t q ≡ false → firstOf (q ∷ rs) t ≡ firstOf rs t
+  unfolding firstOf
+  first-no e = rw (e, firstOf)
 
 by-name : (rs : List Reason) (t : Reason → Bool) → NoneHold rs t → (r : Reason) → belongs r rs ≡ true → t r ≡ false
 by-name [] t n r m = clash m refl

@@ -2,7 +2,7 @@
 -- store is checked to keep them.
 use Prim.Native.Nat.{ℕ, suc, _+_, _*_, _≤_}
 use mathlib.Core.Path.{_≡_, refl, sym, ap, _∙_}
-use mathlib.Core.Bool.{Bool, true, false, not, _&&_, false≢true}
+use mathlib.Core.Bool.{Bool, true, false, not, _&&_}
 use mathlib.Core.List.{List, [], _∷_}
 use mathlib.Core.Option.{Option, some, none}
 use native.Mathlib.Omega.{arith}
@@ -23,7 +23,7 @@ use Rattle.protocol.specs.Rows.{labelIn, arrayOf, windowIn, without, eac
 use Rattle.protocol.specs.Judge.{Reason, noLabel, wrongLength, numberOf, isLabel, labelFor, lengthsTest, lengthTest, pageLengthTest, test, chain, firstOf, judged, eachSlot, labelTest, recordTest, rowTest, rowsTest, zeroSlots}
 use Rattle.protocol.specs.Calls.{decided, effectOf, viewed, viewOf}
 use Rattle.protocol.specs.Events.{World, Junk, Arrival, old, new, Event, call, reopens, cut, lent, readOf, handed, survived, made}
-use Rattle.layout.proofs.Booleans.{Told, told, told-true, told-false}
+use Rattle.layout.proofs.Booleans.{Told, told, told-true, told-false, and-parts}
 use Rattle.protocol.proofs.Reasons.{number-is}
 use Rattle.protocol.proofs.Report.{Line, lineOf, readsOf, Report, reported, report, diskFrom, labelPage, metaPage, pages, unformatted}
 use Rattle.protocol.proofs.Quick.{left-by, reopenedIf, reopensFrom, struckIf, struckFrom, Moved, movedBy, Shown, shownBy, quick, quick-same}
@@ -40,14 +40,6 @@ pub record Sized (l : Label) (im : Images) : Type 0 where
   pub ssd-size : length (im .ssd) ≡ ssdLength l
   pub hdd-size : length (im .hdd) ≡ hddLength l
 
-abbrev Both : Bool → Bool → Type 0
-Both a b = (a ≡ true) × (b ≡ true)
-
-split : (a b : Bool) → (a && b) ≡ true → Both a b
-split true true h = (refl, refl)
-split true false h = (refl, h)
-split false b h = absurd (false≢true h)
-
 -- the label by which a call judges lengths is the known one
 unfoldable pub sameLabel : Label → Label → Bool
 sameLabel k l = eqb (k .slots) (l .slots) && eqb (k .blocks) (l .blocks)
@@ -55,7 +47,7 @@ sameLabel k l = eqb (k .slots) (l .slots) && eqb (k .blocks) (l .blocks)
 same-label : (k l : Label) → sameLabel k l ≡ true → k ≡ l
 unfolding sameLabel
 same-label k l h =
-    let hs : Both (eqb (k .slots) (l .slots)) (eqb (k .blocks) (l .blocks)) = split _ _ h in
+    let hs = and-parts (eqb (k .slots) (l .slots)) (eqb (k .blocks) (l .blocks)) h in
     ap (λ (n : ℕ). labelOf n (k .blocks)) (eqb-true (k .slots) (l .slots) (hs .0))
     ∙ ap (labelOf (l .slots)) (eqb-true (k .blocks) (l .blocks) (hs .1))
 
@@ -76,12 +68,12 @@ stored-size : (l : Label) (i : Image) (p : ℕ) (bytes : List ℕ) (im : Images)
 unfolding within
 stored-size l ssdImage p bytes im z h =
     let n : ℕ = 1 + metaPages l + l .slots in
-    let hs : Both (leb (suc p) n) (eqb (length bytes) 4096) = split _ _ h in
+    let hs = and-parts (leb (suc p) n) (eqb (length bytes) 4096) h in
     let h : Holds (im .ssd) p = holds (im .ssd) n p (z .ssd-size) (leb-true (suc p) n (hs .0)) in
     record { ssd-size = length-put (im .ssd) bytes p h (eqb-true (length bytes) 4096 (hs .1)) ∙ z .ssd-size; hdd-size = z .hdd-size }
 stored-size l hddImage p bytes im z h =
     let n : ℕ = l .blocks in
-    let hs : Both (leb (suc p) n) (eqb (length bytes) 4096) = split _ _ h in
+    let hs = and-parts (leb (suc p) n) (eqb (length bytes) 4096) h in
     let h : Holds (im .hdd) p = holds (im .hdd) n p (z .hdd-size) (leb-true (suc p) n (hs .0)) in
     record { ssd-size = z .ssd-size; hdd-size = length-put (im .hdd) bytes p h (eqb-true (length bytes) 4096 (hs .1)) ∙ z .hdd-size }
 
@@ -279,7 +271,7 @@ reopens-known : (l : Label) (j : Junk) (x : Box) → Sized l (x .images) → reo
 unfolding reopensKnown reopensFrom
 reopens-known l j x z h =
     let e : Effect = effectKnown l reopen (handed j x) in
-    let hs : Both (sameLabel (labelFor (kind reopen) (handed j x)) l) (storeWithin l (e .store)) = split _ _ h in (
+    let hs = and-parts (sameLabel (labelFor (kind reopen) (handed j x)) l) (storeWithin l (e .store)) h in (
       ap {B = Moved} (λ (f : Effect). record { line = lineOf l f; box = reopenedIf (refused (f .said)) x f (handed j x) })
           (effect-known l reopen (handed j x) z (hs .0)),
       reopenedIf-size l (refused (e .said)) x (handed j x) e z (applied-size l (e .store) (x .images) z (hs .1)),
@@ -299,7 +291,7 @@ struck-known : (l : Label) (c : Call) (a : Arrival) (x : Box) → Sized l (x .im
 unfolding struckKnown struckFrom
 struck-known l c a x z h =
     let e : Effect = effectKnown l c x in
-    let hs : Both (sameLabel (labelFor (kind c) x) l) (storeWithin l (e .store)) = split _ _ h in (
+    let hs = and-parts (sameLabel (labelFor (kind c) x) l) (storeWithin l (e .store)) h in (
       ap (λ (f : Effect). struckIf (made a (f .store)) (survived a (f .store) (x .images)) f x) (effect-known l c x z (hs .0)),
       struckIf-size l (made a (e .store)) (survived a (e .store) (x .images)) e x (survived-size l a (e .store) (x .images) z (hs .1)),
     )
@@ -309,14 +301,14 @@ moved-known : (l : Label) (v : Event) (x : Box) → Sized l (x .images) → move
 unfolding movedKnown movedBy
 moved-known l (call c) x z h =
     let e : Effect = effectKnown l c x in
-    let hs : Both (sameLabel (labelFor (kind c) x) l) (storeWithin l (e .store)) = split _ _ h in
+    let hs = and-parts (sameLabel (labelFor (kind c) x) l) (storeWithin l (e .store)) h in
     let u : Sized l (applied (e .store) (x .images)) = applied-size l (e .store) (x .images) z (hs .1) in (
       ap {B = Moved} (λ (f : Effect). record { line = lineOf l f; box = left-by f x }) (effect-known l c x z (hs .0)),
       record { ssd-size = u .ssd-size; hdd-size = u .hdd-size },
     )
 moved-known l (reopens j) x z h = reopens-known l j x z h
 moved-known l (cut c a j) x z h =
-    let hs : Both (struckKnown l c a x .fine) (reopensKnown l j (struckKnown l c a x .box) .fine) = split _ _ h in
+    let hs = and-parts (struckKnown l c a x .fine) (reopensKnown l j (struckKnown l c a x .box) .fine) h in
     let s : (struckFrom c a x ≡ struckKnown l c a x .box) × Sized l (struckKnown l c a x .box .images) = struck-known l c a x z (hs .0) in
     let y : Box = struckKnown l c a x .box in
     let r : (reopensFrom l j y ≡ movedOf (reopensKnown l j y)) × Sized l (reopensKnown l j y .box .images) =
@@ -329,7 +321,7 @@ unfolding shownKnown shownBy
 shown-known l [] x z h = (refl, z)
 shown-known l (v ∷ es) x z h =
     let m : Known = movedKnown l v x in
-    let hs : Both (m .fine) (shownKnown l es (m .box) .fine) = split _ _ h in
+    let hs = and-parts (m .fine) (shownKnown l es (m .box) .fine) h in
     let one : (movedBy l v x ≡ movedOf m) × Sized l (m .box .images) = moved-known l v x z (hs .0) in
     let rest : (shownBy l es (m .box) ≡ shownOf (shownKnown l es (m .box))) × Sized l (shownKnown l es (m .box) .box .images) =
     shown-known l es (m .box) (one .1) (hs .1) in (
@@ -351,7 +343,7 @@ quick-known : (l : Label) (es : List Event) (bs : List Block) (x : Box) → Size
 unfolding known quick
 quick-known l es bs x z h =
     let k : KnownAll = shownKnown l es x in
-    let hs : Both (k .fine) (sameLabel (labelIn (k .box .state)) l) = split _ _ h in
+    let hs = and-parts (k .fine) (sameLabel (labelIn (k .box .state)) l) h in
     let s : (shownBy l es x ≡ shownOf k) × Sized l (k .box .images) = shown-known l es x z (hs .0) in
     ap (λ (r : Shown). reported (r .lines) bs (r .box)) (s .0)
     ∙ ap (λ (reads : List (List ℕ)). readAs (k .lines) (k .box) reads) (reads-known l bs (k .box) (s .1) (hs .1))

@@ -2,7 +2,7 @@
 use Prim.Native.Nat.{ℕ, zero, suc, _+_, _-_, _*_, _/_, _%_, _≤_, _<_}
 use mathlib.Core.Path.{_≡_, refl, sym, ap, subst, _∙_}
 use mathlib.Core.Logic.{_≢_}
-use mathlib.Core.Bool.{Bool, true, false, cond, not, _&&_, _||_}
+use mathlib.Core.Bool.{Bool, true, false, cond, not, _&&_, or-true}
 use mathlib.Core.List.{List, [], _∷_, List·Memᴰ}
 use mathlib.Core.Option.{Option, some, none}
 use native.Mathlib.Omega.{arith}
@@ -94,10 +94,6 @@ pub record Pending (w : List Slot) (q : ℕ) : Type 0 where
   pub slot : Slot
   pub there : listed slot w ≡ true
   pub onto : metaOf slot ≡ q
-
-or-true : (b : Bool) → (b || true) ≡ true
-or-true true = refl
-or-true false = refl
 
 lowest-pending : (v w : List Slot) (q : ℕ) → Pending v q → ((s : Slot) → listed s w ≡ true → listed s v ≡ true) → Pending v (lowestFrom q w)
 unfolding lowestFrom listed

@@ -2,12 +2,12 @@
 use Prim.Native.Nat.{ℕ, _+_, _*_, _%_, _≤_, _<_}
 use mathlib.Core.Path.{_≡_, refl, sym, ap, _∙_}
 use mathlib.Core.Bool.{Bool, true, false, not, _&&_}
-use mathlib.Core.List.{List, [], _∷_}
+use mathlib.Core.List.{List}
 use mathlib.Core.Option.{none}
 use native.Mathlib.Omega.{arith}
 use lib.ListN.{length, getD}
 use lib.Dec.{eqb, leb}
-use borrow.Author.Tests.{le-leb, lt-leb, eq-eqb, lt-ltb}
+use borrow.Author.Tests.{le-leb, lt-leb, eq-eqb, lt-ltb, not-true}
 use Rattle.layout.specs.declared.Slot.{Slot}
 use Rattle.layout.specs.declared.Block.{Block}
 use Rattle.layout.specs.declared.Label.{Label}
@@ -23,7 +23,7 @@ use Rattle.protocol.proofs.model.Base.{has, Window}
 use Rattle.protocol.proofs.model.Model as model
 use Rattle.protocol.proofs.model.Model.{Row, Plain, Mending, opn, revived}
 use Rattle.protocol.proofs.model.Rows.{opn-valid, shut-opn}
-use Rattle.protocol.proofs.Windows.{nums, length-nums, has-nums, distinct-nums, below-nums, length-array, zero-past, empty-nums}
+use Rattle.protocol.proofs.Windows.{nums, length-nums, has-nums, distinct-nums, below-nums, length-array, zero-past, empty-nums, some-length}
 use Rattle.protocol.proofs.Flags.{rowOf, Flags, f0, f1, f3, f5, f7, f9, f11, f13, f15, LegalRow}
 use Rattle.protocol.proofs.Tables.{rowAt, each-of, at-open}
 use Rattle.protocol.proofs.Judged.{NoneHold, accepted}
@@ -143,11 +143,7 @@ module _ (l : Label) (k : Core) (S : Shape l k) (p : Plain) (M : Mending (abs l 
 
   pub some-pending : isEmpty (k .window) ≡ false
   unfolding abs
-  some-pending = sym (empty-nums (k .window)) ∙ not-is (model.empty (nums (k .window))) (sym (M .phase) ∙ on)
-    where
-      not-is : (b : Bool) → not b ≡ true → b ≡ false
-      not-is true e = sym e
-      not-is false e = refl
+  some-pending = sym (empty-nums (k .window)) ∙ not-true (model.empty (nums (k .window))) (sym (M .phase) ∙ on)
 
   pending-low : (s : ℕ) → listed (record { 0 = s }) (k .window) ≡ true → s < l .slots
   unfolding abs
@@ -191,10 +187,6 @@ module _ (l : Label) (k : Core) (S : Shape l k) (p : Plain) (M : Mending (abs l 
     some-length (k .window) some-pending,
     length-nums (k .window),
   )
-    where
-      some-length : (w : List Slot) → isEmpty w ≡ false → 0 < length w
-      some-length [] e = clash {b = true} refl e
-      some-length (s ∷ w) e = omega arith
 
   pub step-judged : judged step (boxOfCore l k) ≡ none
   unfolding test plan

@@ -20,8 +20,7 @@ use Rattle.protocol.specs.Judge.{Reason, wrongLength, wrongPhase, test, 
 use Rattle.protocol.specs.Calls.{decided, effectOf, resultOf}
 use Rattle.protocol.specs.ReferenceDisk.{Disk}
 use Rattle.protocol.specs.Events.{World, Junk, Arrival, old, new, Event, call, reopens, cut, called, handed, takenIf, reopened, survived, made, struck, apply, run, CallFits, Fits, AllFit}
-use Rattle.layout.proofs.Booleans.{clash}
-use Rattle.protocol.proofs.model.Base.{and-left, and-right}
+use Rattle.layout.proofs.Booleans.{clash, and-parts}
 use Rattle.protocol.proofs.model.Model as model
 use Rattle.protocol.proofs.model.Model.{Plain, Stored, Mending}
 use Rattle.protocol.proofs.Judged.{passed, passed-first}
@@ -127,7 +126,7 @@ module _ (l : Label) (k : Core) (p : Plain) (K : ImagesKept l (k .ssd) (k .hdd))
       let j = eqb (length (x .images .hdd)) (hddLength a) in
       let t = eqb (length (x .table)) (tableLength a) in
       let q = not-false _ (passed reopen x e wrongLength refl) in
-      let r : t ≡ true = and-right j t (and-right i (j && t) (and-left (i && (j && t)) true q)) in
+      let r : t ≡ true = and-parts j t (and-parts i (j && t) (and-parts (i && (j && t)) true q .0) .1) .1 in
       eqb-true _ _ r ∙ ap tableLength label-there
 
   pub table-right : refused (resultOf reopen x .said) ≡ false → length (x .table) ≡ tableLength l

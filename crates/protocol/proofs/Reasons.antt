@@ -4,8 +4,7 @@ use mathlib.Core.Path.{_≡_, refl, sym, ap, _∙_}
 use mathlib.Core.Logic.{_≢_}
 use mathlib.Core.Bool.{Bool, true, false, _||_}
 use mathlib.Core.List.{List, [], _∷_}
-use mathlib.Core.Option.{Option, some, none}
-use native.Mathlib.Omega.{arith}
+use mathlib.Core.Option.{Option, some, none, Option·some-injective, Option·some-ne-none}
 use lib.Dec.{eqb}
 use Rattle.protocol.specs.Judge.{Reason, badLimits, noLabel, badRecord, wrongLength, badRows, wrongPhase, blockTooHigh, slotOpen, wrongState, hasSlot, windowFull, allOpen, stampsSpent, numberOf, order}
 
@@ -31,14 +30,11 @@ number-back allOpen = refl
 number-back stampsSpent = refl
 
 pub number-is : (q r : Reason) → numberOf q ≡ numberOf r → q ≡ r
-number-is q r e = let s : some q ≡ some r = sym (number-back q) ∙ ap (numbered order) e ∙ number-back r in cc
-
-pub no-reason : {A : Type 0} {r : Reason} → some r ≡ none → A
-no-reason q = let z : _≡_ {A = ℕ} 0 1 = cc in absurd (omega arith)
+number-is q r e = Option·some-injective q r (sym (number-back q) ∙ ap (numbered order) e ∙ number-back r)
 
 pub number-some : (r : Reason) → numberOf r ≢ 0
 unfolding numbered
-number-some r e = no-reason (sym (number-back r) ∙ ap (numbered order) e)
+number-some r e = Option·some-ne-none r (sym (number-back r) ∙ ap (numbered order) e)
 
 -- is a reason in a chain: of a reason and a call that are given it computes
 abbrev pub belongs : Reason → List Reason → Bool

@@ -4,7 +4,7 @@ use mathlib.Core.Path.{_≡_, refl, sym, ap, subst, _∙_}
 use mathlib.Core.Logic.{_≢_}
 use mathlib.Core.Bool.{Bool, true, false, _&&_}
 use mathlib.Core.List.{List, [], _∷_, _++_}
-use mathlib.Core.Option.{Option, some, none}
+use mathlib.Core.Option.{Option, some, none, Option·some-injective, Option·none-ne-some}
 use native.Mathlib.Omega.{arith}
 use lib.ListN.{length}
 use lib.Dec.{leb}
@@ -29,8 +29,8 @@ use Rattle.protocol.specs.Perform.{confirmed, joined, landedAs, mendedAt
 use Rattle.protocol.specs.Judge.{largestStamp, Reason, stampsSpent, isEmpty, agreeTest, test, judged}
 use Rattle.protocol.specs.Calls.{decided, effectOf}
 use Rattle.protocol.specs.Beside.{stampStored, MetaStored, StoresLegally}
-use Rattle.layout.proofs.Booleans.{Told, told, told-true, told-false, clash}
-use Rattle.protocol.proofs.model.Base.{Window, keep-window, and-left}
+use Rattle.layout.proofs.Booleans.{Told, told, told-true, told-false, clash, and-parts}
+use Rattle.protocol.proofs.model.Base.{Window, keep-window}
 use Rattle.protocol.proofs.Windows.{nums, nums-off, take-array}
 use Rattle.protocol.proofs.Tables.{Rows}
 use Rattle.protocol.proofs.Stores.{page-stamp, page-window, page-entry, page-legal}
@@ -60,10 +60,10 @@ Stores l ph e =
     → MetaStored l p (s .bytes) ph (e .state) (e .table)
 
 no-store : {A : Type 0} {s : Store} → none ≡ some s → A
-no-store q = let z : _≡_ {A = ℕ} 0 1 = cc in absurd (omega arith)
+no-store {s = s} q = absurd (Option·none-ne-some s q)
 
 the-store : {s t : Store} → some s ≡ some t → s ≡ t
-the-store q = cc
+the-store {s} {t} q = Option·some-injective s t q
 
 -- a store on the HDD is none on the SSD
 isSsd : Image → Bool
@@ -188,8 +188,8 @@ module _ (x : Box) (L : Legal x) where
   -- while formatting nothing is open
   none-open : (d : ℕ) → x .state .phase ≡ Formatting d → windowIn (x .state) ≡ []
   none-open d on = go (windowIn (x .state))
-      (and-left (isEmpty (windowIn (x .state))) _
-      (subst (λ (q : Phase). agreeTest q (x .table) (windowIn (x .state)) ≡ true) on (L .agree)))
+      (and-parts (isEmpty (windowIn (x .state))) _
+      (subst (λ (q : Phase). agreeTest q (x .table) (windowIn (x .state)) ≡ true) on (L .agree)) .0)
     where
       go : (w : List Slot) → isEmpty w ≡ true → w ≡ []
       go [] e = refl

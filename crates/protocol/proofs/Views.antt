@@ -4,8 +4,7 @@ use mathlib.Core.Path.{_≡_, refl, sym, ap, subst, _∙_}
 use mathlib.Core.Logic.{_≢_}
 use mathlib.Core.Bool.{Bool, true, false, cond, not}
 use mathlib.Core.List.{List, [], _∷_}
-use mathlib.Core.Option.{Option, some, none}
-use native.Mathlib.Omega.{arith}
+use mathlib.Core.Option.{Option, some, none, Option·none-ne-some}
 use lib.ListN.{length, getD}
 use Rattle.pages.specs.Pages.{pageAt}
 use Rattle.pages.specs.Parts.{Part, pagePart}
@@ -138,22 +137,16 @@ module _ (l : Label) (k : Core) (S : Shape l k) (p : Plain) (R : model.Ready (ab
   -- the slot that a look-up names holds the page
   named : (o : Option ℕ) (s : Slot) → asSlot (shutAt (abs l k) o) ≡ some s → viewAt (abs l k) b o ≡ pageAt (k .ssd) (1 + metaPages l + s .0)
   unfolding abs
-  named none s e = none-some e
-    where
-      none-some : {A : Type 0} {t : Slot} → none ≡ some t → A
-      none-some q = let z : _≡_ {A = ℕ} 0 1 = cc in absurd (omega arith)
+  named none s e = absurd (Option·none-ne-some s e)
   named (some t) s e = go (told (opn (rowAt (k .table) t)))
     where
-      none-some : {A : Type 0} {u : Slot} → none ≡ some u → A
-      none-some q = let z : _≡_ {A = ℕ} 0 1 = cc in absurd (omega arith)
-
       number-of : Option Slot → ℕ
       number-of none = 0
       number-of (some u) = u .0
 
       go : Told (opn (rowAt (k .table) t)) → cond (opn (rowAt (k .table) t)) (pageAt (k .hdd) b)
           (pageAt (k .ssd) (1 + metaPages l + t)) ≡ pageAt (k .ssd) (1 + metaPages l + s .0)
-      go (told-true o) = none-some (rw o at e)
+      go (told-true o) = absurd (Option·none-ne-some s (rw o at e))
       go (told-false o) =
           let f : asSlot (some t) ≡ some s = rw o at e in
           let q : t ≡ s .0 = ap number-of f in

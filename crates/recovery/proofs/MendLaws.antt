@@ -10,6 +10,7 @@ use lib.ListN.{length, getD, take, drop, replicate, length-take, length-append}
 use lib.Seq.{take-suc}
 use lib.Dec.{eqb, ltb}
 use borrow.Author.Tests.{ltb-true}
+use Rattle.layout.proofs.Booleans.{and-parts}
 use Rattle.layout.specs.declared.Slot.{Slot}
 use Rattle.layout.specs.declared.Label.{Label}
 use Rattle.layout.specs.Places.{metaPages, metaOf}
@@ -22,7 +23,6 @@ use Rattle.protocol.specs.Recovery.{offPage, phaseOf}
 use Rattle.protocol.specs.Plan.{lowestFrom, lowestPage}
 use Rattle.protocol.specs.Perform.{mendedAt}
 use Rattle.protocol.specs.Judge.{recordTest}
-use Rattle.protocol.proofs.model.Base.{and-left, and-right}
 use Rattle.table.proofs.RecordLaws.{array-more, kept, window-is, window-length}
 use Rattle.table.proofs.WindowLaws.{window-left, window-end}
 use Rattle.serving.specs.Moves.{Fits}
@@ -122,8 +122,8 @@ low-from : (l : Label) (p : ℕ) (w : List Slot) → p < metaPages l → inRange
 unfolding lowestFrom inRange
 low-from l p [] h e = h
 low-from l p (s ∷ w) h e =
-    let low : s .0 < l .slots = ltb-true _ _ (and-left (ltb (s .0) (l .slots)) (inRange l w) e) in
-    let e₂ = and-right (ltb (s .0) (l .slots)) (inRange l w) e in
+    let low : s .0 < l .slots = ltb-true _ _ (and-parts (ltb (s .0) (l .slots)) (inRange l w) e .0) in
+    let e₂ = and-parts (ltb (s .0) (l .slots)) (inRange l w) e .1 in
     go (ltb (metaOf s) p) (low-from l (metaOf s) w (meta-of-low l s low) e₂) (low-from l p w h e₂)
   where
     go : (b : Bool) → lowestFrom (metaOf s) w < metaPages l → lowestFrom p w < metaPages l
@@ -135,8 +135,8 @@ pub lowest-low : (l : Label) (w : List Slot) → 1 ≤ length w → inRange l w 
 unfolding inRange
 lowest-low l [] h e = absurd (omega arith)
 lowest-low l (s ∷ w) h e =
-    let low : s .0 < l .slots = ltb-true _ _ (and-left (ltb (s .0) (l .slots)) (inRange l w) e) in
-    low-from l (metaOf s) w (meta-of-low l s low) (and-right (ltb (s .0) (l .slots)) (inRange l w) e)
+    let low : s .0 < l .slots = ltb-true _ _ (and-parts (ltb (s .0) (l .slots)) (inRange l w) e .0) in
+    low-from l (metaOf s) w (meta-of-low l s low) (and-parts (ltb (s .0) (l .slots)) (inRange l w) e .1)
 
 -- the record with the pending slots of other pages
 pub mended-is : (r : Record) (p : ℕ) (left : Pending) (phase : Phase) → left ≡ pendingOf (offPage p (take (r .count) (r .window)))

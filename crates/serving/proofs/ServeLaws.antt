@@ -17,6 +17,7 @@ use Rattle.protocol.specs.Perform.{perform}
 use Rattle.protocol.specs.Judge.{lengthsTest, Reason, badLimits, noLabel, badRecord, wrongLength, badRows, wrongPhase, blockTooHigh, slotOpen, wrongState, hasSlot, windowFull, allOpen, stampsSpent, numberOf, lengthTest, test, chain, firstOf, judged}
 use Rattle.protocol.specs.Calls.{decided, effectOf, resultOf, boxOf}
 use Rattle.layout.proofs.Booleans.{Told, told, told-true, told-false, clash}
+pub use Rattle.protocol.proofs.Judged.{first-yes, first-no}
 use Rattle.serving.specs.Judging.{refuseIf, soundThen, readyThen, servesThen}
 
 -- the first number of some reasons, or 0
@@ -39,16 +40,8 @@ some-number windowFull = refl
 some-number allOpen = refl
 some-number stampsSpent = refl
 
--- a reason is asked: it holds, or the next ones are asked
+-- a reason's number is found, or that of the next ones
 module _ (h : Reason → Bool) (q : Reason) (qs : List Reason) where
-  pub first-yes : h q ≡ true → firstOf (q ∷ qs) h ≡ some q
-  unfolding firstOf
-  first-yes e = rw (e, firstOf)
-
-  pub first-no : h q ≡ false → firstOf (q ∷ qs) h ≡ firstOf qs h
-  unfolding firstOf
-  first-no e = rw (e, firstOf)
-
   number-yes : h q ≡ true → numbers h (q ∷ qs) ≡ numberOf q
   unfolding numbers
   number-yes e = rw e

@@ -9,7 +9,7 @@ use native.Mathlib.Decide.{ℕ-discrete}
 use lib.ListN.{length, length-append}
 use lib.Dec.{eqb}
 use Rattle.layout.proofs.Booleans.{Told, told, told-true, told-false, clash}
-use Rattle.protocol.proofs.model.Base.{keep-window, upd, has, keep, metaNo, without, off, upd-same, upd-other, has-keep-in, has-keep-out, length-keep, length-keep-lt, not-same, not-other, eqb-same, eqb-is}
+use Rattle.protocol.proofs.model.Base.{keep-window, upd, has, keep, metaNo, without, off, upd-same, upd-other, has-keep-in, has-keep-out, length-keep, length-keep-lt, not-same, not-other, eqb-same}
 use Rattle.protocol.proofs.model.Model.{Row, valid, dty, opn, blk, shut, Model, Plain, landed, Ready, count, count-le}
 use Rattle.protocol.proofs.model.Rows.{shut-valid, shut-blk, shut-dty, shut-opn, dty-valid}
 

@@ -10,7 +10,7 @@ use native.Mathlib.Decide.{ℕ-discrete}
 use lib.ListN.{length, length-append}
 use lib.Dec.{eqb}
 use Rattle.layout.proofs.Booleans.{Told, told, told-true, told-false, clash}
-use Rattle.protocol.proofs.model.Base.{keep-window, has, metaNo, off, keep, has-keep-in, has-keep-out, length-keep, length-keep-lt, eqb-same, eqb-is}
+use Rattle.protocol.proofs.model.Base.{keep-window, has, metaNo, off, keep, has-keep-in, has-keep-out, length-keep, length-keep-lt, eqb-same}
 use Rattle.protocol.proofs.model.Model.{Row, valid, dty, opn, blk, shut, revived, Model, Plain, Page, Ready, Stored, Mending, reopened, mended}
 use Rattle.protocol.proofs.model.Rows.{dty-valid, shut-valid, shut-blk, shut-dty, shut-opn, shut-shut}
 

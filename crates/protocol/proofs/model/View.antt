@@ -9,8 +9,9 @@ use native.Mathlib.Omega.{arith}
 use native.Mathlib.Decide.{ℕ-discrete}
 use lib.ListN.{length, length-append}
 use lib.Dec.{eqb}
+use borrow.Author.Tests.{eqb-true}
 use Rattle.layout.proofs.Booleans.{Told, told, told-true, told-false, clash}
-use Rattle.protocol.proofs.model.Base.{has, eqb-same, eqb-is}
+use Rattle.protocol.proofs.model.Base.{has, eqb-same}
 use Rattle.protocol.proofs.model.Model.{Row, valid, dty, opn, blk, Model, Plain, Page, Ready}
 use Rattle.protocol.proofs.model.Rows.{dty-valid}
 
@@ -31,7 +32,7 @@ pub holds-is : (r : Row) (b : ℕ) → holds r b ≡ true → (valid r ≡ true)
 holds-is r b h = go (told (valid r))
   where
     go : Told (valid r) → (valid r ≡ true) × (blk r ≡ b)
-    go (told-true v) = (v, eqb-is (blk r) b (rw v at h))
+    go (told-true v) = (v, eqb-true (blk r) b (rw v at h))
     go (told-false v) = clash h (rw v)
 
 pub holds-of : (r : Row) (b : ℕ) → valid r ≡ true → blk r ≡ b → holds r b ≡ true

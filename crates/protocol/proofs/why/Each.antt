@@ -2,7 +2,7 @@
 use Prim.Native.Nat.{ℕ, zero, suc, _<_}
 use mathlib.Core.Path.{_≡_, refl, sym, ap, _∙_}
 use mathlib.Core.Logic.{_≢_}
-use mathlib.Core.Bool.{Bool, true, false, not, _&&_, _||_}
+use mathlib.Core.Bool.{Bool, true, false, not, _&&_, _||_, or-true}
 use mathlib.Core.List.{List, [], _∷_}
 use native.Mathlib.Omega.{arith}
 use lib.ListN.{length, getD}
@@ -37,10 +37,6 @@ unfolding listed
 place-listed [] k h = absurd (omega arith)
 place-listed (s ∷ w) zero h = rw (eq-eqb (s .0) (s .0) refl)
 place-listed (s ∷ w) (suc k) h = rw (place-listed w k (omega arith)) (or-true (eqb (at w k .0) (s .0)))
-  where
-    or-true : (b : Bool) → (b || true) ≡ true
-    or-true true = refl
-    or-true false = refl
 
 pub listed-place : (s : Slot) (w : List Slot) → listed s w ≡ true → (k : ℕ) × (k < length w) × (at w k ≡ s)
 unfolding listed

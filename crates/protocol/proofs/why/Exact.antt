@@ -4,8 +4,7 @@ use mathlib.Core.Path.{_≡_, refl, sym, ap, subst, _∙_}
 use mathlib.Core.Logic.{inl, inr, _↔_}
 use mathlib.Core.Bool.{Bool, true, false}
 use mathlib.Core.List.{List, [], _∷_}
-use mathlib.Core.Option.{Option, some, none}
-use native.Mathlib.Omega.{arith}
+use mathlib.Core.Option.{Option, some, none, Option·some-injective, Option·none-ne-some}
 use lib.Dec.{leb}
 use borrow.Author.Tests.{leb-true, le-leb, not-true}
 use Rattle.layout.proofs.PlaceLaws.{within}
@@ -26,7 +25,7 @@ use Rattle.pages.specs.Parts.{Part}
 use Rattle.layout.specs.declared.Block.{Block}
 use Rattle.protocol.specs.declared.Record.{Record}
 use Rattle.protocol.proofs.Reasons.{number-is, number-some}
-use Rattle.protocol.proofs.Judged.{NoneHold, none-hold, first-none}
+use Rattle.protocol.proofs.Judged.{NoneHold, none-hold, first-none, first-yes, first-no}
 use Rattle.protocol.specs.Why.{Contents, RightPhase, RightState, OpensAnother, Why, FirstWhy}
 use Rattle.protocol.proofs.why.Basics.{none-same, and-same, is-same, unit-same}
 use Rattle.protocol.proofs.why.Records.{label-same, record-same, lengths-same}
@@ -96,34 +95,22 @@ same allOpen c x =
 same stampsSpent c x = and-same (is-same (storesMeta (plan c x))) (most-same (stampBound (aim c)) (x .state .newest))
 
 -- the first reason of a chain whose condition holds
-module _ (q : Reason) (rs : List Reason) (t : Reason → Bool) where
-  first-yes : t q ≡ true → firstOf (q ∷ rs) t ≡ some q
-  unfolding firstOf
-  first-yes h = rw (firstOf, h)
-
-  first-no : t q ≡ false → firstOf (q ∷ rs) t ≡ firstOf rs t
-  unfolding firstOf
-  first-no h = rw (firstOf, h)
-
-first-same : (rs : List Reason) (t : Reason → Bool) (why : Reason → Type 0) → ((q : Reason) → t q ⇔ why q)
+first-why : (rs : List Reason) (t : Reason → Bool) (why : Reason → Type 0) → ((q : Reason) → t q ⇔ why q)
     → (r : Reason) → (firstOf rs t ≡ some r) ↔ FirstWhy rs r why
-first-same [] t why e r = (λ h. let z : _≡_ {A = ℕ} 0 1 = unfold firstOf in cc in absurd (omega arith), λ h. absurd h)
-first-same (q ∷ rs) t why e r = go (told (t q)) (first-same rs t why e r)
+first-why [] t why e r = (λ h. absurd (Option·none-ne-some r (unfold firstOf in h)), λ h. absurd h)
+first-why (q ∷ rs) t why e r = go (told (t q)) (first-why rs t why e r)
   where
     taken : t q ≡ true → FirstWhy (q ∷ rs) r why → firstOf (q ∷ rs) t ≡ some r
-    taken h (inl p) = first-yes q rs t h ∙ ap some (p .0)
+    taken h (inl p) = first-yes t q rs h ∙ ap some (p .0)
     taken h (inr p) = absurd (p .0 (e q .0 h))
 
     passed : t q ≡ false → (FirstWhy rs r why → firstOf rs t ≡ some r) → FirstWhy (q ∷ rs) r why → firstOf (q ∷ rs) t ≡ some r
     passed h ih (inl p) = clash (e q .1 (subst why (sym (p .0)) (p .1))) h
-    passed h ih (inr p) = first-no q rs t h ∙ ih (p .1)
-
-    some-is : some q ≡ some r → q ≡ r
-    some-is k = cc
+    passed h ih (inr p) = first-no t q rs h ∙ ih (p .1)
 
     go : Told (t q) → (firstOf rs t ≡ some r) ↔ FirstWhy rs r why → (firstOf (q ∷ rs) t ≡ some r) ↔ FirstWhy (q ∷ rs) r why
-    go (told-true h) ih = (λ k. let i = some-is (sym (first-yes q rs t h) ∙ k) in inl (i, subst why i (e q .0 h)), taken h)
-    go (told-false h) ih = (λ k. inr (λ w. clash (e q .1 w) h, ih .0 (sym (first-no q rs t h) ∙ k)), passed h (ih .1))
+    go (told-true h) ih = (λ k. let i = Option·some-injective q r (sym (first-yes t q rs h) ∙ k) in inl (i, subst why i (e q .0 h)), taken h)
+    go (told-false h) ih = (λ k. inr (λ w. clash (e q .1 w) h, ih .0 (sym (first-no t q rs h) ∙ k)), passed h (ih .1))
 
 -- every chain is in the order of judging, so that its first reason is the one of least rank
 pub in-order : (c : Call) → rising (chain c) ≡ true
@@ -151,7 +138,7 @@ said-same c x r = (to (judged c x) refl, λ e. ap (λ (o : Option Reason). decid
 
 judged-same : (c : Call) (x : Box) (r : Reason) → (judged c x ≡ some r) ↔ FirstWhy (chain c) r (λ q. Why q c x)
 unfolding judged
-judged-same c x r = first-same (chain c) (λ q. test q c x) (λ q. Why q c x) (λ q. same q c x) r
+judged-same c x r = first-why (chain c) (λ q. test q c x) (λ q. Why q c x) (λ q. same q c x) r
 
 -- "A number is used if its condition holds for that call, and in no other case": the first in the call's order whose condition holds
 pub refuses : (c : Call) (x : Box) (r : Reason) → (resultOf c x .said ≡ refusal (numberOf r)) ↔ FirstWhy (chain c) r (λ q. Why q c x)
