@@ -125,16 +125,16 @@ pub step-legal : (x : Box) → judged step x ≡ none → Legal x
 unfolding test
 step-legal x e = let q = passed step x e in legal-judged x true (q badRecord refl) (q wrongLength refl) (q badRows refl)
 
-module _ (c : Call) (x : Box) (a : Aim) (k : kind c ≡ aService a) (e : judged c x ≡ none) where
+module _ (c : Call) (x : Box) {a : Aim} (k : kind c ≡ aService a) (e : judged c x ≡ none) where
   pub service-legal : Legal x
   unfolding test
   service-legal =
-      let q = passed-first c x e (aService a) k in
-      legal-judged x (pageLengthTest a) (q badRecord refl) (rw k at (q wrongLength refl)) (rw k at (q badRows refl))
+      let q = passed-first c x e k in
+      legal-judged x (pageLengthTest (a .purpose)) (q badRecord refl) (rw k at (q wrongLength refl)) (rw k at (q badRows refl))
 
   pub service-ready : x .state .phase ≡ Ready
   unfolding test
-  service-ready = ready-of (x .state .phase) (rw k at (passed-first c x e (aService a) k wrongPhase refl))
+  service-ready = ready-of (x .state .phase) (rw k at (passed-first c x e k wrongPhase refl))
     where
       ready-of : (p : Phase) → not (isReady p) ≡ false → p ≡ Ready
       ready-of Ready q = refl

@@ -286,7 +286,7 @@ call-allowed : (l : Label) (w : World) → Inv l w → {c : Call} → Sorted c �
 call-allowed l w I (is-format slots blocks) g b h = no-finish (format slots blocks) w refl g
 call-allowed l w I is-step g b h = step-allowed l w I g b h
 call-allowed l w I is-reopen g b h = reopen-allowed l w I (w .box) refl g b h
-call-allowed l w I (is-service {c} a q _) g b h = no-finish c w (ap mayFinish q) g
+call-allowed l w I (is-service {c} q _) g b h = no-finish c w (ap mayFinish q) g
 
 pub allowed-of : (l : Label) (w : World) → Inv l w → (e : Event) → Fits l e w → finishes e w ≡ true → (b : Block) → b .0 < l .blocks
     → MayBe (before e w .disk) b (readOf (apply e w .box) b)

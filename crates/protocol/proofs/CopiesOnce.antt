@@ -18,7 +18,6 @@ use Rattle.protocol.specs.Box.{Box, left, boxAfter}
 use Rattle.protocol.specs.Condition.{conditionOf}
 use Rattle.protocol.specs.Sweep.{Victim, sweepFrom, sweep}
 use Rattle.protocol.specs.Plan.{offer, Move, copies, takesAs, takes, offering, plan}
-use Rattle.protocol.specs.Kinds.{toWrite}
 use Rattle.protocol.specs.Perform.{confirmed, perform}
 use Rattle.protocol.specs.Judge.{Reason, judged}
 use Rattle.protocol.specs.Calls.{decided, effectOf, resultOf}
@@ -144,7 +143,7 @@ module _ (b : Block) (x : Box) (L : Legal x) (v : Victim) (low : v .slot .0 < x 
 pub copies-once : (b : Block) (x : Box) → CopiesOnce b x
 unfolding x′
 copies-once b x e again =
-    let L = service-legal (offer b) x (toWrite b) refl (none-copied b x e) in
+    let L = service-legal (offer b) x refl (none-copied b x e) in
     go L (left-by x b e)
     (swept (2 * x .state .slots) (labelIn (x .state)) (x .table) (x .table)
     (alike-same (labelIn (x .state)) (x .table) (L .table-size) (L .rows)) (x .state .hand) (L .hand-low))

@@ -21,7 +21,7 @@ use Rattle.protocol.specs.Condition.{conditionOf, isOpen, takesWrite, ta
 use Rattle.protocol.specs.Sweep.{Victim, sweep}
 use Rattle.protocol.specs.Plan.{flush, offer, fetch, landFetch, lookUp, view, writeBack, land, Move, stay, uses, opens, lands, copies, confirms, takesAs, takes, offering, fetching, landing, landingFetch, lookingUp, writingBack, flushing, plan, storesMeta}
 use Rattle.protocol.specs.Perform.{confirmed, landedAs, perform}
-use Rattle.protocol.specs.Kinds.{Aim, toSettle, atBlock, toWrite, toFetch, toLandFetch, toLand}
+use Rattle.protocol.specs.Kinds.{toServe, toSettle, toWrite, toFetch, toLandFetch, toLand, Aim, aims, noBlock}
 use Rattle.protocol.specs.Judge.{largestStamp, wrongLength, blockTooHigh, slotOpen, wrongState, windowFull, stampsSpent, lengthTest, test, judged}
 use Rattle.protocol.specs.ReferenceDisk.{Disk, fedCall}
 use Rattle.layout.proofs.Booleans.{clash, and-parts}
@@ -65,7 +65,7 @@ pub record Copying (x : Box) (s : Slot) (v : List ℕ) (hand : Slot) : Type 0 wh
 
 -- what a call asks for feeds the reference disk nothing
 abbrev pub Quiet : Aim → Type 0
-Quiet a = (d : Disk) → fedCall a d ≡ d
+Quiet a = (d : Disk) → fedCall (a .purpose) (a .block) d ≡ d
 
 pub data Does (x : Box) : Aim → Move → Type 0 where
   does-nothing : {a : Aim} {said : Paper} → Quiet a → refused said ≡ false → Does x a (stay said)
@@ -76,12 +76,12 @@ pub data Does (x : Box) : Aim → Move → Type 0 where
       → Does x a (copies s said v hand)
   -- a write lands in its block's slot, open or dirty; a fetch in one that is open
   does-land : {b : Block} {s : Slot} {page : List ℕ} → Held (labelIn (x .state)) (x .table) (b .0) (s .0) → b .0 < x .state .blocks
-      → dirty (rowFlags (x .table) s) ≡ true → length page ≡ 4096 → Does x (toLand b page) (lands s page)
+      → dirty (rowFlags (x .table) s) ≡ true → length page ≡ 4096 → Does x (aims b (toLand page)) (lands s page)
   does-fetch : {a : Aim} {b : Block} {s : Slot} → Quiet a → Held (labelIn (x .state)) (x .table) (b .0) (s .0) → b .0 < x .state .blocks
       → writing (rowFlags (x .table) s) ≡ true → Does x a (lands s (pageAt (x .images .hdd) (blockPlace (labelIn (x .state)) b)))
   -- a flush with nothing to confirm, and with something
-  does-rest : {said : Paper} → refused said ≡ false → x .state .unconfirmed ≡ false → Does x toSettle (stay said)
-  does-confirm : x .state .unconfirmed ≡ true → x .state .newest < largestStamp → Does x toSettle confirms
+  does-rest : {b : Block} {said : Paper} → refused said ≡ false → x .state .unconfirmed ≡ false → Does x (aims b toSettle) (stay said)
+  does-confirm : {b : Block} → x .state .unconfirmed ≡ true → x .state .newest < largestStamp → Does x (aims b toSettle) confirms
 
 -- it is no refusal
 pub lands-said : (x : Box) (s : Slot) (page : List ℕ) → refused (perform (lands s page) x .said) ≡ false
@@ -177,7 +177,7 @@ module _ (x : Box) (L : Legal x) where
 
   offers : (b : Block) → b .0 < x .state .blocks → {z : Condition} → Stands lab (x .table) (b .0) z → isOpen z ≡ false
       → (not (takesWrite z) && leb 63 (openRows (x .table))) ≡ false
-      → (storesMeta (offering x b z) && leb (largestStamp - 63) (x .state .newest)) ≡ false → Does x (toWrite b) (offering x b z)
+      → (storesMeta (offering x b z) && leb (largestStamp - 63) (x .state .newest)) ≡ false → Does x (aims b toWrite) (offering x b z)
   unfolding rowOf
   offers b bl (absent h) o full spent = sweeping (λ d. refl) b 7 bl f7 refl refl refl h (leb-false _ _ full) sweep-here spent
   offers b bl (is-clean s H w d) o full spent =
@@ -203,7 +203,7 @@ module _ (x : Box) (L : Legal x) where
 
   fetches : (b : Block) → b .0 < x .state .blocks → {z : Condition} → Stands lab (x .table) (b .0) z
       → leb 63 (openRows (x .table)) ≡ false
-      → (storesMeta (fetching x b z) && leb (largestStamp - 63) (x .state .newest)) ≡ false → Does x (toFetch b) (fetching x b z)
+      → (storesMeta (fetching x b z) && leb (largestStamp - 63) (x .state .newest)) ≡ false → Does x (aims b toFetch) (fetching x b z)
   unfolding rowOf
   fetches b bl (absent h) full spent = sweeping (λ d. refl) b 5 bl f5 refl refl refl h (leb-false _ _ full) sweep-here spent
   fetches b bl (is-clean s H w d) full spent = does-nothing (λ d. refl) refl
@@ -212,7 +212,7 @@ module _ (x : Box) (L : Legal x) where
   fetches b bl (is-fetching s H w d) full spent = does-nothing (λ d. refl) refl
 
   landings : (b : Block) (page : List ℕ) → b .0 < x .state .blocks → length page ≡ 4096 → {z : Condition}
-      → Stands lab (x .table) (b .0) z → takesWrite z ≡ true → Does x (toLand b page) (landing page z)
+      → Stands lab (x .table) (b .0) z → takesWrite z ≡ true → Does x (aims b (toLand page)) (landing page z)
   landings b page bl size (absent h) t = clash {b = false} t refl
   landings b page bl size (is-clean s H w d) t = clash {b = false} t refl
   landings b page bl size (is-dirty s H w d) t = does-land H bl d size
@@ -220,21 +220,21 @@ module _ (x : Box) (L : Legal x) where
   landings b page bl size (is-fetching s H w d) t = clash {b = false} t refl
 
   landFetches : (b : Block) → b .0 < x .state .blocks → {z : Condition} → Stands lab (x .table) (b .0) z → takesFetch z ≡ true
-      → Does x (toLandFetch b) (landingFetch x b z)
+      → Does x (aims b toLandFetch) (landingFetch x b z)
   landFetches b bl (absent h) t = clash {b = false} t refl
   landFetches b bl (is-clean s H w d) t = clash {b = false} t refl
   landFetches b bl (is-dirty s H w d) t = clash {b = false} t refl
   landFetches b bl (is-writing s H w d) t = clash {b = false} t refl
   landFetches b bl (is-fetching s H w d) t = does-fetch (λ d. refl) H bl w
 
-  looksUp : (b : Block) → {z : Condition} → Stands lab (x .table) (b .0) z → Does x (atBlock b) (lookingUp z)
+  looksUp : (b : Block) → {z : Condition} → Stands lab (x .table) (b .0) z → Does x (aims b toServe) (lookingUp z)
   looksUp b (absent h) = does-nothing (λ d. refl) refl
   looksUp b (is-clean s H w d) = does-use (λ d. refl) H
   looksUp b (is-dirty s H w d) = does-use (λ d. refl) H
   looksUp b (is-writing s H w d) = does-nothing (λ d. refl) refl
   looksUp b (is-fetching s H w d) = does-nothing (λ d. refl) refl
 
-  writesBack : (b : Block) → {z : Condition} → Stands lab (x .table) (b .0) z → Does x (atBlock b) (writingBack x z)
+  writesBack : (b : Block) → {z : Condition} → Stands lab (x .table) (b .0) z → Does x (aims b toServe) (writingBack x z)
   writesBack b (absent h) = does-nothing (λ d. refl) refl
   writesBack b (is-clean s H w d) = does-nothing (λ d. refl) refl
   writesBack b (is-dirty s H w d) = does-copy (λ d. refl) refl
@@ -243,54 +243,54 @@ module _ (x : Box) (L : Legal x) where
   writesBack b (is-fetching s H w d) = does-nothing (λ d. refl) refl
 
   flushes : (u : Bool) → x .state .unconfirmed ≡ u → (storesMeta (flushing u) && leb largestStamp (x .state .newest)) ≡ false
-      → Does x toSettle (flushing u)
+      → Does x (aims noBlock toSettle) (flushing u)
   flushes true e spent = does-confirm e (leb-false _ _ spent)
   flushes false e spent = does-rest refl e
 
 -- each service, not refused
 module _ (x : Box) where
-  pub flush-does : judged flush x ≡ none → Does x toSettle (plan flush x)
+  pub flush-does : judged flush x ≡ none → Does x (aims noBlock toSettle) (plan flush x)
   unfolding test plan
-  flush-does e = flushes x (service-legal flush x toSettle refl e) (x .state .unconfirmed) refl (passed flush x e stampsSpent refl)
+  flush-does e = flushes x (service-legal flush x refl e) (x .state .unconfirmed) refl (passed flush x e stampsSpent refl)
 
   module _ (b : Block) where
-    pub offer-does : judged (offer b) x ≡ none → Does x (toWrite b) (plan (offer b) x)
+    pub offer-does : judged (offer b) x ≡ none → Does x (aims b toWrite) (plan (offer b) x)
     unfolding test plan
     offer-does e =
-        let L = service-legal (offer b) x (toWrite b) refl e in
+        let L = service-legal (offer b) x refl e in
         let q = passed (offer b) x e in
         offers x L b (leb-false _ _ (q blockTooHigh refl)) (here x L b) (q slotOpen refl) (q windowFull refl) (q stampsSpent refl)
 
-    pub fetch-does : judged (fetch b) x ≡ none → Does x (toFetch b) (plan (fetch b) x)
+    pub fetch-does : judged (fetch b) x ≡ none → Does x (aims b toFetch) (plan (fetch b) x)
     unfolding test plan
     fetch-does e =
-        let L = service-legal (fetch b) x (toFetch b) refl e in
+        let L = service-legal (fetch b) x refl e in
         let q = passed (fetch b) x e in
         fetches x L b (leb-false _ _ (q blockTooHigh refl)) (here x L b) (q windowFull refl) (q stampsSpent refl)
 
-    pub landFetch-does : judged (landFetch b) x ≡ none → Does x (toLandFetch b) (plan (landFetch b) x)
+    pub landFetch-does : judged (landFetch b) x ≡ none → Does x (aims b toLandFetch) (plan (landFetch b) x)
     unfolding test plan
     landFetch-does e =
-        let L = service-legal (landFetch b) x (toLandFetch b) refl e in
+        let L = service-legal (landFetch b) x refl e in
         let q = passed (landFetch b) x e in
         landFetches x L b (leb-false _ _ (q blockTooHigh refl)) (here x L b) (not-false _ (q wrongState refl))
 
-    pub lookUp-does : judged (lookUp b) x ≡ none → Does x (atBlock b) (plan (lookUp b) x)
+    pub lookUp-does : judged (lookUp b) x ≡ none → Does x (aims b toServe) (plan (lookUp b) x)
     unfolding plan
-    lookUp-does e = let L = service-legal (lookUp b) x (atBlock b) refl e in looksUp x L b (here x L b)
+    lookUp-does e = let L = service-legal (lookUp b) x refl e in looksUp x L b (here x L b)
 
-    pub view-does : judged (view b) x ≡ none → Does x (atBlock b) (plan (view b) x)
+    pub view-does : judged (view b) x ≡ none → Does x (aims b toServe) (plan (view b) x)
     unfolding plan
     view-does e = does-nothing (λ d. refl) refl
 
-    pub writeBack-does : judged (writeBack b) x ≡ none → Does x (atBlock b) (plan (writeBack b) x)
+    pub writeBack-does : judged (writeBack b) x ≡ none → Does x (aims b toServe) (plan (writeBack b) x)
     unfolding plan
-    writeBack-does e = let L = service-legal (writeBack b) x (atBlock b) refl e in writesBack x L b (here x L b)
+    writeBack-does e = let L = service-legal (writeBack b) x refl e in writesBack x L b (here x L b)
 
-    pub land-does : (page : List ℕ) → judged (land b page) x ≡ none → Does x (toLand b page) (plan (land b page) x)
+    pub land-does : (page : List ℕ) → judged (land b page) x ≡ none → Does x (aims b (toLand page)) (plan (land b page) x)
     unfolding test plan
     land-does page e =
-        let L = service-legal (land b page) x (toLand b page) refl e in
+        let L = service-legal (land b page) x refl e in
         let q = passed (land b page) x e in
         let sizes = and-parts (lengthTest (labelIn (x .state)) (x .images) (x .table)) _ (not-false _ (q wrongLength refl)) in
         landings x L b page (leb-false _ _ (q blockTooHigh refl)) (eqb-true _ _ (sizes .1)) (here x L b) (not-false _ (q wrongState refl))

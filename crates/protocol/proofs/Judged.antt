@@ -66,9 +66,9 @@ belongs-first r (q ∷ qs) rs m = go (or-cases _ _ m) (belongs-first r qs rs)
     go (inl e) ih = rw e
     go (inr k) ih = rw (ih k) (or-true (eqb (numberOf q) (numberOf r)))
 
-pub passed-first : (c : Call) (x : Box) → judged c x ≡ none → (k : Kind) → kind c ≡ k → (r : Reason) → belongs r (askedFirst k) ≡ true
+pub passed-first : (c : Call) (x : Box) → judged c x ≡ none → {k : Kind} → kind c ≡ k → (r : Reason) → belongs r (askedFirst k) ≡ true
     → test r c x ≡ false
-passed-first c x e k q r m = passed c x e r (belongs-first r (askedFirst (kind c)) (askedThen c) (rw q m))
+passed-first c x e q r m = passed c x e r (belongs-first r (askedFirst (kind c)) (askedThen c) (rw q m))
 
 -- and a call is accepted where neither these nor its own hold
 none-both : (qs rs : List Reason) (t : Reason → Bool) → NoneHold qs t → NoneHold rs t → NoneHold (qs ++ rs) t

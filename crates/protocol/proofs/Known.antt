@@ -89,7 +89,7 @@ testKnown l c x r =
       | true ↦ not (leb 4096 (ssdLength l) && isLabel (decodeLabel (pageAt (x .images .ssd) labelPlace)))
       | false ↦
           elim (eqb (numberOf r) 4) [
-            | true ↦ not (eqb (length (x .table)) (tableLength l) && pageLengthTest (aim c))
+            | true ↦ not (eqb (length (x .table)) (tableLength l) && pageLengthTest (aim c .purpose))
             | false ↦ test r c x
           ]
     ]
@@ -110,10 +110,10 @@ test-known l c x z e r = go (told (eqb (numberOf r) 2)) (told (eqb (numberOf r) 
     label-known = unfold test labelTest in
         (ap (λ (n : ℕ). not (leb 4096 n && isLabel (decodeLabel (pageAt (x .images .ssd) labelPlace)))) (z .ssd-size))
 
-    sizes-known : test wrongLength c x ≡ not (eqb (length (x .table)) (tableLength l) && pageLengthTest (aim c))
+    sizes-known : test wrongLength c x ≡ not (eqb (length (x .table)) (tableLength l) && pageLengthTest (aim c .purpose))
     sizes-known = unfold test in
-        (ap (λ (k : Label). not (lengthTest k (x .images) (x .table) && pageLengthTest (aim c))) e
-        ∙ ap (λ (b : Bool). not (b && pageLengthTest (aim c))) (length-known l (x .images) (x .table) z))
+        (ap (λ (k : Label). not (lengthTest k (x .images) (x .table) && pageLengthTest (aim c .purpose))) e
+        ∙ ap (λ (b : Bool). not (b && pageLengthTest (aim c .purpose))) (length-known l (x .images) (x .table) z))
 
     at : (s : Reason) → eqb (numberOf r) (numberOf s) ≡ true → test r c x ≡ test s c x
     at s p = ap (λ (q : Reason). test q c x) (number-is r s (eqb-true _ _ p))

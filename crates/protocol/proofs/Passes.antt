@@ -16,7 +16,7 @@ use Rattle.layout.proofs.PlaceLaws.{within}
 use Rattle.protocol.specs.declared.Phase.the-variants.{Ready}
 use Rattle.protocol.specs.Rows.{rowBlock, rowFlags, valid, dirty, writing}
 use Rattle.protocol.specs.Plan.{Call, step, flush, lookUp, view, flushing, plan, storesMeta}
-use Rattle.protocol.specs.Kinds.{Aim, toSettle, atBlock, aService, kind}
+use Rattle.protocol.specs.Kinds.{Aim, aService, kind}
 use Rattle.protocol.specs.Judge.{largestStamp, stepsTest, recordTest, lengthsTest, lengthTest, isEmpty, agreeTest, rowsTest, isReady, pageLengthTest, test, askedFirst, judged}
 use Rattle.layout.proofs.Booleans.{Told, told, told-true, told-false, clash}
 use Rattle.protocol.proofs.model.Base.{has, Window}
@@ -107,16 +107,16 @@ module _ (l : Label) (k : Core) (S : Shape l k) (p : Plain) (R : model.Ready (ab
   ready-phase = rw on
 
   -- so no service is refused by what is asked first
-  ready-first : (c : Call) (a : Aim) → kind c ≡ aService a → pageLengthTest a ≡ true
+  ready-first : (c : Call) {a : Aim} → kind c ≡ aService a → pageLengthTest (a .purpose) ≡ true
       → NoneHold (askedFirst (kind c)) (λ r. test r c (boxOfCore l k))
   unfolding test
-  ready-first c a q m = rw q (rw ready-record, (rw (q, length-pass l k S (T .rule), m), (rw (q, ready-rows), (rw (q, on), tt))))
+  ready-first c q m = rw q (rw ready-record, (rw (q, length-pass l k S (T .rule), m), (rw (q, ready-rows), (rw (q, on), tt))))
 
   pub view-judged : (b : Block) → b .0 < l .blocks → judged (view b) (boxOfCore l k) ≡ none
-  view-judged b h = accepted (view b) (boxOfCore l k) (ready-first (view b) (atBlock b) refl refl) (unfold test in (lt-leb _ _ h, tt))
+  view-judged b h = accepted (view b) (boxOfCore l k) (ready-first (view b) refl refl) (unfold test in (lt-leb _ _ h, tt))
 
   pub look-judged : (b : Block) → b .0 < l .blocks → judged (lookUp b) (boxOfCore l k) ≡ none
-  look-judged b h = accepted (lookUp b) (boxOfCore l k) (ready-first (lookUp b) (atBlock b) refl refl) (unfold test in (lt-leb _ _ h, tt))
+  look-judged b h = accepted (lookUp b) (boxOfCore l k) (ready-first (lookUp b) refl refl) (unfold test in (lt-leb _ _ h, tt))
 
   -- a flush has a stamp left
   flush-left : k .unconfirmed ≡ true → k .newest < largestStamp
@@ -125,7 +125,7 @@ module _ (l : Label) (k : Core) (S : Shape l k) (p : Plain) (R : model.Ready (ab
 
   pub flush-judged : judged flush (boxOfCore l k) ≡ none
   unfolding test plan
-  flush-judged = accepted flush (boxOfCore l k) (ready-first flush toSettle refl refl) (go (told (k .unconfirmed)), tt)
+  flush-judged = accepted flush (boxOfCore l k) (ready-first flush refl refl) (go (told (k .unconfirmed)), tt)
     where
       go : Told (k .unconfirmed) → (storesMeta (flushing (k .unconfirmed)) && leb largestStamp (k .newest)) ≡ false
       go (told-true u) = rw (u, lt-leb _ _ (flush-left u))

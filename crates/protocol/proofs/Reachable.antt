@@ -14,7 +14,6 @@ use Rattle.protocol.specs.Recovery.{labelAt}
 use Rattle.protocol.specs.Paper.{refused}
 use Rattle.protocol.specs.Box.{Images, Box, Store, applied}
 use Rattle.protocol.specs.Plan.{Call, format, step, reopen, plan}
-use Rattle.protocol.specs.Kinds.{aService}
 use Rattle.protocol.specs.Perform.{perform}
 use Rattle.protocol.specs.Judge.{Reason, wrongLength, wrongPhase, test, lengthsTest, lengthTest, judged}
 use Rattle.protocol.specs.Calls.{decided, effectOf, resultOf}
@@ -54,8 +53,8 @@ mendable l k d on c = go (sorted c)
     go (is-format slots blocks) f e = no-format slots blocks (worldOf l k d) f e
     go is-step f e = steps
     go is-reopen f e = reopens-it
-    go (is-service {c} a q _) f e =
-        clash {b = true} refl (unfold test in (rw (q, on) at (passed-first c (boxOfCore l k) e (aService a) q wrongPhase refl)))
+    go (is-service {c} q _) f e =
+        clash {b = true} refl (unfold test in (rw (q, on) at (passed-first c (boxOfCore l k) e q wrongPhase refl)))
 
 -- a call that is not refused
 module _ (l : Label) (k : Core) (S : Shape l k) (d : Disk) (p : Plain) (A : Agrees l d p) where
@@ -75,7 +74,7 @@ module _ (l : Label) (k : Core) (S : Shape l k) (d : Disk) (p : Plain) (A : Agre
     ready-call (is-format slots blocks) f e = no-format slots blocks (worldOf l k d) f e
     ready-call is-step f e = clash {b = true} refl (unfold test in (rw on at (passed step (boxOfCore l k) e wrongPhase refl)))
     ready-call is-reopen f e = reopen-call (phased-stored (abs l k) p (is-ready R))
-    ready-call (is-service {c} a K does) f e = rw (made-as c e) (service-next l k S d p A R c K (does (boxOfCore l k) e))
+    ready-call (is-service {c} K does) f e = rw (made-as c e) (service-next l k S d p A R c K (does (boxOfCore l k) e))
 
   -- a mending box
   module _ (M : Mending (abs l k) p) (on : k .recovering ≡ true) where

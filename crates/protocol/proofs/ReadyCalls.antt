@@ -93,7 +93,7 @@ module _ (l : Label) (k : Core) (S : Shape l k) (d : Disk) (p : Plain) (A : Agre
   -- a service that leaves this core
   module _ (c : Call) {a : Aim} (K : kind c ≡ aService a) where
     next : (v : Move) (k′ : Core) (p′ : Plain) → refused (perform v (boxOfCore l k) .said) ≡ false → after l k v ≡ boxOfCore l k′
-        → Shape l k′ → Agrees l (fedCall a d) p′ → model.Ready (abs l k′) p′
+        → Shape l k′ → Agrees l (fedCall (a .purpose) (a .block) d) p′ → model.Ready (abs l k′) p′
         → Inv l (calledAs c (perform v (boxOfCore l k)) (worldOf l k d))
     unfolding calledAs
     next v k′ p′ n e S′ A′ R′ = record {
@@ -105,11 +105,11 @@ module _ (l : Label) (k : Core) (S : Shape l k) (d : Disk) (p : Plain) (A : Agre
       phased = is-ready R′;
     }
 
-    quiet : Quiet a → Agrees l (fedCall a d) p
+    quiet : Quiet a → Agrees l (fedCall (a .purpose) (a .block) d) p
     quiet z = rw (z d) A
 
     -- nothing changes
-    stays : (said : Paper) (p′ : Plain) → refused said ≡ false → Agrees l (fedCall a d) p′ → model.Ready (abs l k) p′
+    stays : (said : Paper) (p′ : Plain) → refused said ≡ false → Agrees l (fedCall (a .purpose) (a .block) d) p′ → model.Ready (abs l k) p′
         → Inv l (calledAs c (perform (stay said) (boxOfCore l k)) (worldOf l k d))
     unfolding perform
     stays said p′ n A′ R′ = next (stay said) k p′ n refl S A′ R′
@@ -213,7 +213,8 @@ module _ (l : Label) (k : Core) (S : Shape l k) (d : Disk) (p : Plain) (A : Agre
         record { held = r .0; holds-b = r .1; slot-below = H .low; block-below = bl }
 
     lands-next : (s : ℕ) (page : List ℕ) (p′ : Plain) (o : Bool) → s < l .slots → length page ≡ 4096
-        → writing (getD (k .table) (2 * s + 1) 0) ≡ o → Agrees l (fedCall a d) p′ → model.Ready (landed s page (abs l k)) p′
+        → writing (getD (k .table) (2 * s + 1) 0) ≡ o → Agrees l (fedCall (a .purpose) (a .block) d) p′
+        → model.Ready (landed s page (abs l k)) p′
         → Inv l (calledAs c (perform (lands (record { 0 = s }) page) (boxOfCore l k)) (worldOf l k d))
     lands-next s page p′ o h size e A′ R′ =
         let T = ready-sound l k S p R in
@@ -234,7 +235,7 @@ module _ (l : Label) (k : Core) (S : Shape l k) (d : Disk) (p : Plain) (A : Agre
         lands-ready (abs l k) p R (lands-asks page H bl) (at-dirty l (k .table) (S .rows) s (H .low) ∙ y)
 
     -- a flush stores page 0
-    confirms-next : k .unconfirmed ≡ true → k .newest < largestStamp → Agrees l (fedCall a d) (settle p)
+    confirms-next : k .unconfirmed ≡ true → k .newest < largestStamp → Agrees l (fedCall (a .purpose) (a .block) d) (settle p)
         → Inv l (calledAs c (perform confirms (boxOfCore l k)) (worldOf l k d))
     unfolding perform confirmed
     confirms-next u h A′ =

@@ -4,7 +4,7 @@ use mathlib.Core.Path.{_≡_, refl}
 use mathlib.Core.Option.{none}
 use Rattle.protocol.specs.Box.{Box}
 use Rattle.protocol.specs.Plan.{Call, format, step, flush, reopen, offer, fetch, landFetch, lookUp, view, writeBack, land, plan}
-use Rattle.protocol.specs.Kinds.{Aim, toSettle, atBlock, toWrite, toFetch, toLandFetch, toLand, aService, kind}
+use Rattle.protocol.specs.Kinds.{Aim, aService, kind}
 use Rattle.protocol.specs.Judge.{judged}
 use Rattle.protocol.proofs.Does.{Does, flush-does, offer-does, fetch-does, landFetch-does, lookUp-does, view-does, writeBack-does, land-does}
 
@@ -12,17 +12,17 @@ pub data Sorted : Call → Type 0 where
   is-format : (slots blocks : ℕ) → Sorted (format slots blocks)
   is-reopen : Sorted reopen
   is-step : Sorted step
-  is-service : {c : Call} (a : Aim) → kind c ≡ aService a → ((x : Box) → judged c x ≡ none → Does x a (plan c x)) → Sorted c
+  is-service : {c : Call} {a : Aim} → kind c ≡ aService a → ((x : Box) → judged c x ≡ none → Does x a (plan c x)) → Sorted c
 
 pub sorted : (c : Call) → Sorted c
 sorted (format slots blocks) = is-format slots blocks
 sorted reopen = is-reopen
 sorted step = is-step
-sorted flush = is-service toSettle refl flush-does
-sorted (offer b) = is-service (toWrite b) refl (λ x. offer-does x b)
-sorted (fetch b) = is-service (toFetch b) refl (λ x. fetch-does x b)
-sorted (landFetch b) = is-service (toLandFetch b) refl (λ x. landFetch-does x b)
-sorted (lookUp b) = is-service (atBlock b) refl (λ x. lookUp-does x b)
-sorted (view b) = is-service (atBlock b) refl (λ x. view-does x b)
-sorted (writeBack b) = is-service (atBlock b) refl (λ x. writeBack-does x b)
-sorted (land b page) = is-service (toLand b page) refl (λ x. land-does x b page)
+sorted flush = is-service refl flush-does
+sorted (offer b) = is-service refl (λ x. offer-does x b)
+sorted (fetch b) = is-service refl (λ x. fetch-does x b)
+sorted (landFetch b) = is-service refl (λ x. landFetch-does x b)
+sorted (lookUp b) = is-service refl (λ x. lookUp-does x b)
+sorted (view b) = is-service refl (λ x. view-does x b)
+sorted (writeBack b) = is-service refl (λ x. writeBack-does x b)
+sorted (land b page) = is-service refl (λ x. land-does x b page)

@@ -238,7 +238,7 @@ made-stores (is-format slots blocks) x e = unfold plan perform in λ s g. no-sto
 made-stores is-reopen x e = unfold plan perform in λ s g. no-store g
 made-stores is-step x e =
     unfold test plan in (step-stores x (step-legal x e) (x .state .phase) refl (passed step x e stampsSpent refl))
-made-stores (is-service {c} a k does) x e = does-stores x (service-legal c x a k e) (service-ready c x a k e) (does x e)
+made-stores (is-service {c} k does) x e = does-stores x (service-legal c x k e) (service-ready c x k e) (does x e)
 
 pub stores-legally : (c : Call) (x : Box) → StoresLegally c x
 unfolding effectOf

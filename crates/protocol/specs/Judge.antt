@@ -7,7 +7,6 @@ use lib.ListN.{length, drop}
 use lib.Dec.{eqb, ltb, leb}
 use Rattle.pages.specs.Pages.{pageAt}
 use Rattle.layout.specs.declared.Slot.{Slot}
-use Rattle.layout.specs.declared.Block.{Block}
 use Rattle.layout.specs.declared.Label.{Label}
 use Rattle.layout.specs.declared.LabelRead.{LabelRead}
 use Rattle.layout.specs.declared.LabelRead.the-variants.{Legal, Illegal}
@@ -22,7 +21,7 @@ use Rattle.protocol.specs.Rows.{rowBlock, rowFlags, valid, writing, used
 use Rattle.protocol.specs.Box.{Images, Box}
 use Rattle.protocol.specs.Condition.{conditionOf, isOpen, isCached, takesWrite, takesFetch}
 use Rattle.protocol.specs.Plan.{Call, format, step, flush, reopen, offer, fetch, landFetch, lookUp, view, writeBack, land, plan, storesMeta}
-use Rattle.protocol.specs.Kinds.{Aim, atNone, toSettle, atBlock, toWrite, toFetch, toLandFetch, toLand, Kind, aFormat, aReopening, aStep, aService, kind, aim}
+use Rattle.protocol.specs.Kinds.{Purpose, toServe, toSettle, toWrite, toFetch, toLandFetch, toLand, Kind, aFormat, aReopening, aStep, aService, kind, aim}
 use Rattle.protocol.specs.Recovery.{labelAt, metasOf, pagesTest}
 
 -- the largest stamp
@@ -76,16 +75,6 @@ labelFor aReopening x = labelAt (x .images .ssd)
 labelFor aStep x = labelIn (x .state)
 labelFor (aService a) x = labelIn (x .state)
 
--- the block that a call names (0 where it names none: no such call asks for it)
-abbrev pub blockFor : Aim → Block
-blockFor atNone = record { 0 = 0 }
-blockFor toSettle = record { 0 = 0 }
-blockFor (atBlock b) = b
-blockFor (toWrite b) = b
-blockFor (toFetch b) = b
-blockFor (toLandFetch b) = b
-blockFor (toLand b page) = b
-
 -- 2: "SSD under a page, or first page no legal label"
 abbrev pub isLabel : LabelRead → Bool
 isLabel (Legal l) = true
@@ -114,14 +103,13 @@ recordTest r =
     && (inRange (labelIn r) (windowIn r) && (distinct (windowIn r) && zeroSlots (drop (r .count) (r .window))))))))
 
 -- 4: "an image, table or data page of the wrong length"
-abbrev pub pageLengthTest : Aim → Bool
-pageLengthTest atNone = true
+abbrev pub pageLengthTest : Purpose → Bool
+pageLengthTest toServe = true
 pageLengthTest toSettle = true
-pageLengthTest (atBlock b) = true
-pageLengthTest (toWrite b) = true
-pageLengthTest (toFetch b) = true
-pageLengthTest (toLandFetch b) = true
-pageLengthTest (toLand b page) = eqb (length page) 4096
+pageLengthTest toWrite = true
+pageLengthTest toFetch = true
+pageLengthTest toLandFetch = true
+pageLengthTest (toLand page) = eqb (length page) 4096
 
 unfoldable pub lengthsTest : Label → ℕ → ℕ → ℕ → Bool
 lengthsTest l ssd hdd table = eqb ssd (ssdLength l) && (eqb hdd (hddLength l) && eqb table (tableLength l))
@@ -177,50 +165,47 @@ phaseTest aStep p = not (isReady p)
 phaseTest (aService a) p = isReady p
 
 -- 9: "land: block in neither state named; land a fetch: not open for fetch"
-abbrev pub stateTest : Aim → Condition → Bool
-stateTest atNone k = true
+abbrev pub stateTest : Purpose → Condition → Bool
+stateTest toServe k = true
 stateTest toSettle k = true
-stateTest (atBlock b) k = true
-stateTest (toWrite b) k = true
-stateTest (toFetch b) k = true
-stateTest (toLandFetch b) k = takesFetch k
-stateTest (toLand b page) k = takesWrite k
+stateTest toWrite k = true
+stateTest toFetch k = true
+stateTest toLandFetch k = takesFetch k
+stateTest (toLand page) k = takesWrite k
 
 -- 11: "a fetch, or an offer of a block that isn't dirty, while 63 are open"
-abbrev pub opensAnother : Aim → Condition → Bool
-opensAnother atNone k = false
+abbrev pub opensAnother : Purpose → Condition → Bool
+opensAnother toServe k = false
 opensAnother toSettle k = false
-opensAnother (atBlock b) k = false
-opensAnother (toWrite b) k = not (takesWrite k)
-opensAnother (toFetch b) k = true
-opensAnother (toLandFetch b) k = false
-opensAnother (toLand b page) k = false
+opensAnother toWrite k = not (takesWrite k)
+opensAnother toFetch k = true
+opensAnother toLandFetch k = false
+opensAnother (toLand page) k = false
 
 -- 13: "the newest stamp is 4,294,967,295, or for an offer or fetch 4,294,967,232 or more"
-abbrev pub stampBound : Aim → ℕ
-stampBound atNone = largestStamp
+abbrev pub stampBound : Purpose → ℕ
+stampBound toServe = largestStamp
 stampBound toSettle = largestStamp
-stampBound (atBlock b) = largestStamp
-stampBound (toWrite b) = largestStamp - 63
-stampBound (toFetch b) = largestStamp - 63
-stampBound (toLandFetch b) = largestStamp
-stampBound (toLand b page) = largestStamp
+stampBound toWrite = largestStamp - 63
+stampBound toFetch = largestStamp - 63
+stampBound toLandFetch = largestStamp
+stampBound (toLand page) = largestStamp
 
 -- does the condition of a row of the table hold for this call
 unfoldable pub test : Reason → Call → Box → Bool
 test badLimits c x = not (withinLimits (labelFor (kind c) x))
 test noLabel c x = not (labelTest (x .images .ssd))
 test badRecord c x = not (recordTest (x .state))
-test wrongLength c x = not (lengthTest (labelFor (kind c) x) (x .images) (x .table) && pageLengthTest (aim c))
+test wrongLength c x = not (lengthTest (labelFor (kind c) x) (x .images) (x .table) && pageLengthTest (aim c .purpose))
 test badRows c x = not (contentsTest (kind c) x)
 test wrongPhase c x = not (phaseTest (kind c) (x .state .phase))
-test blockTooHigh c x = leb (x .state .blocks) (blockFor (aim c) .0)
-test slotOpen c x = isOpen (conditionOf (x .table) (blockFor (aim c)))
-test wrongState c x = not (stateTest (aim c) (conditionOf (x .table) (blockFor (aim c))))
-test hasSlot c x = isCached (conditionOf (x .table) (blockFor (aim c)))
-test windowFull c x = opensAnother (aim c) (conditionOf (x .table) (blockFor (aim c))) && leb 63 (openRows (x .table))
-test allOpen c x = not (isCached (conditionOf (x .table) (blockFor (aim c)))) && allWriting (x .table)
-test stampsSpent c x = storesMeta (plan c x) && leb (stampBound (aim c)) (x .state .newest)
+test blockTooHigh c x = leb (x .state .blocks) (aim c .block .0)
+test slotOpen c x = isOpen (conditionOf (x .table) (aim c .block))
+test wrongState c x = not (stateTest (aim c .purpose) (conditionOf (x .table) (aim c .block)))
+test hasSlot c x = isCached (conditionOf (x .table) (aim c .block))
+test windowFull c x = opensAnother (aim c .purpose) (conditionOf (x .table) (aim c .block)) && leb 63 (openRows (x .table))
+test allOpen c x = not (isCached (conditionOf (x .table) (aim c .block))) && allWriting (x .table)
+test stampsSpent c x = storesMeta (plan c x) && leb (stampBound (aim c .purpose)) (x .state .newest)
 
 -- the numbers that belong to each call, in the order of judging: first those of its kind ("Format and reopen judge neither that
 -- record nor the table's contents"), then its own

@@ -6,7 +6,7 @@ use mathlib.Core.Option.{Option, some, none}
 use lib.Dec.{eqb}
 use Rattle.layout.specs.declared.Block.{Block}
 use Rattle.protocol.specs.Plan.{Call}
-use Rattle.protocol.specs.Kinds.{Aim, atNone, toSettle, atBlock, toWrite, toFetch, toLandFetch, toLand, aim}
+use Rattle.protocol.specs.Kinds.{Purpose, toServe, toSettle, toWrite, toFetch, toLandFetch, toLand, aim}
 
 -- "Each block has a page and the contents that may come back"
 pub record Disk : Type 0 where
@@ -29,17 +29,16 @@ written b bytes d = record {
 }
 
 -- what a call that was not refused does to the disk: "Landing a write", "Flush", "Anything else .. no change"
-abbrev pub fedCall : Aim → Disk → Disk
-fedCall atNone d = d
-fedCall toSettle d = settled (d .page)
-fedCall (atBlock b) d = d
-fedCall (toWrite b) d = d
-fedCall (toFetch b) d = d
-fedCall (toLandFetch b) d = d
-fedCall (toLand b bytes) d = written b bytes d
+abbrev pub fedCall : Purpose → Block → Disk → Disk
+fedCall toServe b d = d
+fedCall toSettle b d = settled (d .page)
+fedCall toWrite b d = d
+fedCall toFetch b d = d
+fedCall toLandFetch b d = d
+fedCall (toLand bytes) b d = written b bytes d
 
 -- "The plain disk is fed calls, arguments, refusals, and what blocks read as when a reopening finishes"
 abbrev pub fed : Call → Bool → Option (Block → List ℕ) → Disk → Disk
 fed c true reads d = d
-fed c false none d = fedCall (aim c) d
+fed c false none d = fedCall (aim c .purpose) (aim c .block) d
 fed c false (some reads) d = settled reads

@@ -20,9 +20,9 @@ use Rattle.protocol.specs.declared.Phase.the-variants.{Formatting, Recov
 use Rattle.protocol.specs.Rows.{rowBlock, rowFlags, valid, dirty, writing, used, labelIn, windowIn, openRows}
 use Rattle.protocol.specs.Box.{Images, Box}
 use Rattle.protocol.specs.Plan.{Call, plan, storesMeta}
-use Rattle.protocol.specs.Kinds.{Aim, atNone, toSettle, atBlock, toWrite, toFetch, toLandFetch, toLand, Kind, aFormat, aReopening, aStep, aService, kind, aim}
+use Rattle.protocol.specs.Kinds.{Purpose, toServe, toSettle, toWrite, toFetch, toLandFetch, toLand, Kind, aFormat, aReopening, aStep, aService, kind, aim}
 use Rattle.protocol.specs.Recovery.{labelAt, metasOf, entryIn}
-use Rattle.protocol.specs.Judge.{Reason, badLimits, noLabel, badRecord, wrongLength, badRows, wrongPhase, blockTooHigh, slotOpen, wrongState, hasSlot, windowFull, allOpen, stampsSpent, labelFor, blockFor, stampBound}
+use Rattle.protocol.specs.Judge.{Reason, badLimits, noLabel, badRecord, wrongLength, badRows, wrongPhase, blockTooHigh, slotOpen, wrongState, hasSlot, windowFull, allOpen, stampsSpent, labelFor, stampBound}
 
 -- 2: the first page is the page of a label within the limits
 pub record HasLabel (ssd : List ℕ) : Type 0 where
@@ -43,20 +43,19 @@ pub record RecordRule (r : Record) : Type 0 where
   pub past : (k : ℕ) → r .count ≤ k → getD (r .window) k (record { 0 = 0 }) .0 ≡ 0
 
 -- 4
-abbrev pub PageLength : Aim → Type 0
-PageLength atNone = Unit {0}
+abbrev pub PageLength : Purpose → Type 0
+PageLength toServe = Unit {0}
 PageLength toSettle = Unit {0}
-PageLength (atBlock b) = Unit {0}
-PageLength (toWrite b) = Unit {0}
-PageLength (toFetch b) = Unit {0}
-PageLength (toLandFetch b) = Unit {0}
-PageLength (toLand b page) = length page ≡ 4096
+PageLength toWrite = Unit {0}
+PageLength toFetch = Unit {0}
+PageLength toLandFetch = Unit {0}
+PageLength (toLand page) = length page ≡ 4096
 
-pub record Lengths (l : Label) (a : Aim) (im : Images) (table : List ℕ) : Type 0 where
+pub record Lengths (l : Label) (p : Purpose) (im : Images) (table : List ℕ) : Type 0 where
   pub ssd-length : length (im .ssd) ≡ ssdLength l
   pub hdd-length : length (im .hdd) ≡ hddLength l
   pub table-length : length table ≡ tableLength l
-  pub page-length : PageLength a
+  pub page-length : PageLength p
 
 -- the table has a row for the slot
 abbrev pub IsRow : List ℕ → Slot → Type 0
@@ -126,41 +125,39 @@ pub record SlotOf (table : List ℕ) (b : Block) : Type 0 where
   pub lowest : (t : Slot) → t .0 < slot .0 → valid (rowFlags table t) ≡ true → rowBlock table t .0 ≢ b .0
 
 -- 9: open for writing, or dirty and not open; open for fetch
-abbrev pub RightState : Aim → List ℕ → Type 0
-RightState atNone table = Unit {0}
-RightState toSettle table = Unit {0}
-RightState (atBlock b) table = Unit {0}
-RightState (toWrite b) table = Unit {0}
-RightState (toFetch b) table = Unit {0}
-RightState (toLandFetch b) table = (s : SlotOf table b) × (writing (rowFlags table (s .slot)) ≡ true) ×
+abbrev pub RightState : Purpose → Block → List ℕ → Type 0
+RightState toServe b table = Unit {0}
+RightState toSettle b table = Unit {0}
+RightState toWrite b table = Unit {0}
+RightState toFetch b table = Unit {0}
+RightState toLandFetch b table = (s : SlotOf table b) × (writing (rowFlags table (s .slot)) ≡ true) ×
     (dirty (rowFlags table (s .slot)) ≡ false)
-RightState (toLand b page) table = (s : SlotOf table b) × (dirty (rowFlags table (s .slot)) ≡ true)
+RightState (toLand page) b table = (s : SlotOf table b) × (dirty (rowFlags table (s .slot)) ≡ true)
 
 -- 11: a fetch, or an offer of a block that isn't dirty
-abbrev pub OpensAnother : Aim → List ℕ → Type 0
-OpensAnother atNone table = ⊥
-OpensAnother toSettle table = ⊥
-OpensAnother (atBlock b) table = ⊥
-OpensAnother (toWrite b) table = (s : SlotOf table b) → dirty (rowFlags table (s .slot)) ≡ false
-OpensAnother (toFetch b) table = Unit {0}
-OpensAnother (toLandFetch b) table = ⊥
-OpensAnother (toLand b page) table = ⊥
+abbrev pub OpensAnother : Purpose → Block → List ℕ → Type 0
+OpensAnother toServe b table = ⊥
+OpensAnother toSettle b table = ⊥
+OpensAnother toWrite b table = (s : SlotOf table b) → dirty (rowFlags table (s .slot)) ≡ false
+OpensAnother toFetch b table = Unit {0}
+OpensAnother toLandFetch b table = ⊥
+OpensAnother (toLand page) b table = ⊥
 
 -- the table of document 01
 abbrev pub Why : Reason → Call → Box → Type 0
 Why badLimits c x = Limits (labelFor (kind c) x) → ⊥
 Why noLabel c x = HasLabel (x .images .ssd) → ⊥
 Why badRecord c x = RecordRule (x .state) → ⊥
-Why wrongLength c x = Lengths (labelFor (kind c) x) (aim c) (x .images) (x .table) → ⊥
+Why wrongLength c x = Lengths (labelFor (kind c) x) (aim c .purpose) (x .images) (x .table) → ⊥
 Why badRows c x = Contents (kind c) x → ⊥
 Why wrongPhase c x = RightPhase (kind c) (x .state .phase) → ⊥
-Why blockTooHigh c x = x .state .blocks ≤ blockFor (aim c) .0
-Why slotOpen c x = (s : SlotOf (x .table) (blockFor (aim c))) × (writing (rowFlags (x .table) (s .slot)) ≡ true)
-Why wrongState c x = RightState (aim c) (x .table) → ⊥
-Why hasSlot c x = SlotOf (x .table) (blockFor (aim c))
-Why windowFull c x = OpensAnother (aim c) (x .table) × (63 ≤ openRows (x .table))
-Why allOpen c x = (SlotOf (x .table) (blockFor (aim c)) → ⊥) × ((s : Slot) → IsRow (x .table) s → writing (rowFlags (x .table) s) ≡ true)
-Why stampsSpent c x = (storesMeta (plan c x) ≡ true) × (stampBound (aim c) ≤ x .state .newest)
+Why blockTooHigh c x = x .state .blocks ≤ aim c .block .0
+Why slotOpen c x = (s : SlotOf (x .table) (aim c .block)) × (writing (rowFlags (x .table) (s .slot)) ≡ true)
+Why wrongState c x = RightState (aim c .purpose) (aim c .block) (x .table) → ⊥
+Why hasSlot c x = SlotOf (x .table) (aim c .block)
+Why windowFull c x = OpensAnother (aim c .purpose) (aim c .block) (x .table) × (63 ≤ openRows (x .table))
+Why allOpen c x = (SlotOf (x .table) (aim c .block) → ⊥) × ((s : Slot) → IsRow (x .table) s → writing (rowFlags (x .table) s) ≡ true)
+Why stampsSpent c x = (storesMeta (plan c x) ≡ true) × (stampBound (aim c .purpose) ≤ x .state .newest)
 
 -- "Least number first .. A number is used if its condition holds for that call, and in no other case": r is the first in a
 -- call's order whose condition holds

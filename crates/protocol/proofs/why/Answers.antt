@@ -32,7 +32,7 @@ plan-answers c x = go (sorted c)
     go (is-format slots blocks) e = unfold plan perform in refl
     go is-reopen e = unfold plan perform in refl
     go is-step e = unfold plan in (step-answers (x .state .phase))
-    go (is-service a K does) e = does-said (does x e)
+    go (is-service K does) e = does-said (does x e)
 
 -- an answer is told by its number and values
 answerAs : ℕ → Slot → Answer

@@ -17,8 +17,8 @@ use Rattle.protocol.specs.Rows.{writing, labelIn, openRows}
 use Rattle.protocol.specs.Box.{Box, left, boxAfter}
 use Rattle.protocol.specs.Condition.{conditionOf}
 use Rattle.protocol.specs.Plan.{Call, format, step, flush, reopen, offer, fetch, landFetch, lookUp, view, writeBack, land, plan, storesMeta}
-use Rattle.protocol.specs.Kinds.{Aim, atNone, toSettle, atBlock, toWrite, toFetch, toLandFetch, toLand, Kind, aFormat, aReopening, aStep, aService, kind, aim}
-use Rattle.protocol.specs.Judge.{Reason, badLimits, noLabel, badRecord, wrongLength, badRows, wrongPhase, blockTooHigh, slotOpen, wrongState, hasSlot, windowFull, allOpen, stampsSpent, numberOf, rankIn, rising, labelFor, blockFor, contentsTest, isReady, phaseTest, stateTest, opensAnother, stampBound, test, chain, firstOf, judged}
+use Rattle.protocol.specs.Kinds.{Purpose, toServe, toSettle, toWrite, toFetch, toLandFetch, toLand, Kind, aFormat, aReopening, aStep, aService, kind, aim}
+use Rattle.protocol.specs.Judge.{Reason, badLimits, noLabel, badRecord, wrongLength, badRows, wrongPhase, blockTooHigh, slotOpen, wrongState, hasSlot, windowFull, allOpen, stampsSpent, numberOf, rankIn, rising, labelFor, contentsTest, isReady, phaseTest, stateTest, opensAnother, stampBound, test, chain, firstOf, judged}
 use Rattle.protocol.specs.Recovery.{labelAt, metasOf}
 use Rattle.protocol.specs.Calls.{decided, effectOf, resultOf, boxOf, View, viewed, viewOf}
 use Rattle.pages.specs.Parts.{Part}
@@ -51,26 +51,24 @@ phase-same aReopening p = unit-same
 phase-same aStep p = none-same (ready-same p)
 phase-same (aService a) p = ready-same p
 
-state-same : (a : Aim) (table : List ℕ) → stateTest a (conditionOf table (blockFor a)) ⇔ RightState a table
-state-same atNone table = unit-same
-state-same toSettle table = unit-same
-state-same (atBlock b) table = unit-same
-state-same (toWrite b) table = unit-same
-state-same (toFetch b) table = unit-same
-state-same (toLandFetch b) table = fetch-same table b
-state-same (toLand b page) table = write-same table b
+state-same : (p : Purpose) (b : Block) (table : List ℕ) → stateTest p (conditionOf table b) ⇔ RightState p b table
+state-same toServe b table = unit-same
+state-same toSettle b table = unit-same
+state-same toWrite b table = unit-same
+state-same toFetch b table = unit-same
+state-same toLandFetch b table = fetch-same table b
+state-same (toLand page) b table = write-same table b
 
 never : false ⇔ ⊥
 never = (λ h. clash h refl, λ h. absurd h)
 
-another-same : (a : Aim) (table : List ℕ) → opensAnother a (conditionOf table (blockFor a)) ⇔ OpensAnother a table
-another-same atNone table = never
-another-same toSettle table = never
-another-same (atBlock b) table = never
-another-same (toWrite b) table = clean-same table b
-another-same (toFetch b) table = unit-same
-another-same (toLandFetch b) table = never
-another-same (toLand b page) table = never
+another-same : (p : Purpose) (b : Block) (table : List ℕ) → opensAnother p (conditionOf table b) ⇔ OpensAnother p b table
+another-same toServe b table = never
+another-same toSettle b table = never
+another-same toWrite b table = clean-same table b
+another-same toFetch b table = unit-same
+another-same toLandFetch b table = never
+another-same (toLand page) b table = never
 
 most-same : (m n : ℕ) → leb m n ⇔ (m ≤ n)
 most-same m n = (leb-true m n, le-leb m n)
@@ -81,18 +79,18 @@ unfolding test
 same badLimits c x = none-same (within (labelFor (kind c) x))
 same noLabel c x = none-same (label-same (x .images .ssd))
 same badRecord c x = none-same (record-same (x .state))
-same wrongLength c x = none-same (lengths-same (labelFor (kind c) x) (aim c) (x .images) (x .table))
+same wrongLength c x = none-same (lengths-same (labelFor (kind c) x) (aim c .purpose) (x .images) (x .table))
 same badRows c x = none-same (contents-same (kind c) x)
 same wrongPhase c x = none-same (phase-same (kind c) (x .state .phase))
-same blockTooHigh c x = most-same (x .state .blocks) (blockFor (aim c) .0)
-same slotOpen c x = open-same (x .table) (blockFor (aim c))
-same wrongState c x = none-same (state-same (aim c) (x .table))
-same hasSlot c x = cached-same (x .table) (blockFor (aim c))
-same windowFull c x = and-same (another-same (aim c) (x .table)) (most-same 63 (openRows (x .table)))
+same blockTooHigh c x = most-same (x .state .blocks) (aim c .block .0)
+same slotOpen c x = open-same (x .table) (aim c .block)
+same wrongState c x = none-same (state-same (aim c .purpose) (aim c .block) (x .table))
+same hasSlot c x = cached-same (x .table) (aim c .block)
+same windowFull c x = and-same (another-same (aim c .purpose) (aim c .block) (x .table)) (most-same 63 (openRows (x .table)))
 same allOpen c x =
-    and-same (none-same (cached-same (x .table) (blockFor (aim c))))
+    and-same (none-same (cached-same (x .table) (aim c .block)))
     (each-same _ (λ s b f. writing f ≡ true) (λ s b f. is-same (writing f)) (x .table))
-same stampsSpent c x = and-same (is-same (storesMeta (plan c x))) (most-same (stampBound (aim c)) (x .state .newest))
+same stampsSpent c x = and-same (is-same (storesMeta (plan c x))) (most-same (stampBound (aim c .purpose)) (x .state .newest))
 
 -- the first reason of a chain whose condition holds
 first-why : (rs : List Reason) (t : Reason → Bool) (why : Reason → Type 0) → ((q : Reason) → t q ⇔ why q)
@@ -109,7 +107,8 @@ first-why (q ∷ rs) t why e r = go (told (t q)) (first-why rs t why e r)
     passed h ih (inr p) = first-no t q rs h ∙ ih (p .1)
 
     go : Told (t q) → (firstOf rs t ≡ some r) ↔ FirstWhy rs r why → (firstOf (q ∷ rs) t ≡ some r) ↔ FirstWhy (q ∷ rs) r why
-    go (told-true h) ih = (λ k. let i = Option·some-injective q r (sym (first-yes t q rs h) ∙ k) in inl (i, subst why i (e q .0 h)), taken h)
+    go (told-true h) ih =
+        (λ k. let i = Option·some-injective q r (sym (first-yes t q rs h) ∙ k) in inl (i, subst why i (e q .0 h)), taken h)
     go (told-false h) ih = (λ k. inr (λ w. clash (e q .1 w) h, ih .0 (sym (first-no t q rs h) ∙ k)), passed h (ih .1))
 
 -- every chain is in the order of judging, so that its first reason is the one of least rank

@@ -27,7 +27,7 @@ use Rattle.protocol.specs.declared.Phase.{Phase}
 use Rattle.protocol.specs.declared.Phase.the-variants.{Formatting, Recovering, Ready}
 use Rattle.protocol.specs.Rows.{labelIn, windowIn}
 use Rattle.protocol.specs.Box.{Images}
-use Rattle.protocol.specs.Kinds.{Aim, atNone, toSettle, atBlock, toWrite, toFetch, toLandFetch, toLand}
+use Rattle.protocol.specs.Kinds.{Purpose, toServe, toSettle, toWrite, toFetch, toLandFetch, toLand}
 use Rattle.protocol.specs.Judge.{isLabel, labelTest, stepsTest, zeroSlots, recordTest, pageLengthTest, lengthsTest, lengthTest}
 use Rattle.protocol.specs.Why.{HasLabel, RecordRule, PageLength, Lengths}
 use Rattle.protocol.proofs.why.Basics.{unit-same}
@@ -132,28 +132,27 @@ record-same r = (
       ),
 )
 
-page-same : (a : Aim) → pageLengthTest a ⇔ PageLength a
-page-same atNone = unit-same
+page-same : (p : Purpose) → pageLengthTest p ⇔ PageLength p
+page-same toServe = unit-same
 page-same toSettle = unit-same
-page-same (atBlock b) = unit-same
-page-same (toWrite b) = unit-same
-page-same (toFetch b) = unit-same
-page-same (toLandFetch b) = unit-same
-page-same (toLand b page) = (eqb-true _ _, eq-eqb _ _)
+page-same toWrite = unit-same
+page-same toFetch = unit-same
+page-same toLandFetch = unit-same
+page-same (toLand page) = (eqb-true _ _, eq-eqb _ _)
 
-pub lengths-same : (l : Label) (a : Aim) (im : Images) (table : List ℕ)
-    → (lengthTest l im table && pageLengthTest a) ⇔ Lengths l a im table
+pub lengths-same : (l : Label) (u : Purpose) (im : Images) (table : List ℕ)
+    → (lengthTest l im table && pageLengthTest u) ⇔ Lengths l u im table
 unfolding lengthTest lengthsTest
-lengths-same l a im table = (
+lengths-same l u im table = (
   λ h.
-      let p = and-parts (lengthTest l im table) (pageLengthTest a) h in
+      let p = and-parts (lengthTest l im table) (pageLengthTest u) h in
       let q = and-parts (eqb (length (im .ssd)) (ssdLength l)) _ (p .0) in
       let r = and-parts (eqb (length (im .hdd)) (hddLength l)) _ (q .1) in
       record {
         ssd-length = eqb-true _ _ (q .0);
         hdd-length = eqb-true _ _ (r .0);
         table-length = eqb-true _ _ (r .1);
-        page-length = page-same a .0 (p .1);
+        page-length = page-same u .0 (p .1);
       },
-  λ h. rw (eq-eqb _ _ (h .ssd-length), eq-eqb _ _ (h .hdd-length), eq-eqb _ _ (h .table-length), page-same a .1 (h .page-length)),
+  λ h. rw (eq-eqb _ _ (h .ssd-length), eq-eqb _ _ (h .hdd-length), eq-eqb _ _ (h .table-length), page-same u .1 (h .page-length)),
 )
