@@ -8,8 +8,7 @@ use lib.Dec.{eqb}
 use borrow.Author.Tests.{eqb-true}
 use Rattle.record.specs.declared.Record.{Record}
 use Rattle.protocol.specs.Paper.{Paper, refusal, answer, refused}
-use Rattle.layout.proofs.Booleans.{clash}
-use Rattle.protocol.proofs.model.Base.{and-left}
+use Rattle.layout.proofs.Booleans.{clash, and-parts}
 use Rattle.c_record.specs.Words.{wordsOf, isRecord}
 use Rattle.c_record.specs.Codes.{codeOf, slotAfter, closedBy}
 
@@ -29,4 +28,4 @@ answered-closed (answer n s) r words after slot next code e h p q = rw (e, p, q)
 -- words that are a record are 71
 pub record-length : (words : List ℕ) → isRecord words ≡ true → length words ≡ 71
 unfolding isRecord
-record-length words h = eqb-true _ _ (and-left (eqb (length words) 71) _ h)
+record-length words h = eqb-true _ _ (and-parts (eqb (length words) 71) _ h .0)

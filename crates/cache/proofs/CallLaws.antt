@@ -15,13 +15,14 @@ use Rattle.record.specs.declared.Record.{Record}
 use Rattle.protocol.specs.declared.Condition.{Condition}
 use Rattle.protocol.specs.declared.Condition.the-variants.{NotCached, Clean, Dirty}
 use Rattle.protocol.specs.Paper.{overwrite, nothingToDo}
-use Rattle.protocol.specs.Rows.{rowFlags, withWriting}
+use Rattle.protocol.specs.Rows.{rowFlags, withWriting, openRows, allWriting}
 use Rattle.record.specs.Record.{labelIn, largestStamp}
 use Rattle.protocol.specs.Box.{Box, Effect, refusing, left}
-use Rattle.protocol.specs.Condition.{conditionOf}
+use Rattle.protocol.specs.Condition.{conditionOf, isOpen, isCached, takesWrite, takesFetch}
 use Rattle.protocol.specs.Plan.{Call, flush, offer, fetch, landFetch, lookUp, view, writeBack, land, stay, opens, confirms, lookingUp, writingBack, landing, landingFetch, offering, fetching, flushing, sweeps, storesMeta, plan}
+use Rattle.protocol.specs.Kinds.{toWrite, toFetch}
 use Rattle.protocol.specs.Perform.{perform}
-use Rattle.protocol.specs.Judge.{Reason, slotOpen, wrongState, hasSlot, windowFull, allOpen, stampsSpent, isOpen, isCached, takesWrite, takesFetch, opensAnother, openRows, allWriting, test, firstOf, judged}
+use Rattle.protocol.specs.Judge.{Reason, slotOpen, wrongState, hasSlot, windowFull, allOpen, stampsSpent, opensAnother, test, firstOf, judged}
 use Rattle.protocol.specs.Calls.{resultOf, boxOf, lookUpOf, writeBackOf, landOf, landFetchOf, offerOf, fetchOf, flushOf, viewed, viewPart, viewOf}
 use Rattle.layout.proofs.Booleans.{Told, told, told-true, told-false}
 use Rattle.serving.specs.Judging.{refuseIf, readyThen, servesThen}
@@ -184,7 +185,7 @@ module _ (ssd hdd t : List ℕ) (r : Record) (b : Block) (z : servesThen (length
   unfolding test plan
   fetch-swept e = sweeps-so (fetch b) w b 5
       (fetch-asked ∙ first-no _ slotOpen _ (ap isOpen e) ∙ first-no _ hasSlot _ (ap isCached e))
-      (ap (λ (k : Condition). opensAnother (fetch b) k && leb 63 (openRows t)) e)
+      (ap (λ (k : Condition). opensAnother toFetch k && leb 63 (openRows t)) e)
       (ap (λ (k : Condition). not (isCached k) && allWriting t) e)
       (ap (λ (k : Condition). storesMeta (fetching w b k) && leb (largestStamp - 63) (r .newest)) e)
       (ap (fetching w b) e)
@@ -193,7 +194,7 @@ module _ (ssd hdd t : List ℕ) (r : Record) (b : Block) (z : servesThen (length
   unfolding test plan
   offer-swept e = sweeps-so (offer b) w b 7
       (offer-asked ∙ first-no _ slotOpen _ (ap isOpen e))
-      (ap (λ (k : Condition). opensAnother (offer b) k && leb 63 (openRows t)) e)
+      (ap (λ (k : Condition). opensAnother toWrite k && leb 63 (openRows t)) e)
       (ap (λ (k : Condition). not (isCached k) && allWriting t) e)
       (ap (λ (k : Condition). storesMeta (offering w b k) && leb (largestStamp - 63) (r .newest)) e)
       (ap (offering w b) e)
@@ -202,7 +203,7 @@ module _ (ssd hdd t : List ℕ) (r : Record) (b : Block) (z : servesThen (length
   unfolding test plan
   offer-dirty s e = performs (offer b) w (stay overwrite)
       (offer-asked ∙ first-no _ slotOpen _ (ap isOpen e)
-      ∙ first-no _ windowFull _ (ap (λ (k : Condition). opensAnother (offer b) k && leb 63 (openRows t)) e)
+      ∙ first-no _ windowFull _ (ap (λ (k : Condition). opensAnother toWrite k && leb 63 (openRows t)) e)
       ∙ first-no _ allOpen _ (ap (λ (k : Condition). not (isCached k) && allWriting t) e)
       ∙ first-no _ stampsSpent _ (ap (λ (k : Condition). storesMeta (offering w b k) && leb (largestStamp - 63) (r .newest)) e) ∙ end _)
       (ap (offering w b) e)
@@ -212,14 +213,14 @@ module _ (ssd hdd t : List ℕ) (r : Record) (b : Block) (z : servesThen (length
         → judged (offer b) w ≡ firstOf (stampsSpent ∷ []) (λ q. test q (offer b) w)
     unfolding test
     open-next a = offer-asked ∙ first-no _ slotOpen _ (ap isOpen e)
-        ∙ first-no _ windowFull _ (ap (λ (k : Condition). opensAnother (offer b) k && leb 63 (openRows t)) e ∙ a)
+        ∙ first-no _ windowFull _ (ap (λ (k : Condition). opensAnother toWrite k && leb 63 (openRows t)) e ∙ a)
         ∙ first-no _ allOpen _ (ap (λ (k : Condition). not (isCached k) && allWriting t) e)
 
     pub offer-full : leb 63 (openRows t) ≡ true → left (refusing 11 w) (w .images) ≡ offerOf ssd hdd t r b
     unfolding test
     offer-full a = refused-as (offer b) w windowFull
         (offer-asked ∙ first-no _ slotOpen _ (ap isOpen e)
-        ∙ first-yes _ windowFull _ (ap (λ (k : Condition). opensAnother (offer b) k && leb 63 (openRows t)) e ∙ a))
+        ∙ first-yes _ windowFull _ (ap (λ (k : Condition). opensAnother toWrite k && leb 63 (openRows t)) e ∙ a))
 
     pub offer-spent : leb 63 (openRows t) ≡ false → leb (largestStamp - 63) (r .newest) ≡ true
         → left (refusing 13 w) (w .images) ≡ offerOf ssd hdd t r b

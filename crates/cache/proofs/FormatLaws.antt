@@ -24,8 +24,7 @@ use Rattle.protocol.specs.Plan.{format, plan}
 use Rattle.protocol.specs.Perform.{formatStore, perform}
 use Rattle.protocol.specs.Judge.{lengthsTest, badLimits, wrongLength, lengthTest, test, firstOf, judged}
 use Rattle.protocol.specs.Calls.{boxOf, effectOf, formatOf}
-use Rattle.layout.proofs.Booleans.{Told, told, told-true, told-false}
-use Rattle.protocol.proofs.model.Base.{and-right}
+use Rattle.layout.proofs.Booleans.{Told, told, told-true, told-false, and-parts}
 use Rattle.cache.specs.Format.{formatNumber, tableAfter}
 
 -- one word more is zero
@@ -94,8 +93,8 @@ module _ (ssd hdd table : List ℕ) (state : Record) (slots blocks : ℕ) (l : L
     table-size : lengthsTest l (length ssd) (length hdd) (length table) ≡ true → length table ≡ tableLength (labelOf slots blocks)
     unfolding lengthsTest
     table-size t =
-        let h = and-right (eqb (length ssd) (ssdLength l)) _ t in
-        rw L at (eqb-true (length table) (tableLength l) (and-right (eqb (length hdd) (hddLength l)) _ h))
+        let h = and-parts (eqb (length ssd) (ssdLength l)) _ t .1 in
+        rw L at (eqb-true (length table) (tableLength l) (and-parts (eqb (length hdd) (hddLength l)) _ h .1))
 
     format-begun : (said : Paper) (next : Record) (after : List ℕ) → lengthsTest l (length ssd) (length hdd) (length table) ≡ true
         → said ≡ done → next ≡ recordOf l (record { 0 = 0 }) 0 (Formatting 0) false [] → after ≡ replicate (length table) 0

@@ -42,26 +42,26 @@ number-refuses stampsSpent = omega arith
 -- a call that is refused has a code from 1 to 13
 pub refusal-code : (c : Call) (x : Box) → refused (resultOf c x .said) ≡ true → IsRefusal (codeOf (resultOf c x .said))
 unfolding effectOf
-refusal-code c x h = by-reason (judged c x) h
+refusal-code c x h = by-reason (judged c x) refl h
   where
-    by-reason : (o : Option Reason) → refused (decided o c x .said) ≡ true → IsRefusal (codeOf (decided o c x .said))
-    by-reason (some r) h = number-refuses r
-    by-reason none h = clash h (plan-answers c x)
+    by-reason : (o : Option Reason) → judged c x ≡ o → refused (decided o c x .said) ≡ true → IsRefusal (codeOf (decided o c x .said))
+    by-reason (some r) e h = number-refuses r
+    by-reason none e h = clash h (plan-answers c x e)
 
 -- and changes nothing that was lent
 pub refusal-keeps : (c : Call) (ssd hdd table words : List ℕ) (slot : ℕ) (r : Record)
     → let R = resultOf c (boxOf ssd hdd table r) in refused (R .said) ≡ true
     → leftBy R words slot ≡ kept (codeOf (R .said)) ssd hdd table words slot
 unfolding effectOf
-refusal-keeps c ssd hdd table words slot r h = by-reason (judged c (boxOf ssd hdd table r)) h
+refusal-keeps c ssd hdd table words slot r h = by-reason (judged c (boxOf ssd hdd table r)) refl h
   where
     x : Box
     x = boxOf ssd hdd table r
 
-    by-reason : (o : Option Reason) → let R = left (decided o c x) (x .images) in refused (R .said) ≡ true
+    by-reason : (o : Option Reason) → judged c x ≡ o → let R = left (decided o c x) (x .images) in refused (R .said) ≡ true
         → leftBy R words slot ≡ kept (codeOf (R .said)) ssd hdd table words slot
-    by-reason (some q) h = refl
-    by-reason none h = clash h (plan-answers c x)
+    by-reason (some q) e h = refl
+    by-reason none e h = clash h (plan-answers c x e)
 
 -- any other answer has 0 or a code from 101 on
 pub answer-code : (a : Answer) → refused (paperOf a) ≡ false → (eqb (codeOf (paperOf a)) 0 || leb 101 (codeOf (paperOf a))) ≡ true

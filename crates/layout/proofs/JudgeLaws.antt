@@ -18,7 +18,7 @@ use Rattle.layout.proofs.Loops.{left}
 use Rattle.layout.proofs.RuleLaws.{entry-rule, entries-rule}
 
 -- the window, place by place
-length-firsts : {A : Type 0} (n : ℕ) (f : ℕ → A) → length (firsts n f) ≡ n
+pub length-firsts : {A : Type 0} (n : ℕ) (f : ℕ → A) → length (firsts n f) ≡ n
 unfolding firsts
 length-firsts zero f = refl
 length-firsts (suc n) f = ap suc (length-firsts n (λ k. f (suc k)))
@@ -27,7 +27,7 @@ pub length-window : (page : List ℕ) → length (windowOf page) ≡ countOf pag
 unfolding windowOf
 length-window page = length-firsts (countOf page) (slotAt page)
 
-get-firsts : {A : Type 0} (n : ℕ) (f : ℕ → A) (k : ℕ) (d : A) → k < n → getD (firsts n f) k d ≡ f k
+pub get-firsts : {A : Type 0} (n : ℕ) (f : ℕ → A) (k : ℕ) (d : A) → k < n → getD (firsts n f) k d ≡ f k
 unfolding firsts
 get-firsts zero f k d h = absurd (omega arith)
 get-firsts (suc n) f zero d h = refl

@@ -223,7 +223,7 @@ past-zeros n at k front h q =
     ap (take k) d ∙ zeros-part (at - length front) k (n - length front) (omega arith)
 
 -- a window in range has slot numbers of 32 bits
-range-fit : (l : Label) (w : List Slot) → l .slots ≤ 57600 → inRange l w ≡ true → Fit w
+pub range-fit : (l : Label) (w : List Slot) → l .slots ≤ 57600 → inRange l w ≡ true → Fit w
 unfolding inRange
 range-fit l [] q e k h = absurd (omega arith)
 range-fit l (s ∷ w) q e zero h = omega (arith, ltb-true (s .0) (l .slots) (and-parts (ltb (s .0) (l .slots)) (inRange l w) e .0))

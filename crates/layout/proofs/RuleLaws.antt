@@ -16,7 +16,7 @@ use Rattle.layout.specs.MetaPage.{countOf, slotAt, firsts, windowOf, ent
 use Rattle.layout.specs.Places.{slotOn}
 use Rattle.layout.specs.PageRule.{countTest, CountRule, zeroTest, ZeroRule, listed, distinct, inRange, windowTest, WindowRule, legalFlags, LegalFlags, pairTest, PairRule, entryTest, EntryRule, entriesFrom, entriesTest, EntriesRule, RowTest, passes, pageTest, PageRule}
 use Rattle.layout.proofs.ZeroLaws.{zeros-get, zeros-of}
-use Rattle.layout.proofs.Booleans.{clash, and-of, and-parts, or-cases, or-of, or-use, if-of, if-use, not-of}
+use Rattle.layout.proofs.Booleans.{and-of, and-parts, or-cases, or-of, or-use, if-of, if-use, not-of, or-neither}
 
 -- a test and a proposition say the same
 infix 4 _⇔_
@@ -57,10 +57,6 @@ range-of : (l : Label) (n : ℕ) (f : ℕ → Slot) → ((k : ℕ) → k < n →
 unfolding inRange firsts
 range-of l zero f h = refl
 range-of l (suc n) f h = and-of (lt-ltb _ _ (h 0 (omega arith))) (range-of l n (λ i. f (suc i)) (λ k q. h (suc k) (omega arith)))
-
-or-neither : (a b : Bool) → (a || b) ≡ false → (a ≡ false) × (b ≡ false)
-or-neither true b e = clash refl e
-or-neither false b e = (refl, e)
 
 unlisted-get : (s : Slot) (n : ℕ) (f : ℕ → Slot) → listed s (firsts n f) ≡ false → (k : ℕ) → k < n → s .0 ≢ f k .0
 unfolding listed firsts

@@ -25,6 +25,7 @@ use Rattle.protocol.proofs.model.Model.{Row, Model, Plain, Mending}
 use Rattle.protocol.proofs.Windows.{nums}
 use Rattle.protocol.proofs.Flags.{rowOf}
 use Rattle.protocol.proofs.Tables.{rowAt, Rows}
+use Rattle.protocol.proofs.Sound.{Sound}
 
 -- everything of a reachable box but its label
 pub record Core : Type 0 where
@@ -88,6 +89,11 @@ pub record Shape (l : Label) (k : Core) : Type 0 where
   pub table-size : length (k .table) ≡ tableLength l
   pub hand-ok : k .hand .0 < l .slots
   pub rows : Rows l (k .table)
+
+-- table and window of a ready box are sound
+pub ready-sound : (l : Label) (k : Core) → Shape l k → (p : Plain) → model.Ready (abs l k) p → Sound l (k .table) (k .window)
+unfolding abs
+ready-sound l k S p R = record { size = S .table-size; legal = S .rows; rule = R .win-rule; open-is = R .open-row }
 
 -- the reference disk, as far as the blocks go
 pub record Agrees (l : Label) (d : Disk) (p : Plain) : Type 0 where

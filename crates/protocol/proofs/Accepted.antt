@@ -1,23 +1,30 @@
 -- A box that passes 3, 4 and 5, whatever it is: what its record and its table are.
 use Prim.Native.Nat.{_<_}
-use mathlib.Core.Path.{_≡_, sym}
+use mathlib.Core.Path.{_≡_, sym, refl, subst}
 use mathlib.Core.Bool.{Bool, true, false, not, _&&_}
-use native.Mathlib.Omega.{arith}
+use mathlib.Core.Option.{none}
 use lib.ListN.{length}
 use borrow.Author.Tests.{ltb-true, eqb-true, not-false}
 use Rattle.layout.specs.Places.{Limits, ssdLength, hddLength, tableLength}
 use Rattle.layout.proofs.PlaceLaws.{within}
+use Rattle.layout.proofs.Booleans.{clash, and-parts}
+use Rattle.record.specs.declared.Phase.{Phase}
+use Rattle.record.specs.declared.Phase.the-variants.{Formatting, Recovering, Ready}
 use Rattle.record.specs.Record.{labelIn, windowIn}
 use Rattle.layout.specs.Window.{arrayOf}
+use Rattle.protocol.specs.Rows.{eachRow}
 use Rattle.protocol.specs.Box.{Box}
+use Rattle.protocol.specs.Plan.{Call, step}
+use Rattle.protocol.specs.Kinds.{Aim, aService, kind}
+use Rattle.protocol.specs.Judge.{badRecord, wrongLength, badRows, wrongPhase, lengthsTest, lengthTest, rowTest, agreeTest, rowsTest, isReady, pageLengthTest, test, judged}
 use Rattle.record.specs.Rule.{stepsTest, recordTest}
-use Rattle.protocol.specs.Judge.{lengthsTest, lengthTest, rowTest, eachRow, agreeTest, rowsTest}
-use Rattle.layout.proofs.Booleans.{and-parts}
 use Rattle.record.proofs.RecordLaws.{parts, window-length, window-array}
 use Rattle.protocol.proofs.model.Base.{Window}
 use Rattle.protocol.proofs.Windows.{nums, window-of}
-use Rattle.protocol.proofs.Flags.{legal-row}
-use Rattle.protocol.proofs.Tables.{Rows, each-get}
+use Rattle.protocol.proofs.Tables.{Rows}
+use Rattle.protocol.proofs.Judged.{passed, passed-first}
+use Rattle.protocol.proofs.Sound.{Sound, sound-of, rows-legal}
+use Rattle.protocol.proofs.why.RowsRules.{agree-same}
 
 pub record Legal (x : Box) : Type 0 where
   pub limits : Limits (labelIn (x .state))
@@ -52,8 +59,7 @@ legal x e f g =
       ssd-size = eqb-true _ _ (q1 .0);
       hdd-size = eqb-true _ _ (q2 .0);
       table-size = size;
-      rows = λ s h. legal-row (labelIn (x .state)) _ _
-          (each-get (λ s block flags. rowTest (labelIn (x .state)) block flags) 0 (x .table) (r1 .0) s (omega arith));
+      rows = rows-legal (labelIn (x .state)) (x .table) size .0 (r1 .0);
       agree = r1 .1;
     }
 
@@ -62,3 +68,31 @@ pub legal-judged : (x : Box) (t : Bool) → not (recordTest (x .state)) ≡ fals
     → not (lengthTest (labelIn (x .state)) (x .images) (x .table) && t) ≡ false → not (rowsTest (x .state) (x .table)) ≡ false → Legal x
 legal-judged x t e f g = legal x (not-false _ e) (and-parts (lengthTest (labelIn (x .state)) (x .images) (x .table)) t (not-false _ f) .0)
     (not-false _ g)
+
+-- of a step, or of a service, that no reason refuses
+pub step-legal : (x : Box) → judged step x ≡ none → Legal x
+unfolding test
+step-legal x e = let q = passed step x e in legal-judged x true (q badRecord refl) (q wrongLength refl) (q badRows refl)
+
+module _ (c : Call) (x : Box) {a : Aim} (k : kind c ≡ aService a) (e : judged c x ≡ none) where
+  pub service-legal : Legal x
+  unfolding test
+  service-legal =
+      let q = passed-first c x e k in
+      legal-judged x (pageLengthTest (a .purpose)) (q badRecord refl) (rw k at (q wrongLength refl)) (rw k at (q badRows refl))
+
+  pub service-ready : x .state .phase ≡ Ready
+  unfolding test
+  service-ready = ready-of (x .state .phase) (rw k at (passed-first c x e k wrongPhase refl))
+    where
+      ready-of : (p : Phase) → not (isReady p) ≡ false → p ≡ Ready
+      ready-of Ready q = refl
+      ready-of Recovering q = clash {b = true} refl q
+      ready-of (Formatting d) q = clash {b = true} refl q
+
+-- a legal box that is ready is sound
+pub legal-sound : (x : Box) → Legal x → x .state .phase ≡ Ready → Sound (labelIn (x .state)) (x .table) (windowIn (x .state))
+legal-sound x L on =
+    sound-of (labelIn (x .state)) (x .table) (windowIn (x .state)) (L .table-size) (L .rows) (L .window-rule)
+    (agree-same Ready (x .table) (windowIn (x .state)) .0
+    (subst (λ (p : Phase). agreeTest p (x .table) (windowIn (x .state)) ≡ true) on (L .agree)))

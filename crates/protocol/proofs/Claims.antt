@@ -1,40 +1,41 @@
 -- What holds of every reachable world: reads, look-ups, flushes, reopenings and mending.
-use Prim.Native.Nat.{ℕ, zero, suc, _+_, _-_, _*_, _≤_, _<_}
+use Prim.Native.Nat.{ℕ, zero, suc, _≤_, _<_}
 use mathlib.Core.Path.{_≡_, refl, sym, ap, subst, _∙_}
 use mathlib.Core.Bool.{Bool, true, false, not, _&&_}
-use mathlib.Core.List.{List, [], _∷_, List·Memᴰ}
+use mathlib.Core.List.{[]}
 use mathlib.Core.Option.{Option, some, none}
 use native.Mathlib.Omega.{arith}
 use lib.ListN.{length}
+use borrow.Author.Tests.{not-true}
 use Rattle.pages.specs.Pages.{pageAt}
 use Rattle.layout.specs.declared.Slot.{Slot}
 use Rattle.layout.specs.declared.Block.{Block}
 use Rattle.layout.specs.declared.Label.{Label}
-use Rattle.layout.specs.Places.{dataPlace, metaPages, tableLength}
-use Rattle.layout.specs.PageRule.{listed}
+use Rattle.layout.specs.Places.{dataPlace, tableLength}
 use Rattle.protocol.specs.Paper.{refused, inSlot}
-use Rattle.protocol.specs.Box.{Images, Box, Effect, Result, left, boxAfter}
-use Rattle.protocol.specs.Recovery.{offPage}
-use Rattle.protocol.specs.Plan.{Call, format, step, flush, reopen, offer, fetch, landFetch, lookUp, view, writeBack, land, lowestPage, flushing, plan}
+use Rattle.protocol.specs.Box.{Box, boxAfter}
+use Rattle.protocol.specs.Plan.{Call, format, step, flush, reopen, lookUp, flushing, plan}
+use Rattle.protocol.specs.Kinds.{kind}
 use Rattle.protocol.specs.Perform.{confirmed, perform}
-use Rattle.protocol.specs.Judge.{Reason, isEmpty, isReady, judged, test, chain}
+use Rattle.protocol.specs.Judge.{Reason, wrongPhase, isReady, judged, test}
 use Rattle.protocol.specs.Calls.{decided, effectOf, resultOf, viewOf}
-use Rattle.protocol.specs.ReferenceDisk.{Disk, MayBe}
-use Rattle.protocol.specs.Events.{World, Junk, Event, call, reopens, cut, called, lent, readOf, mayFinish, finished, handed, takenIf, reopened, struck, steps, apply, CallFits, Fits}
+use Rattle.protocol.specs.ReferenceDisk.{MayBe}
+use Rattle.protocol.specs.Events.{World, Junk, Event, call, reopens, cut, called, lent, readOf, mayFinish, finished, handed, takenIf, reopened, struck, steps, apply, Fits}
 use Rattle.protocol.specs.Demand3.{Reopening, own, whole, broken, before, reopenedBox, finishes, Mends}
-use Rattle.layout.proofs.Booleans.{Told, told, told-true, told-false, clash}
-use Rattle.protocol.proofs.model.Base.{and-left, and-right}
+use Rattle.layout.proofs.Booleans.{clash, and-parts}
 use Rattle.protocol.proofs.model.Model as model
-use Rattle.protocol.proofs.model.Model.{Model, Plain, Stored, Mending}
+use Rattle.protocol.proofs.model.Model.{Plain, Mending}
 use Rattle.protocol.proofs.model.View as seen
-use Rattle.protocol.proofs.Windows.{nums, length-nums}
-use Rattle.protocol.proofs.ReadyCalls.{called-as, calledAs, worldOf}
+use Rattle.protocol.proofs.Windows.{length-nums}
+use Rattle.protocol.proofs.Judged.{passed}
+use Rattle.protocol.proofs.Sorted.{Sorted, is-format, is-reopen, is-step, is-service, sorted}
+use Rattle.protocol.proofs.ReadyCalls.{worldOf}
 use Rattle.protocol.proofs.Passes.{flush-judged, step-judged, some-pending, pending-rule}
 use Rattle.protocol.proofs.Views.{view-number, read-view, look-page}
 use Rattle.protocol.proofs.Reopens.{reopenedCore, reopen-shape}
 use Rattle.protocol.proofs.MendingCalls.{finishedWorld, finish-allowed, fewer, mendedCore, mended-here, mended-core-shape, mended-core-abs, step-plan, step-world, reopened-here, reopen-world}
-use Rattle.protocol.proofs.Reachable.{facts, at-core, to-core, core-inv, inv-stored, handed-images, reopen-taken, struck-inv, table-right}
-use Rattle.protocol.proofs.Abstract.{Core, phaseFor, boxOfCore, abs, Shape, Agrees, Phased, is-ready, is-mending, Inv}
+use Rattle.protocol.proofs.Reachable.{at-core, inv-stored, reopen-taken, struck-inv, table-right}
+use Rattle.protocol.proofs.Abstract.{Core, phaseFor, boxOfCore, abs, Shape, Phased, is-ready, is-mending, Inv}
 
 pub ready-off : (r : Bool) → isReady (phaseFor r) ≡ true → r ≡ false
 ready-off true e = sym e
@@ -183,10 +184,6 @@ taken-of l w I e f (whole j h) = handed-taken l w I (handed j (w .box)) refl h
 taken-of l w I e f (broken c a j h) = handed-taken l (struck c a w) (struck-inv l c a w (f .0) I) (handed j (struck c a w .box)) refl h
 
 -- a finished reopening: each block reads as one of its contents
-not-of : (b : Bool) → not b ≡ true → b ≡ false
-not-of true e = sym e
-not-of false e = refl
-
 called-box : (c : Call) (w : World) → called c w .box ≡ boxAfter (resultOf c (w .box))
 unfolding called
 called-box c w = refl
@@ -205,13 +202,13 @@ module _ (l : Label) (v : World) (I : Inv l v) (x : Box) (im : x .images ≡ v .
       let r = refused (resultOf reopen x .said) in
       let q = isReady (resultOf reopen x .state .phase) in
       let size = table-right l (I .core) (I .plain) (I .shape .images) (inv-stored I) x images-are
-      (not-of r (and-left (not r) (true && q) f)) in
+      (not-true r (and-parts (not r) (true && q) f .0)) in
       let e = after-reopen size in
       let ph : q ≡ isReady (phaseFor (reopenedCore l (I .core) .recovering)) =
       ap (λ (y : Box). isReady (y .state .phase)) (sym (called-box reopen (record { box = x; disk = v .disk })))
       ∙ ap (λ (z : World). isReady (z .box .state .phase)) e in
       let done : reopenedCore l (I .core) .recovering ≡ false =
-      ready-off (reopenedCore l (I .core) .recovering) (sym ph ∙ and-right (not r) (true && q) f) in
+      ready-off (reopenedCore l (I .core) .recovering) (sym ph ∙ and-parts (not r) (true && q) f .1) in
       rw e
       (finish-allowed l (reopenedCore l (I .core)) (reopen-shape l (I .core) (I .plain) (I .shape .images) (inv-stored I)) (I .plain)
       (v .disk) (I .agrees)
@@ -220,7 +217,7 @@ module _ (l : Label) (v : World) (I : Inv l v) (x : Box) (im : x .images ≡ v .
 -- a ready box makes no step
 wrong : (l : Label) (k : Core) → judged step (boxOfCore l k) ≡ none → not (not (isReady (phaseFor (k .recovering)))) ≡ false
 unfolding test
-wrong l k q = facts step (boxOfCore l k) q .1 .1 .1 .0
+wrong l k q = passed step (boxOfCore l k) q wrongPhase refl
 
 step-refused : (l : Label) (k : Core) → k .recovering ≡ false → refused (resultOf step (boxOfCore l k) .said) ≡ true
 unfolding effectOf
@@ -235,7 +232,7 @@ no-step : {A : Type 0} (l : Label) (k : Core) → k .recovering ≡ false → fi
 no-step l k e f =
     let r = refused (resultOf step (boxOfCore l k) .said) in
     let q = isReady (resultOf step (boxOfCore l k) .state .phase) in
-    clash (step-refused l k e) (not-of r (and-left (not r) (true && q) f))
+    clash (step-refused l k e) (not-true r (and-parts (not r) (true && q) f .0))
 
 -- a step that finishes
 step-allowed : (l : Label) (w : World) (I : Inv l w) → finished step (resultOf step (w .box)) ≡ true → (b : Block) → b .0 < l .blocks
@@ -258,7 +255,7 @@ step-allowed l w I f b h = at-core (λ v. finished step (resultOf step (v .box))
             ap (λ (y : Box). isReady (y .state .phase)) (sym (called-box step (worldOf l (I .core) (w .disk))))
             ∙ ap (λ (z : World). isReady (z .box .state .phase)) e in
             let done : mendedCore (I .core) .recovering ≡ false =
-            ready-off (mendedCore (I .core) .recovering) (sym ph ∙ and-right (not f) (true && q) g) in
+            ready-off (mendedCore (I .core) .recovering) (sym ph ∙ and-parts (not f) (true && q) g .1) in
             rw e
             (finish-allowed l (mendedCore (I .core)) (mended-core-shape l (I .core) (I .shape) (I .plain) M r) (I .plain) (w .disk)
             (I .agrees)
@@ -275,27 +272,24 @@ junk-allowed : (l : Label) (j : Junk) (v : World) → Inv l v → finished reope
 junk-allowed l j v I f b h =
     let r = refused (resultOf reopen (handed j (v .box)) .said) in
     let q = isReady (resultOf reopen (handed j (v .box)) .state .phase) in
-    rw (reopened-taken j v (not-of r (and-left (not r) (true && q) f))) (reopen-allowed l v I (handed j (v .box)) refl f b h)
+    rw (reopened-taken j v (not-true r (and-parts (not r) (true && q) f .0))) (reopen-allowed l v I (handed j (v .box)) refl f b h)
 
 -- a call that is neither a step nor a reopening finishes none
-no-finish : {A : Type 0} (c : Call) (w : World) → mayFinish c ≡ false → finished c (resultOf c (w .box)) ≡ true → A
+no-finish : {A : Type 0} (c : Call) (w : World) → mayFinish (kind c) ≡ false → finished c (resultOf c (w .box)) ≡ true → A
 no-finish c w m f =
     let r = not (refused (resultOf c (w .box) .said)) in
     let q = isReady (resultOf c (w .box) .state .phase) in
-    clash (and-left (mayFinish c) q (and-right r (mayFinish c && q) f)) m
+    clash (and-parts (mayFinish (kind c)) q (and-parts r (mayFinish (kind c) && q) f .1) .0) m
+
+call-allowed : (l : Label) (w : World) → Inv l w → {c : Call} → Sorted c → finished c (resultOf c (w .box)) ≡ true → (b : Block)
+    → b .0 < l .blocks → MayBe (w .disk) b (readOf (called c w .box) b)
+call-allowed l w I (is-format slots blocks) g b h = no-finish (format slots blocks) w refl g
+call-allowed l w I is-step g b h = step-allowed l w I g b h
+call-allowed l w I is-reopen g b h = reopen-allowed l w I (w .box) refl g b h
+call-allowed l w I (is-service {c} q _) g b h = no-finish c w (ap mayFinish q) g
 
 pub allowed-of : (l : Label) (w : World) → Inv l w → (e : Event) → Fits l e w → finishes e w ≡ true → (b : Block) → b .0 < l .blocks
     → MayBe (before e w .disk) b (readOf (apply e w .box) b)
-allowed-of l w I (call (format slots blocks)) f g b h = no-finish (format slots blocks) w refl g
-allowed-of l w I (call step) f g b h = step-allowed l w I g b h
-allowed-of l w I (call flush) f g b h = no-finish flush w refl g
-allowed-of l w I (call reopen) f g b h = reopen-allowed l w I (w .box) refl g b h
-allowed-of l w I (call (offer c)) f g b h = no-finish (offer c) w refl g
-allowed-of l w I (call (fetch c)) f g b h = no-finish (fetch c) w refl g
-allowed-of l w I (call (landFetch c)) f g b h = no-finish (landFetch c) w refl g
-allowed-of l w I (call (lookUp c)) f g b h = no-finish (lookUp c) w refl g
-allowed-of l w I (call (view c)) f g b h = no-finish (view c) w refl g
-allowed-of l w I (call (writeBack c)) f g b h = no-finish (writeBack c) w refl g
-allowed-of l w I (call (land c page)) f g b h = no-finish (land c page) w refl g
+allowed-of l w I (call c) f g b h = call-allowed l w I (sorted c) g b h
 allowed-of l w I (reopens j) f g b h = junk-allowed l j w I g b h
 allowed-of l w I (cut c a j) f g b h = junk-allowed l j (struck c a w) (struck-inv l c a w (f .0) I) g b h

@@ -1,24 +1,25 @@
 -- What a block's condition says of the table.
-use Prim.Native.Nat.{ℕ, zero, suc, _+_, _-_, _*_, _/_, _%_, _≤_, _<_}
-use mathlib.Core.Path.{_≡_, refl, sym, ap, subst, _∙_}
+use Prim.Native.Nat.{ℕ, zero, suc, _+_, _*_, _<_}
+use mathlib.Core.Path.{_≡_}
 use mathlib.Core.Logic.{_≢_}
-use mathlib.Core.Bool.{Bool, true, false, cond, not, _&&_, _||_}
-use mathlib.Core.List.{List, [], _∷_, _++_}
+use mathlib.Core.Bool.{true, false, _&&_}
+use mathlib.Core.List.{List, [], _∷_}
 use mathlib.Core.Option.{Option, some, none}
 use native.Mathlib.Omega.{arith}
 use native.Mathlib.Nat.{zero-add}
 use lib.ListN.{length, getD}
 use lib.Dec.{eqb}
+use borrow.Author.Tests.{eqb-true}
 use Rattle.layout.specs.declared.Slot.{Slot}
 use Rattle.layout.specs.declared.Block.{Block}
 use Rattle.layout.specs.declared.Label.{Label}
 use Rattle.layout.specs.Places.{tableLength}
 use Rattle.protocol.specs.declared.Condition.{Condition}
 use Rattle.protocol.specs.declared.Condition.the-variants.{NotCached, Clean, Dirty, Writing, Fetching}
-use Rattle.protocol.specs.Rows.{rowFlags, valid, dirty, writing}
-use Rattle.protocol.specs.Condition.{slotFrom, slotOf, openAs, closedAs, conditionAt, conditionOf}
-use Rattle.layout.proofs.Booleans.{Told, told, told-true, told-false, clash}
-use Rattle.protocol.proofs.model.Base.{and-left, and-right, eqb-same, eqb-is}
+use Rattle.protocol.specs.Rows.{valid, dirty, writing}
+use Rattle.protocol.specs.Condition.{slotFrom, conditionAt, conditionOf}
+use Rattle.layout.proofs.Booleans.{Told, told, told-true, told-false, clash, and-parts}
+use Rattle.protocol.proofs.model.Base.{eqb-same}
 
 -- what a search among rows from slot k on finds
 pub data Located (k : ℕ) (t : List ℕ) (b : ℕ) : Option Slot → Type 0 where
@@ -54,7 +55,7 @@ located k (x ∷ f ∷ t) b = go (told (valid f && eqb x (b .0))) (located (suc 
     go (told-true e) L =
         let z : k + 0 ≡ k = omega arith in
         let first : Located k (x ∷ f ∷ t) (b .0) (some (record { 0 = k + 0 })) =
-        at 0 (omega arith) (and-left (valid f) (eqb x (b .0)) e) (eqb-is _ _ (and-right (valid f) (eqb x (b .0)) e))
+        at 0 (omega arith) (and-parts (valid f) (eqb x (b .0)) e .0) (eqb-true _ _ (and-parts (valid f) (eqb x (b .0)) e .1))
         (λ j q. absurd (omega arith))
         in
         rw e (rw z at first)

@@ -2,7 +2,7 @@
 use Prim.Native.Nat.{ℕ, suc, _+_, _-_, _*_, _<_}
 use mathlib.Core.Path.{_≡_, refl, sym, ap, subst, _∙_}
 use mathlib.Core.Logic.{_≢_}
-use mathlib.Core.Bool.{Bool, true, false, not}
+use mathlib.Core.Bool.{Bool, true, false}
 use mathlib.Core.List.{List}
 use mathlib.Core.Option.{Option, some, none}
 use native.Mathlib.Omega.{arith}
@@ -20,14 +20,13 @@ use Rattle.protocol.specs.Condition.{conditionOf}
 use Rattle.protocol.specs.Sweep.{Victim, sweepFrom, sweep}
 use Rattle.protocol.specs.Plan.{offer, Move, copies, takesAs, takes, offering, plan}
 use Rattle.protocol.specs.Perform.{confirmed, perform}
-use Rattle.protocol.specs.Judge.{Reason, test, judged}
+use Rattle.protocol.specs.Judge.{Reason, judged}
 use Rattle.protocol.specs.Calls.{decided, effectOf, resultOf}
 use Rattle.protocol.specs.Beside.{CopiesOnce}
 use Rattle.layout.proofs.Booleans.{clash}
 use Rattle.protocol.proofs.Flags.{Flags, f0, f1, f3, f5, f7, f9, f11, f13, f15}
 use Rattle.protocol.proofs.Sweeps.{Alike, alike-same, Swept, took, swept}
-use Rattle.protocol.proofs.Reachable.{facts}
-use Rattle.protocol.proofs.Accepted.{Legal, legal-judged}
+use Rattle.protocol.proofs.Accepted.{Legal, service-legal}
 
 -- the answers are not the same
 number : Paper → ℕ
@@ -37,13 +36,6 @@ number (answer n s) = n
 isRefusal : Paper → Bool
 isRefusal (refusal n) = true
 isRefusal (answer n s) = false
-
--- an offer that no reason refuses finds a legal box
-offer-legal : (b : Block) (x : Box) → judged (offer b) x ≡ none → Legal x
-unfolding test
-offer-legal b x e =
-    let f = facts (offer b) x e in
-    legal-judged x true (f .0) (f .1 .0) (f .1 .1 .0)
 
 -- who answers "copied out": a sweep that took a dirty slot
 data CopyingOut (x : Box) (b : Block) : Move → Type 0 where
@@ -152,7 +144,7 @@ module _ (b : Block) (x : Box) (L : Legal x) (v : Victim) (low : v .slot .0 < x 
 pub copies-once : (b : Block) (x : Box) → CopiesOnce b x
 unfolding x′
 copies-once b x e again =
-    let L = offer-legal b x (none-copied b x e) in
+    let L = service-legal (offer b) x refl (none-copied b x e) in
     go L (left-by x b e)
     (swept (2 * x .state .label .slots) (labelIn (x .state)) (x .table) (x .table)
     (alike-same (labelIn (x .state)) (x .table) (L .table-size) (L .rows)) (x .state .hand) (L .hand-low))

@@ -1,17 +1,17 @@
 -- The open rows of a table, counted, and a window of open slots.
-use Prim.Native.Nat.{ℕ, zero, suc, _+_, _-_, _*_, _/_, _%_, _≤_, _<_}
-use mathlib.Core.Path.{_≡_, refl, sym, ap, subst, _∙_}
+use Prim.Native.Nat.{ℕ, zero, suc, _+_, _*_, _≤_, _<_}
+use mathlib.Core.Path.{_≡_, ap}
 use mathlib.Core.Logic.{_≢_}
-use mathlib.Core.Bool.{Bool, true, false, cond, not, _&&_, _||_}
-use mathlib.Core.List.{List, [], _∷_, _++_}
+use mathlib.Core.Bool.{Bool, true, false, not, or-true}
+use mathlib.Core.List.{List, [], _∷_}
 use native.Mathlib.Omega.{arith}
 use lib.ListN.{length, getD, set, length-set}
-use lib.Seq.{getD-set-same, getD-set-other}
+use lib.Seq.{getD-set-other}
 use lib.Dec.{eqb}
-use Rattle.protocol.specs.Rows.{writing}
-use Rattle.protocol.specs.Judge.{openRows}
-use Rattle.layout.proofs.Booleans.{Told, told, told-true, told-false, clash}
-use Rattle.protocol.proofs.model.Base.{has, distinct, and-left, and-right, not-true, eqb-same, eqb-is}
+use borrow.Author.Tests.{not-true}
+use Rattle.protocol.specs.Rows.{writing, openRows}
+use Rattle.layout.proofs.Booleans.{clash, and-parts}
+use Rattle.protocol.proofs.model.Base.{has, distinct, eqb-same}
 
 -- an open row that is closed is one less
 pub open-less : (t : List ℕ) (s : ℕ) → 2 * s + 1 < length t → writing (getD t (2 * s + 1) 0) ≡ true
@@ -42,14 +42,10 @@ window-count (s ∷ w) t d h =
     let f = h s (rw (eqb-same s)) in
     let t′ : List ℕ = set t (2 * s + 1) 0 in
     let e : suc (openRows t′) ≡ openRows t = open-less t s (f .0) (f .1) in
-    let i : length w ≤ openRows t′ = window-count w t′ (and-right (not (has w s)) (distinct w) d)
-    (later (not-true (has w s) (and-left (not (has w s)) (distinct w) d))) in
+    let i : length w ≤ openRows t′ = window-count w t′ (and-parts (not (has w s)) (distinct w) d .1)
+    (later (not-true (has w s) (and-parts (not (has w s)) (distinct w) d .0))) in
     omega arith
   where
-    or-true : (b : Bool) → (b || true) ≡ true
-    or-true true = refl
-    or-true false = refl
-
     later : has w s ≡ false → (u : ℕ) → has w u ≡ true
         → (2 * u + 1 < length (set t (2 * s + 1) 0)) × (writing (getD (set t (2 * s + 1) 0) (2 * u + 1) 0) ≡ true)
     later no-s u k =

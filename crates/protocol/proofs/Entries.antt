@@ -1,29 +1,28 @@
 -- The stored entries of legal pages, and the rules between pages as tests.
-use Prim.Native.Nat.{ℕ, zero, suc, _+_, _-_, _*_, _/_, _%_, _^_, _≤_, _<_}
-use mathlib.Core.Path.{_≡_, refl, sym, ap, subst, _∙_}
-use mathlib.Core.Logic.{_≢_, _⊎_, inl, inr}
-use mathlib.Core.Bool.{Bool, true, false, cond, not, _&&_, _||_}
-use mathlib.Core.List.{List, [], _∷_, _++_}
+use Prim.Native.Nat.{ℕ, zero, suc, _+_, _*_, _/_, _%_, _<_}
+use mathlib.Core.Path.{_≡_, refl, sym}
+use mathlib.Core.Logic.{_≢_, inl, inr}
+use mathlib.Core.Bool.{Bool, true, false, not, _&&_, _||_, or-true}
+use mathlib.Core.List.{List, [], _∷_}
 use native.Mathlib.Omega.{arith}
-use native.Mathlib.Decide.{ℕ-discrete}
 use lib.ListN.{length, getD}
-use lib.Dec.{eqb, ltb}
-use borrow.Author.Tests.{lt-ltb, ltb-true, ltb-false}
+use lib.Dec.{eqb}
+use borrow.Author.Tests.{lt-ltb, ne-eqb}
+use Rattle.protocol.proofs.Tables.{at-suc}
 use Rattle.layout.specs.declared.Slot.{Slot}
 use Rattle.layout.specs.declared.Label.{Label}
 use Rattle.layout.specs.declared.Entry.{Entry}
-use Rattle.layout.specs.Places.{metaPages, slotOn}
-use Rattle.layout.specs.MetaPage.{stampOf, entryPart, decodeEntry, entryAt, rowsFrom}
-use Rattle.layout.specs.PageRule.{pageTest, PageRule, LegalFlags, PairRule, listed}
+use Rattle.layout.specs.MetaPage.{stampOf, rowsFrom}
+use Rattle.layout.specs.PageRule.{pageTest, LegalFlags, listed}
 use Rattle.layout.proofs.RuleLaws.{page-rule}
 use Rattle.protocol.specs.Rows.{valid, dirty, writing}
-use Rattle.protocol.specs.Recovery.{entryIn, Newest, newestOf, eachLegal, stampIn, stampsDiffer, blockIn, noneTwice, allOpenIn, storedRows, pagesTest, freeEntry, recovered}
+use Rattle.protocol.specs.Recovery.{entryIn, eachLegal, stampIn, stampsDiffer, blockIn, noneTwice, allOpenIn, recovered}
 use Rattle.layout.proofs.Booleans.{Told, told, told-true, told-false, clash}
-use Rattle.protocol.proofs.model.Base.{has, and-left, and-right, eqb-same, eqb-is, eqb-other}
+use Rattle.protocol.proofs.model.Base.{has, eqb-same}
 use Rattle.protocol.proofs.model.Model as model
-use Rattle.protocol.proofs.model.Model.{Row, dty, opn, blk, shut, revived}
+use Rattle.protocol.proofs.model.Model.{dty, opn, blk, revived}
 use Rattle.protocol.proofs.Windows.{nums, has-nums}
-use Rattle.protocol.proofs.Flags.{rowOf, Flags, f0, f1, f3, f5, f7, LegalRow, Same, same}
+use Rattle.protocol.proofs.Flags.{rowOf, f0, f1, f3, LegalRow}
 use Rattle.protocol.proofs.ReadyCalls.{slot-page}
 use Rattle.protocol.proofs.Abstract.{entAt, Pages}
 
@@ -159,7 +158,7 @@ each-legal l p (page ∷ pages) h =
 not-in : (t : ℕ) (pages : List (List ℕ)) → ((q : ℕ) → q < length pages → t ≢ stampOf (getD pages q [])) → stampIn t pages ≡ false
 unfolding stampIn
 not-in t [] h = refl
-not-in t (page ∷ pages) h = rw (eqb-other t (stampOf page) (h 0 (omega arith)), not-in t pages (λ q k. h (suc q) (omega arith)))
+not-in t (page ∷ pages) h = rw (ne-eqb t (stampOf page) (h 0 (omega arith)), not-in t pages (λ q k. h (suc q) (omega arith)))
 
 pub stamps-differ : (pages : List (List ℕ))
     → ((p q : ℕ) → p < q → q < length pages → stampOf (getD pages p []) ≢ 0 → stampOf (getD pages p []) ≢ stampOf (getD pages q []))
@@ -186,7 +185,7 @@ no-block b (x ∷ []) h = refl
 no-block b (x ∷ f ∷ t) h = rw (first (told (valid f)), no-block b t later)
   where
     first : Told (valid f) → (valid f && eqb x b) ≡ false
-    first (told-true v) = rw (v, eqb-other x b (h 0 (omega arith) v))
+    first (told-true v) = rw (v, ne-eqb x b (h 0 (omega arith) v))
     first (told-false v) = rw v
 
     later : (s : ℕ) → 2 * s + 1 < length t → valid (getD t (2 * s + 1) 0) ≡ true → getD t (2 * s) 0 ≢ b
@@ -203,9 +202,6 @@ none-twice [] h = refl
 none-twice (x ∷ []) h = refl
 none-twice (x ∷ f ∷ t) h = rw (first (told (valid f)), none-twice t (λ s u i q. shift s u i q))
   where
-    at-suc : (s : ℕ) → (2 * suc s ≡ suc (suc (2 * s))) × (2 * suc s + 1 ≡ suc (suc (2 * s + 1)))
-    at-suc s = (omega arith, omega arith)
-
     first : Told (valid f) → not (valid f && blockIn x t) ≡ true
     first (told-true v) = rw (
       v,
@@ -230,7 +226,3 @@ all-open pages [] h = refl
 all-open pages (s ∷ w) h =
     let f = h s (rw (eqb-same (s .0))) in
     rw (f .0, f .1, all-open pages w (λ t q. h t (rw q (or-true (eqb (t .0) (s .0))))))
-  where
-    or-true : (b : Bool) → (b || true) ≡ true
-    or-true true = refl
-    or-true false = refl

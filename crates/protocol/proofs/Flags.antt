@@ -1,18 +1,17 @@
 -- The nine legal flags of a row, and the model's rows.
-use Prim.Native.Nat.{ℕ, zero, suc, _+_, _-_, _*_, _/_, _%_, _≤_, _<_}
-use mathlib.Core.Path.{_≡_, refl, sym, ap, _∙_}
-use mathlib.Core.Logic.{_≢_, _⊎_, inl, inr}
+use Prim.Native.Nat.{ℕ, _+_, _%_, _<_}
+use mathlib.Core.Path.{_≡_, refl, sym, _∙_}
+use mathlib.Core.Logic.{_⊎_, inl, inr}
 use mathlib.Core.Bool.{Bool, true, false, cond, not, _&&_, _||_}
 use native.Mathlib.Omega.{arith}
 use native.Mathlib.Decide.{decLt}
-use lib.Dec.{eqb, ltb, leb}
-use borrow.Author.Tests.{lt-ltb, ltb-true, eqb-true, eqb-false, ne-eqb, eq-eqb}
+use lib.Dec.{eqb, ltb}
+use borrow.Author.Tests.{lt-ltb, ltb-true, eqb-true, eq-eqb, not-true, not-false}
 use Rattle.layout.specs.declared.Label.{Label}
 use Rattle.layout.specs.PageRule.{pairTest, legalFlags}
 use Rattle.protocol.specs.Rows.{valid, dirty, writing, used, withoutDirty, withoutWriting, withoutUsed, withUsed, withWriting}
 use Rattle.protocol.specs.Judge.{rowTest}
-use Rattle.layout.proofs.Booleans.{Told, told, told-true, told-false, clash}
-use Rattle.protocol.proofs.model.Base.{and-left, and-right}
+use Rattle.layout.proofs.Booleans.{clash, and-parts, or-cases}
 use Rattle.protocol.proofs.model.Model as model
 use Rattle.protocol.proofs.model.Model.{Row, dty, opn, blk, shut, cleaned}
 
@@ -49,10 +48,6 @@ low-high f k e h = go (decLt f 8)
     go : Dec (f < 8) → (f ≡ k) ⊎ (f ≡ k + 8)
     go (yes q) = inl (omega arith)
     go (no q) = inr (omega arith)
-
-or-cases : (a b : Bool) → (a || b) ≡ true → (a ≡ true) ⊎ (b ≡ true)
-or-cases true b e = inl refl
-or-cases false b e = inr e
 
 pub legal-sums : (f : ℕ) → legalFlags f ≡ true → (f ≡ 0) ⊎ ((f ≡ 1) ⊎ ((f ≡ 3) ⊎ ((f ≡ 5) ⊎ (f ≡ 7))))
 unfolding legalFlags
@@ -127,9 +122,6 @@ flags-legal f11 = (refl, refl, refl)
 flags-legal f13 = (refl, refl, refl)
 flags-legal f15 = (refl, refl, refl)
 
-and-parts : (a b : Bool) → (a && b) ≡ true → (a ≡ true) × (b ≡ true)
-and-parts a b e = (and-left a b e, and-right a b e)
-
 pub legal-row : (l : Label) (b f : ℕ) → rowTest l b f ≡ true → LegalRow l b f
 unfolding rowTest pairTest
 legal-row l b f e =
@@ -160,16 +152,8 @@ row-legal l b f r =
     rw (k .0, k .1, k .2, pair (eqb (f % 8) 0) (flags-zero (r .flags)))
   where
     pair : (t : Bool) → t ≡ not (valid f) → ((not t || eqb b 0) && (t || ltb b (l .blocks))) ≡ true
-    pair true e = rw (eq-eqb b 0 (r .free (not-is (valid f) e)))
-      where
-        not-is : (v : Bool) → true ≡ not v → v ≡ false
-        not-is true q = q
-        not-is false q = refl
-    pair false e = rw (lt-ltb b (l .blocks) (r .low (not-is (valid f) e)))
-      where
-        not-is : (v : Bool) → false ≡ not v → v ≡ true
-        not-is true q = refl
-        not-is false q = q
+    pair true e = rw (eq-eqb b 0 (r .free (not-true (valid f) (sym e))))
+    pair false e = rw (lt-ltb b (l .blocks) (r .low (not-false (valid f) (sym e))))
 
 -- the flags of a row, and the model's row
 pub record Same (b f : ℕ) : Type 0 where

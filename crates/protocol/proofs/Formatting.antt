@@ -26,17 +26,18 @@ use Rattle.record.specs.declared.Phase.{Phase}
 use Rattle.record.specs.declared.Phase.the-variants.{Formatting, Ready}
 use Rattle.protocol.specs.Paper.{refused, done}
 use Rattle.record.specs.Record.{windowIn, recordOf}
+use Rattle.protocol.specs.Rows.{eachRow}
 use Rattle.protocol.specs.Box.{Box, ssdImage, Store, Effect, left, boxAfter}
 use Rattle.protocol.specs.Plan.{format, step, plan}
 use Rattle.protocol.specs.Perform.{begun, formatStore, formatState, perform}
-use Rattle.protocol.specs.Judge.{Reason, lengthsTest, lengthTest, rowTest, eachRow, rowsTest, test, chain, judged}
+use Rattle.protocol.specs.Judge.{Reason, badLimits, wrongLength, lengthsTest, lengthTest, rowTest, rowsTest, test, judged}
 use Rattle.record.specs.Rule.{recordTest}
 use Rattle.protocol.specs.Calls.{decided, effectOf, resultOf}
 use Rattle.protocol.specs.Events.{steps, formatted}
 use Rattle.protocol.specs.Beside.{WholeFormat}
 use Rattle.record.proofs.WindowLaws.{length-array, zero-past}
 use Rattle.protocol.proofs.Tables.{each-of}
-use Rattle.protocol.proofs.Judged.{none-hold, first-none}
+use Rattle.protocol.proofs.Judged.{passed, accepted}
 
 -- a table of free rows
 abbrev pub freeTable : Label → List ℕ
@@ -122,10 +123,8 @@ module _ (l : Label) (ssd hdd : List ℕ) (d : ℕ) (L : Limits l) (hs : length 
       (free-each (λ s block flags. eqb block 0 && eqb flags 0) (tableLength l) (λ s. refl))
 
   step-judged : judged step (formatBox l ssd hdd (Formatting d)) ≡ none
-  unfolding judged test plan
-  step-judged =
-      first-none (chain step) (λ r. test r step (formatBox l ssd hdd (Formatting d)))
-      (rw record-pass, (rw length-pass, (rw rows-pass, (refl, (refl, tt)))))
+  unfolding test plan
+  step-judged = accepted step (formatBox l ssd hdd (Formatting d)) (rw record-pass, (rw length-pass, (rw rows-pass, (refl, tt)))) (refl, tt)
 
   state-after : formatState l (recordOf l (record { 0 = 0 }) 0 (Formatting d) false []) d ≡ recordOf l (record { 0 = 0 }) 0
       (phaseAfter l (suc d)) false []
@@ -158,7 +157,7 @@ store-else l d p n = go (decLt d (metaPages l))
     go (no h) = rw (store-label l d (omega arith)) (λ e. absurd (omega arith))
 
 -- one step more
-steps-more : (n : ℕ) (x : Box) → steps (suc n) x ≡ boxAfter (resultOf step (steps n x))
+pub steps-more : (n : ℕ) (x : Box) → steps (suc n) x ≡ boxAfter (resultOf step (steps n x))
 unfolding steps
 steps-more zero x = refl
 steps-more (suc n) x = steps-more n (boxAfter (resultOf step x))
@@ -273,11 +272,16 @@ format-begun slots blocks x = go (judged (format slots blocks) x) refl
         → Begun l x (decided o (format slots blocks) x)
     go (some r) e h = clash {b = true} refl h
     go none e h =
-        let f = none-hold (chain (format slots blocks)) (λ r. test r (format slots blocks) x) e in
-        let t = and-parts _ _ (not-false _ (f .1 .0)) in
+        let q = passed (format slots blocks) x e in
+        let t = and-parts _ _ (not-false _ (q wrongLength refl)) in
         let a = and-parts (eqb (length (x .images .ssd)) (ssdLength l)) _ (t .0) in
         let b = and-parts (eqb (length (x .images .hdd)) (hddLength l)) _ (a .1) in
-        record { limits = within l .0 (not-false _ (f .0)); ssd-size = eqb-true _ _ (a .0); hdd-size = eqb-true _ _ (b .0); effect = refl }
+        record {
+          limits = within l .0 (not-false _ (q badLimits refl));
+          ssd-size = eqb-true _ _ (a .0);
+          hdd-size = eqb-true _ _ (b .0);
+          effect = refl;
+        }
 
 -- what a whole format leaves: the HDD untouched, a label, every metadata page with stamp 0, no window and free entries
 pub record Formatted (l : Label) (x y : Box) : Type 0 where

@@ -1,35 +1,34 @@
 -- A block outside the newest stored window keeps slot and page, and its row is back at once.
-use Prim.Native.Nat.{ℕ, zero, suc, _+_, _-_, _*_, _≤_, _<_}
+use Prim.Native.Nat.{ℕ, _<_}
 use mathlib.Core.Path.{_≡_, refl, sym, ap, subst, _∙_}
-use mathlib.Core.Logic.{_≢_, _⊎_, inl, inr}
-use mathlib.Core.Bool.{Bool, true, false, cond, not, _&&_, _||_}
+use mathlib.Core.Logic.{_⊎_, inl, inr}
+use mathlib.Core.Bool.{Bool, true, false}
 use mathlib.Core.List.{List, [], _∷_}
 use mathlib.Core.Option.{Option, some, none}
 use native.Mathlib.Omega.{arith}
-use lib.ListN.{length, getD}
+use lib.ListN.{length}
 use Rattle.layout.specs.declared.Slot.{Slot}
 use Rattle.layout.specs.declared.Block.{Block}
 use Rattle.layout.specs.declared.Label.{Label}
 use Rattle.layout.specs.Places.{tableLength}
 use Rattle.protocol.specs.Paper.{refused}
-use Rattle.protocol.specs.Rows.{rowBlock, rowFlags, valid, dirty, writing}
-use Rattle.protocol.specs.Box.{Images, Box, Effect, Result, boxAfter}
-use Rattle.protocol.specs.Recovery.{metasOf, entryIn, newestOf}
-use Rattle.protocol.specs.Plan.{Call, format, step, flush, reopen, offer, fetch, landFetch, lookUp, view, writeBack, land, lowestPage, plan}
-use Rattle.protocol.specs.Perform.{perform}
-use Rattle.protocol.specs.Judge.{Reason, isReady, judged, test, chain}
-use Rattle.protocol.specs.Calls.{decided, effectOf, resultOf}
+use Rattle.protocol.specs.Rows.{valid}
+use Rattle.protocol.specs.Box.{Box}
+use Rattle.protocol.specs.Recovery.{metasOf}
+use Rattle.protocol.specs.Plan.{Call, step, reopen, lowestPage}
+use Rattle.protocol.specs.Judge.{Reason, isReady, judged}
+use Rattle.protocol.specs.Calls.{resultOf}
 use Rattle.protocol.specs.ReferenceDisk.{Disk}
 use Rattle.protocol.specs.Events.{World, Junk, Arrival, Event, call, reopens, cut, called, handed, takenIf, reopened, struck, apply, run, CallFits, Fits, AllFit}
-use Rattle.protocol.specs.Demand3.{Outside, Place, place, Reopening, own, whole, broken, before, NotYet, Back, BackAfter, AllBack, Kept}
+use Rattle.protocol.specs.Demand3.{Outside, Place, place, Reopening, own, whole, broken, before, NotYet, Back, AllBack, Kept}
 use Rattle.layout.proofs.Booleans.{Told, told, told-true, told-false, clash}
 use Rattle.protocol.proofs.model.Base.{has}
 use Rattle.protocol.proofs.model.Model as model
-use Rattle.protocol.proofs.model.Model.{Row, Model, Plain, Stored, Mending, dty, opn, blk, shut, revived, mended}
+use Rattle.protocol.proofs.model.Model.{Plain, Stored, Mending, dty, opn, blk, shut, revived}
 use Rattle.protocol.proofs.model.Model as model
-use Rattle.protocol.proofs.model.Rows.{shut-valid, shut-blk, shut-dty, shut-opn}
+use Rattle.protocol.proofs.model.Rows.{shut-dty}
 use Rattle.protocol.proofs.model.View as seen
-use Rattle.protocol.proofs.model.View.{Found, found, viewAt}
+use Rattle.protocol.proofs.model.View.{Found, found}
 use Rattle.protocol.proofs.model.Reopened.{fixed}
 use Rattle.protocol.proofs.model.Finished.{over-ready}
 use Rattle.protocol.proofs.model.Places as places
@@ -38,11 +37,11 @@ use Rattle.protocol.proofs.Tables.{rowAt, at-open, at-block, at-valid, 
 use Rattle.protocol.proofs.ReadyCalls.{refused-same, worldOf}
 use Rattle.protocol.proofs.Reopens.{reopenedCore, reopen-shape, reopen-abs, dirty-ent}
 use Rattle.protocol.proofs.Views.{asSlot}
-use Rattle.protocol.proofs.MendingCalls.{finishedWorld, mendedCore, mended-here, mended-core-shape, mended-core-abs, step-world, reopened-here, reopen-world}
+use Rattle.protocol.proofs.MendingCalls.{mendedCore, mended-here, mended-core-shape, mended-core-abs, step-world, reopened-here, reopen-world}
 use Rattle.protocol.proofs.Reachable.{Mendable, steps, reopens-it, mendable, inv-stored, struck-or, struck-inv, table-right}
 use Rattle.protocol.proofs.Claims.{unready-on, reopened-taken, before-inv, handed-taken, own-size}
 use Rattle.protocol.proofs.PlaceOf.{modelPlace, model-outside, place-model}
-use Rattle.protocol.proofs.Abstract.{Core, phaseFor, boxOfCore, entAt, abs, ImagesKept, Shape, Phased, is-ready, is-mending, Inv}
+use Rattle.protocol.proofs.Abstract.{Core, boxOfCore, entAt, abs, Shape, Phased, is-ready, is-mending, Inv}
 
 -- a world since a reopening began: mending, or finished
 pub record Under (l : Label) (w : World) : Type 0 where

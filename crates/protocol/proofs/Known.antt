@@ -2,7 +2,7 @@
 -- store is checked to keep them.
 use Prim.Native.Nat.{ℕ, suc, _+_, _*_, _≤_}
 use mathlib.Core.Path.{_≡_, refl, ap, _∙_}
-use mathlib.Core.Bool.{Bool, true, false, not, _&&_, false≢true}
+use mathlib.Core.Bool.{Bool, true, false, not, _&&_}
 use mathlib.Core.List.{List, [], _∷_}
 use mathlib.Core.Option.{Option, some, none}
 use native.Mathlib.Omega.{arith}
@@ -19,13 +19,17 @@ use Rattle.protocol.specs.Paper.{refused}
 use Rattle.protocol.specs.Box.{Images, Box, Image, ssdImage, hddImage, Store, applied, Effect}
 use Rattle.protocol.specs.Condition.{conditionOf, slotFrom}
 use Rattle.protocol.specs.Plan.{Call, reopen, view, lowestFrom, plan}
+use Rattle.protocol.specs.Kinds.{kind, aim}
 use Rattle.record.specs.Record.{labelIn, windowIn}
 use Rattle.layout.specs.Window.{arrayOf}
 use Rattle.record.specs.Window.{without, eachSlot, zeroSlots}
-use Rattle.protocol.specs.Judge.{Reason, badLimits, noLabel, badRecord, wrongLength, badRows, wrongPhase, blockTooHigh, slotOpen, wrongState, hasSlot, windowFull, allOpen, stampsSpent, isLabel, labelFor, lengthsTest, lengthTest, pageLengthTest, test, chain, firstOf, judged, eachRow, labelTest, openRows, rowTest, rowsTest}
+use Rattle.protocol.specs.Rows.{eachRow, openRows}
+use Rattle.protocol.specs.Judge.{Reason, noLabel, wrongLength, numberOf, isLabel, labelFor, lengthsTest, lengthTest, pageLengthTest, test, chain, firstOf, judged, labelTest, rowTest, rowsTest}
 use Rattle.record.specs.Rule.{recordTest}
 use Rattle.protocol.specs.Calls.{decided, effectOf, viewed, viewOf}
 use Rattle.protocol.specs.Events.{World, Junk, Arrival, old, new, Event, call, reopens, cut, lent, readOf, handed, survived, made}
+use Rattle.layout.proofs.Booleans.{Told, told, told-true, told-false, and-parts}
+use Rattle.protocol.proofs.Reasons.{number-is}
 use Rattle.protocol.proofs.Report.{Line, lineOf, readsOf, Report, reported, report, diskFrom, labelPage, metaPage, pages, unformatted}
 use Rattle.protocol.proofs.Quick.{left-by, reopenedIf, reopensFrom, struckIf, struckFrom, Moved, movedBy, Shown, shownBy, quick, quick-same}
 use Rattle.pages.specs.Parts.{pagePart}
@@ -40,14 +44,6 @@ use Rattle.protocol.specs.Perform.{confirmed, perform}
 pub record Sized (l : Label) (im : Images) : Type 0 where
   pub ssd-size : length (im .ssd) ≡ ssdLength l
   pub hdd-size : length (im .hdd) ≡ hddLength l
-
-abbrev Both : Bool → Bool → Type 0
-Both a b = (a ≡ true) × (b ≡ true)
-
-split : (a b : Bool) → (a && b) ≡ true → Both a b
-split true true h = (refl, refl)
-split true false h = (refl, h)
-split false b h = absurd (false≢true h)
 
 -- a store is a page within its image
 unfoldable pub within : Label → Image → ℕ → List ℕ → Bool
@@ -66,12 +62,12 @@ stored-size : (l : Label) (i : Image) (p : ℕ) (bytes : List ℕ) (im : Images)
 unfolding within
 stored-size l ssdImage p bytes im z h =
     let n : ℕ = 1 + metaPages l + l .slots in
-    let hs : Both (leb (suc p) n) (eqb (length bytes) 4096) = split _ _ h in
+    let hs = and-parts (leb (suc p) n) (eqb (length bytes) 4096) h in
     let h : Holds (im .ssd) p = holds (im .ssd) n p (z .ssd-size) (leb-true (suc p) n (hs .0)) in
     record { ssd-size = length-put (im .ssd) bytes p h (eqb-true (length bytes) 4096 (hs .1)) ∙ z .ssd-size; hdd-size = z .hdd-size }
 stored-size l hddImage p bytes im z h =
     let n : ℕ = l .blocks in
-    let hs : Both (leb (suc p) n) (eqb (length bytes) 4096) = split _ _ h in
+    let hs = and-parts (leb (suc p) n) (eqb (length bytes) 4096) h in
     let h : Holds (im .hdd) p = holds (im .hdd) n p (z .hdd-size) (leb-true (suc p) n (hs .0)) in
     record { ssd-size = z .ssd-size; hdd-size = length-put (im .hdd) bytes p h (eqb-true (length bytes) 4096 (hs .1)) ∙ z .hdd-size }
 
@@ -82,19 +78,15 @@ applied-size l (some s) im z h = stored-size l (s .image) (s .place) (s .bytes) 
 
 -- judging with the lengths known: of 4 only table and data page are left, of 2 the label
 unfoldable pub testKnown : Label → Call → Box → Reason → Bool
-testKnown l c x badLimits = test badLimits c x
-testKnown l c x noLabel = not (leb 4096 (ssdLength l) && isLabel (decodeLabel (pageAt (x .images .ssd) labelPlace)))
-testKnown l c x badRecord = test badRecord c x
-testKnown l c x wrongLength = not (eqb (length (x .table)) (tableLength l) && pageLengthTest c)
-testKnown l c x badRows = test badRows c x
-testKnown l c x wrongPhase = test wrongPhase c x
-testKnown l c x blockTooHigh = test blockTooHigh c x
-testKnown l c x slotOpen = test slotOpen c x
-testKnown l c x wrongState = test wrongState c x
-testKnown l c x hasSlot = test hasSlot c x
-testKnown l c x windowFull = test windowFull c x
-testKnown l c x allOpen = test allOpen c x
-testKnown l c x stampsSpent = test stampsSpent c x
+testKnown l c x r =
+    elim (eqb (numberOf r) 2) [
+      | true ↦ not (leb 4096 (ssdLength l) && isLabel (decodeLabel (pageAt (x .images .ssd) labelPlace)))
+      | false ↦
+          elim (eqb (numberOf r) 4) [
+            | true ↦ not (eqb (length (x .table)) (tableLength l) && pageLengthTest (aim c .purpose))
+            | false ↦ test r c x
+          ]
+    ]
 
 length-known : (l : Label) (im : Images) (table : List ℕ) → Sized l im → lengthTest l im table ≡ eqb (length table) (tableLength l)
 unfolding lengthTest lengthsTest
@@ -103,24 +95,27 @@ length-known l im table z =
     (eq-eqb (length (im .ssd)) (ssdLength l) (z .ssd-size))
     ∙ ap (λ (b : Bool). b && eqb (length table) (tableLength l)) (eq-eqb (length (im .hdd)) (hddLength l) (z .hdd-size))
 
-test-known : (l : Label) (c : Call) (x : Box) → Sized l (x .images) → labelFor c x ≡ l → (r : Reason) → test r c x ≡ testKnown l c x r
-unfolding testKnown test labelTest
-test-known l c x z e badLimits = refl
-test-known l c x z e noLabel =
-    ap (λ (n : ℕ). not (leb 4096 n && isLabel (decodeLabel (pageAt (x .images .ssd) labelPlace)))) (z .ssd-size)
-test-known l c x z e badRecord = refl
-test-known l c x z e wrongLength =
-    ap (λ (k : Label). not (lengthTest k (x .images) (x .table) && pageLengthTest c)) e
-    ∙ ap (λ (b : Bool). not (b && pageLengthTest c)) (length-known l (x .images) (x .table) z)
-test-known l c x z e badRows = refl
-test-known l c x z e wrongPhase = refl
-test-known l c x z e blockTooHigh = refl
-test-known l c x z e slotOpen = refl
-test-known l c x z e wrongState = refl
-test-known l c x z e hasSlot = refl
-test-known l c x z e windowFull = refl
-test-known l c x z e allOpen = refl
-test-known l c x z e stampsSpent = refl
+test-known : (l : Label) (c : Call) (x : Box) → Sized l (x .images) → labelFor (kind c) x ≡ l → (r : Reason)
+    → test r c x ≡ testKnown l c x r
+unfolding testKnown
+test-known l c x z e r = go (told (eqb (numberOf r) 2)) (told (eqb (numberOf r) 4))
+  where
+    label-known : test noLabel c x ≡ not (leb 4096 (ssdLength l) && isLabel (decodeLabel (pageAt (x .images .ssd) labelPlace)))
+    label-known = unfold test labelTest in
+        (ap (λ (n : ℕ). not (leb 4096 n && isLabel (decodeLabel (pageAt (x .images .ssd) labelPlace)))) (z .ssd-size))
+
+    sizes-known : test wrongLength c x ≡ not (eqb (length (x .table)) (tableLength l) && pageLengthTest (aim c .purpose))
+    sizes-known = unfold test in
+        (ap (λ (k : Label). not (lengthTest k (x .images) (x .table) && pageLengthTest (aim c .purpose))) e
+        ∙ ap (λ (b : Bool). not (b && pageLengthTest (aim c .purpose))) (length-known l (x .images) (x .table) z))
+
+    at : (s : Reason) → eqb (numberOf r) (numberOf s) ≡ true → test r c x ≡ test s c x
+    at s p = ap (λ (q : Reason). test q c x) (number-is r s (eqb-true _ _ p))
+
+    go : Told (eqb (numberOf r) 2) → Told (eqb (numberOf r) 4) → test r c x ≡ testKnown l c x r
+    go (told-true p) q = rw (testKnown, p) (at noLabel p ∙ label-known)
+    go (told-false p) (told-true q) = rw (testKnown, p, q) (at wrongLength q ∙ sizes-known)
+    go (told-false p) (told-false q) = rw (testKnown, p, q)
 
 first-same : (rs : List Reason) (f g : Reason → Bool) → ((r : Reason) → f r ≡ g r) → firstOf rs f ≡ firstOf rs g
 unfolding firstOf
@@ -132,14 +127,16 @@ first-same (r ∷ rs) f g h =
 unfoldable pub judgedKnown : Label → Call → Box → Option Reason
 judgedKnown l c x = firstOf (chain c) (testKnown l c x)
 
-judged-known : (l : Label) (c : Call) (x : Box) → Sized l (x .images) → sameLabel (labelFor c x) l ≡ true → judged c x ≡ judgedKnown l c x
+judged-known : (l : Label) (c : Call) (x : Box) → Sized l (x .images) → sameLabel (labelFor (kind c) x) l ≡ true
+    → judged c x ≡ judgedKnown l c x
 unfolding judged judgedKnown
-judged-known l c x z h = first-same (chain c) (λ r. test r c x) (testKnown l c x) (test-known l c x z (same-label (labelFor c x) l h))
+judged-known l c x z h =
+    first-same (chain c) (λ r. test r c x) (testKnown l c x) (test-known l c x z (same-label (labelFor (kind c) x) l h))
 
 unfoldable pub effectKnown : Label → Call → Box → Effect
 effectKnown l c x = decided (judgedKnown l c x) c x
 
-pub effect-known : (l : Label) (c : Call) (x : Box) → Sized l (x .images) → sameLabel (labelFor c x) l ≡ true
+pub effect-known : (l : Label) (c : Call) (x : Box) → Sized l (x .images) → sameLabel (labelFor (kind c) x) l ≡ true
     → effectOf c x ≡ effectKnown l c x
 unfolding effectOf effectKnown
 effect-known l c x z h = ap (λ (o : Option Reason). decided o c x) (judged-known l c x z h)
@@ -170,7 +167,7 @@ reopensKnown l j x =
     record {
       line = lineOf l e;
       box = reopenedBy (refused (e .said)) x e (handed j x);
-      fine = sameLabel (labelFor reopen (handed j x)) l && storeWithin l (e .store);
+      fine = sameLabel (labelFor (kind reopen) (handed j x)) l && storeWithin l (e .store);
     }
 
 pub record Struck : Type 0 where
@@ -182,13 +179,13 @@ struckKnown l c a x =
     let e = effectKnown l c x in
     record {
       box = struckIf (made a (e .store)) (survived a (e .store) (x .images)) e x;
-      fine = sameLabel (labelFor c x) l && storeWithin l (e .store);
+      fine = sameLabel (labelFor (kind c) x) l && storeWithin l (e .store);
     }
 
 unfoldable pub movedKnown : Label → Event → Box → Known
 movedKnown l (call c) x =
     let e = effectKnown l c x in
-    record { line = lineOf l e; box = leftBy e x; fine = sameLabel (labelFor c x) l && storeWithin l (e .store) }
+    record { line = lineOf l e; box = leftBy e x; fine = sameLabel (labelFor (kind c) x) l && storeWithin l (e .store) }
 movedKnown l (reopens j) x = reopensKnown l j x
 movedKnown l (cut c a j) x =
     let s = struckKnown l c a x in
@@ -268,7 +265,7 @@ reopens-known : (l : Label) (j : Junk) (x : Box) → Sized l (x .images) → reo
 unfolding reopensKnown reopensFrom
 reopens-known l j x z h =
     let e : Effect = effectKnown l reopen (handed j x) in
-    let hs : Both (sameLabel (labelFor reopen (handed j x)) l) (storeWithin l (e .store)) = split _ _ h in (
+    let hs = and-parts (sameLabel (labelFor (kind reopen) (handed j x)) l) (storeWithin l (e .store)) h in (
       ap {B = Moved} (λ (f : Effect). record { line = lineOf l f; box = reopenedIf (refused (f .said)) x f (handed j x) })
           (effect-known l reopen (handed j x) z (hs .0)),
       reopenedIf-size l (refused (e .said)) x (handed j x) e z (applied-size l (e .store) (x .images) z (hs .1)),
@@ -288,7 +285,7 @@ struck-known : (l : Label) (c : Call) (a : Arrival) (x : Box) → Sized l (x .im
 unfolding struckKnown struckFrom
 struck-known l c a x z h =
     let e : Effect = effectKnown l c x in
-    let hs : Both (sameLabel (labelFor c x) l) (storeWithin l (e .store)) = split _ _ h in (
+    let hs = and-parts (sameLabel (labelFor (kind c) x) l) (storeWithin l (e .store)) h in (
       ap (λ (f : Effect). struckIf (made a (f .store)) (survived a (f .store) (x .images)) f x) (effect-known l c x z (hs .0)),
       struckIf-size l (made a (e .store)) (survived a (e .store) (x .images)) e x (survived-size l a (e .store) (x .images) z (hs .1)),
     )
@@ -298,14 +295,14 @@ moved-known : (l : Label) (v : Event) (x : Box) → Sized l (x .images) → move
 unfolding movedKnown movedBy
 moved-known l (call c) x z h =
     let e : Effect = effectKnown l c x in
-    let hs : Both (sameLabel (labelFor c x) l) (storeWithin l (e .store)) = split _ _ h in
+    let hs = and-parts (sameLabel (labelFor (kind c) x) l) (storeWithin l (e .store)) h in
     let u : Sized l (applied (e .store) (x .images)) = applied-size l (e .store) (x .images) z (hs .1) in (
       ap {B = Moved} (λ (f : Effect). record { line = lineOf l f; box = left-by f x }) (effect-known l c x z (hs .0)),
       record { ssd-size = u .ssd-size; hdd-size = u .hdd-size },
     )
 moved-known l (reopens j) x z h = reopens-known l j x z h
 moved-known l (cut c a j) x z h =
-    let hs : Both (struckKnown l c a x .fine) (reopensKnown l j (struckKnown l c a x .box) .fine) = split _ _ h in
+    let hs = and-parts (struckKnown l c a x .fine) (reopensKnown l j (struckKnown l c a x .box) .fine) h in
     let s : (struckFrom c a x ≡ struckKnown l c a x .box) × Sized l (struckKnown l c a x .box .images) = struck-known l c a x z (hs .0) in
     let y : Box = struckKnown l c a x .box in
     let r : (reopensFrom l j y ≡ movedOf (reopensKnown l j y)) × Sized l (reopensKnown l j y .box .images) =
@@ -318,7 +315,7 @@ unfolding shownKnown shownBy
 shown-known l [] x z h = (refl, z)
 shown-known l (v ∷ es) x z h =
     let m : Known = movedKnown l v x in
-    let hs : Both (m .fine) (shownKnown l es (m .box) .fine) = split _ _ h in
+    let hs = and-parts (m .fine) (shownKnown l es (m .box) .fine) h in
     let one : (movedBy l v x ≡ movedOf m) × Sized l (m .box .images) = moved-known l v x z (hs .0) in
     let rest : (shownBy l es (m .box) ≡ shownOf (shownKnown l es (m .box))) × Sized l (shownKnown l es (m .box) .box .images) =
     shown-known l es (m .box) (one .1) (hs .1) in (
@@ -340,7 +337,7 @@ quick-known : (l : Label) (es : List Event) (bs : List Block) (x : Box) → Size
 unfolding known quick
 quick-known l es bs x z h =
     let k : KnownAll = shownKnown l es x in
-    let hs : Both (k .fine) (sameLabel (labelIn (k .box .state)) l) = split _ _ h in
+    let hs = and-parts (k .fine) (sameLabel (labelIn (k .box .state)) l) h in
     let s : (shownBy l es x ≡ shownOf k) × Sized l (k .box .images) = shown-known l es x z (hs .0) in
     ap (λ (r : Shown). reported (r .lines) bs (r .box)) (s .0)
     ∙ ap (λ (reads : List (List ℕ)). readAs (k .lines) (k .box) reads) (reads-known l bs (k .box) (s .1) (hs .1))

@@ -1,4 +1,5 @@
 pub mod Report
+pub mod Reasons
 pub mod Quick
 pub mod QuickRows
 pub mod Known
@@ -10,12 +11,16 @@ pub mod Flags
 pub mod Tables
 pub mod Conditions
 pub mod Metas
-pub mod Abstract
-pub mod Stores
 pub mod Counting
 pub mod Sweeps
-pub mod Performed
+pub mod Sound
 pub mod Judged
+pub mod Accepted
+pub mod Does
+pub mod Sorted
+pub mod Abstract
+pub mod Stores
+pub mod Performed
 pub mod ReadyCalls
 pub mod Entries
 pub mod Reopens
@@ -29,7 +34,6 @@ pub mod Keeps
 pub mod Formatting
 pub mod UpdateFirst
 pub mod Demand3
-pub mod Accepted
 pub mod MendsSoon
 pub mod CopiesOnce
 pub mod StoresLegally

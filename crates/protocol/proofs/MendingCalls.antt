@@ -1,7 +1,7 @@
 -- A reopening, and the steps of mending, keep the invariant.
 use Prim.Native.Nat.{ℕ, _<_}
 use mathlib.Core.Path.{_≡_, refl, sym, ap, subst, _∙_}
-use mathlib.Core.Bool.{Bool, true, false, not, _||_}
+use mathlib.Core.Bool.{Bool, true, false, not, or-true}
 use mathlib.Core.List.{List, [], _∷_, List·Memᴰ}
 use mathlib.Core.Option.{Option}
 use native.Mathlib.Omega.{arith}
@@ -92,10 +92,6 @@ pub record Pending (w : List Slot) (q : ℕ) : Type 0 where
   pub slot : Slot
   pub there : listed slot w ≡ true
   pub onto : metaOf slot ≡ q
-
-or-true : (b : Bool) → (b || true) ≡ true
-or-true true = refl
-or-true false = refl
 
 lowest-pending : (v w : List Slot) (q : ℕ) → Pending v q → ((s : Slot) → listed s w ≡ true → listed s v ≡ true) → Pending v (lowestFrom q w)
 unfolding lowestFrom listed

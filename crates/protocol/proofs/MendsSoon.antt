@@ -1,41 +1,34 @@
 -- Mending takes at most 63 steps, whatever the box.
 use Prim.Native.Nat.{ℕ, zero, suc, _+_, _≤_, _<_}
-use mathlib.Core.Path.{_≡_, refl, sym, ap, subst, _∙_}
-use mathlib.Core.Bool.{Bool, true, false, not}
-use mathlib.Core.List.{List, [], _∷_}
+use mathlib.Core.Path.{_≡_, ap, subst, _∙_}
+use mathlib.Core.Bool.{true, false, not}
+use mathlib.Core.List.{List}
 use mathlib.Core.Option.{Option, none}
 use native.Mathlib.Omega.{arith}
 use lib.ListN.{length}
+use borrow.Author.Tests.{not-true}
+use Rattle.protocol.proofs.Formatting.{steps-more}
 use Rattle.layout.specs.declared.Slot.{Slot}
 use Rattle.record.specs.declared.Phase.{Phase}
 use Rattle.record.specs.declared.Phase.the-variants.{Recovering}
 use Rattle.protocol.specs.Paper.{refused}
 use Rattle.record.specs.Record.{windowIn}
-use Rattle.protocol.specs.Box.{Box, boxAfter}
+use Rattle.protocol.specs.Box.{Box}
 use Rattle.protocol.specs.Recovery.{offPage}
 use Rattle.protocol.specs.Plan.{step, lowestPage, stepping, plan}
 use Rattle.protocol.specs.Perform.{confirmed, perform}
-use Rattle.protocol.specs.Judge.{Reason, isEmpty, agreeTest, test, judged}
+use Rattle.protocol.specs.Judge.{Reason, isEmpty, agreeTest, judged}
 use Rattle.protocol.specs.Calls.{decided, effectOf, resultOf}
 use Rattle.protocol.specs.Events.{steps}
 use Rattle.protocol.specs.Beside.{MendsSoon}
-use Rattle.layout.proofs.Booleans.{clash}
-use Rattle.protocol.proofs.model.Base.{and-left}
-use Rattle.protocol.proofs.Windows.{length-nums}
+use Rattle.layout.proofs.Booleans.{and-parts}
+use Rattle.protocol.proofs.Windows.{length-nums, some-length}
 use Rattle.record.proofs.WindowLaws.{take-array}
 use Rattle.protocol.proofs.MendingCalls.{fewer}
-use Rattle.protocol.proofs.Reachable.{facts}
 use Rattle.protocol.proofs.UpdateFirst.{none-of}
-use Rattle.protocol.proofs.Accepted.{Legal, legal-judged}
+use Rattle.protocol.proofs.Accepted.{step-legal}
 
--- a step that is not refused finds a legal box
-pub step-legal : (x : Box) → judged step x ≡ none → Legal x
-unfolding test
-step-legal x e =
-    let f = facts step x e in
-    legal-judged x true (f .0) (f .1 .0) (f .1 .1 .0)
-
--- and leaves the pending slots of other pages
+-- a step that is not refused leaves the pending slots of other pages
 module _ (x : Box) (e : judged step x ≡ none) (on : x .state .phase ≡ Recovering) where
   rest : List Slot
   rest = offPage (lowestPage (windowIn (x .state))) (windowIn (x .state))
@@ -48,29 +41,15 @@ module _ (x : Box) (e : judged step x ≡ none) (on : x .state .phase ≡ Recove
       ∙ take-array (offPage (lowestPage (windowIn (x .state))) (windowIn (x .state)))
 
   pending : isEmpty (windowIn (x .state)) ≡ false
-  pending = not-is (isEmpty (windowIn (x .state)))
-      (and-left (not (isEmpty (windowIn (x .state)))) _
-      (subst (λ (q : Phase). agreeTest q (x .table) (windowIn (x .state)) ≡ true) on (step-legal x e .agree)))
-    where
-      not-is : (b : Bool) → not b ≡ true → b ≡ false
-      not-is true q = sym q
-      not-is false q = refl
+  pending = not-true (isEmpty (windowIn (x .state)))
+      (and-parts (not (isEmpty (windowIn (x .state)))) _
+      (subst (λ (q : Phase). agreeTest q (x .table) (windowIn (x .state)) ≡ true) on (step-legal x e .agree)) .0)
 
   pub some-left : 0 < length (windowIn (x .state))
-  some-left = go (windowIn (x .state)) pending
-    where
-      go : (w : List Slot) → isEmpty w ≡ false → 0 < length w
-      go [] q = clash {b = true} refl q
-      go (s ∷ w) q = omega arith
+  some-left = some-length (windowIn (x .state)) pending
 
   pub step-less : length (windowIn (resultOf step x .state)) < length (windowIn (x .state))
   step-less = rw step-window (fewer (windowIn (x .state)) pending)
-
--- one more step, at the end
-steps-end : (n : ℕ) (x : Box) → steps (suc n) x ≡ boxAfter (resultOf step (steps n x))
-unfolding steps
-steps-end zero x = refl
-steps-end (suc n) x = steps-end n (boxAfter (resultOf step x))
 
 module _ (x : Box) (k : ℕ) (f : (j : ℕ) → j ≤ k → refused (resultOf step (steps j x) .said) ≡ false)
     (on : (j : ℕ) → j ≤ k → steps j x .state .phase ≡ Recovering) where
@@ -82,7 +61,7 @@ module _ (x : Box) (k : ℕ) (f : (j : ℕ) → j ≤ k → refused (resultOf st
   less zero h = omega (arith, step-legal x (taken 0 h) .window-rule .fits, length-nums (windowIn (x .state)))
   less (suc j) h =
       let q : length (windowIn (steps (suc j) x .state)) ≡ length (windowIn (resultOf step (steps j x) .state)) =
-      ap (λ (y : Box). length (windowIn (y .state))) (steps-end j x) in
+      ap (λ (y : Box). length (windowIn (y .state))) (steps-more j x) in
       let i : j ≤ k = omega arith in
       omega (arith, less j i, step-less (steps j x) (taken j i) (on j i))
 

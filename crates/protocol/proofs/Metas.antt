@@ -1,35 +1,23 @@
 -- The metadata pages of an SSD image: read by number, stored, and the newest of them.
-use Prim.Native.Nat.{ℕ, zero, suc, _+_, _-_, _*_, _/_, _%_, _≤_, _<_}
-use mathlib.Core.Path.{_≡_, refl, sym, ap, subst, _∙_}
+use Prim.Native.Nat.{ℕ, zero, suc, _+_, _/_, _%_, _≤_, _<_}
+use mathlib.Core.Path.{_≡_, refl, ap, _∙_}
 use mathlib.Core.Logic.{_≢_}
-use mathlib.Core.Bool.{Bool, true, false, cond, not, _&&_, _||_}
-use mathlib.Core.List.{List, [], _∷_, _++_}
+use mathlib.Core.Bool.{cond}
+use mathlib.Core.List.{List, [], _∷_}
 use native.Mathlib.Omega.{arith}
 use native.Mathlib.Decide.{ℕ-discrete, decLt}
-use lib.ListN.{length, getD, set, length-set}
+use lib.ListN.{length, getD, set}
 use lib.Seq.{getD-set-same, getD-set-other}
-use lib.Dec.{eqb, ltb}
-use borrow.Author.Tests.{lt-ltb, le-ltb, ltb-true, ltb-false}
+use lib.Dec.{eqb}
+use borrow.Author.Tests.{lt-ltb, le-ltb, ne-eqb}
+use Rattle.layout.proofs.JudgeLaws.{length-firsts, get-firsts}
 use Rattle.pages.specs.Pages.{pageAt, putPage, Holds}
 use Rattle.pages.proofs.PageLaws.{put-same, put-other}
 use Rattle.layout.specs.declared.Slot.{Slot}
 use Rattle.layout.specs.declared.Label.{Label}
-use Rattle.layout.specs.declared.Entry.{Entry}
-use Rattle.layout.specs.Places.{metaPages, metaPlace, metaOf, entryOf, ssdLength}
+use Rattle.layout.specs.Places.{metaPages, metaOf, entryOf, ssdLength}
 use Rattle.layout.specs.MetaPage.{stampOf, windowOf, entryAt, firsts}
 use Rattle.protocol.specs.Recovery.{metasOf, entryIn, Newest, newer, newestFrom, newestOf}
-use Rattle.layout.proofs.Booleans.{Told, told, told-true, told-false, clash}
-
-pub length-firsts : {A : Type 0} (n : ℕ) (f : ℕ → A) → length (firsts n f) ≡ n
-unfolding firsts
-length-firsts zero f = refl
-length-firsts (suc n) f = ap suc (length-firsts n (λ k. f (suc k)))
-
-pub firsts-at : {A : Type 0} (n : ℕ) (f : ℕ → A) (k : ℕ) (d : A) → k < n → getD (firsts n f) k d ≡ f k
-unfolding firsts
-firsts-at zero f k d h = absurd (omega arith)
-firsts-at (suc n) f zero d h = refl
-firsts-at (suc n) f (suc k) d h = firsts-at n (λ j. f (suc j)) k d (omega arith)
 
 pub firsts-ext : {A : Type 0} (n : ℕ) (f g : ℕ → A) → ((k : ℕ) → k < n → g k ≡ f k) → firsts n g ≡ firsts n f
 unfolding firsts
@@ -56,7 +44,7 @@ module _ (l : Label) (ssd : List ℕ) where
 
   pub metas-at : (p : ℕ) → p < metaPages l → getD (metasOf l ssd) p [] ≡ pageAt ssd (1 + p)
   unfolding metasOf
-  metas-at p h = firsts-at (metaPages l) _ p [] h
+  metas-at p h = get-firsts (metaPages l) _ p [] h
 
 module _ (l : Label) (ssd : List ℕ) (size : length ssd ≡ ssdLength l) (page : List ℕ) (page-size : length page ≡ 4096) where
   -- a metadata page is stored
@@ -81,7 +69,7 @@ entry-set pages p page s h = go (ℕ-discrete (s .0 / 240) p)
     go : Dec (s .0 / 240 ≡ p) → entryAt (getD (set pages p page) (s .0 / 240) []) (s .0 % 240) ≡ cond (eqb (s .0 / 240) p)
         (entryAt page (s .0 % 240)) (entryAt (getD pages (s .0 / 240) []) (s .0 % 240))
     go (yes e) = rw (e, Rattle.protocol.proofs.model.Base.eqb-same p, getD-set-same pages p page [] h)
-    go (no n) = rw (Rattle.protocol.proofs.model.Base.eqb-other (s .0 / 240) p n, getD-set-other pages p (s .0 / 240) page [] n)
+    go (no n) = rw (ne-eqb (s .0 / 240) p n, getD-set-other pages p (s .0 / 240) page [] n)
 
 -- the newest of two
 newer-yes : (n : Newest) (page : List ℕ) → n .stamp < stampOf page → newer n page ≡ record { stamp = stampOf page; window = windowOf page }

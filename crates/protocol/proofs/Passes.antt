@@ -1,13 +1,13 @@
 -- A reachable box passes 3, 4 and 5; and the calls that are never refused.
-use Prim.Native.Nat.{ℕ, zero, _+_, _*_, _%_, _≤_, _<_}
+use Prim.Native.Nat.{ℕ, _+_, _*_, _%_, _≤_, _<_}
 use mathlib.Core.Path.{_≡_, refl, sym, ap, _∙_}
-use mathlib.Core.Bool.{Bool, true, false, not, _&&_, _||_}
-use mathlib.Core.List.{List, [], _∷_}
+use mathlib.Core.Bool.{Bool, true, false, not, _&&_}
+use mathlib.Core.List.{List}
 use mathlib.Core.Option.{none}
 use native.Mathlib.Omega.{arith}
 use lib.ListN.{length, getD}
 use lib.Dec.{eqb, leb}
-use borrow.Author.Tests.{le-leb, lt-leb, eq-eqb, lt-ltb}
+use borrow.Author.Tests.{le-leb, lt-leb, eq-eqb, lt-ltb, not-true}
 use Rattle.layout.specs.declared.Slot.{Slot}
 use Rattle.layout.specs.declared.Block.{Block}
 use Rattle.layout.specs.declared.Label.{Label}
@@ -16,33 +16,26 @@ use Rattle.layout.proofs.PlaceLaws.{within}
 use Rattle.record.specs.declared.Phase.the-variants.{Ready}
 use Rattle.protocol.specs.Rows.{rowBlock, rowFlags, valid, dirty, writing}
 use Rattle.record.specs.Record.{largestStamp}
-use Rattle.protocol.specs.Plan.{step, flush, lookUp, view, flushing, plan, storesMeta}
+use Rattle.protocol.specs.Plan.{step, flush, lookUp, view, flushing, plan, storesMeta, Call}
 use Rattle.record.specs.Rule.{stepsTest, recordTest}
-use Rattle.protocol.specs.Judge.{lengthsTest, lengthTest, rowTest, eachRow, isEmpty, agreeTest, rowsTest, isReady, test, chain, judged}
-use Rattle.record.specs.Window.{eachSlot}
+use Rattle.protocol.specs.Judge.{lengthsTest, lengthTest, isEmpty, agreeTest, rowsTest, isReady, test, judged, pageLengthTest, askedFirst}
 use Rattle.protocol.proofs.model.Base as base
+use Rattle.protocol.specs.Kinds.{Aim, aService, kind}
 use Rattle.layout.proofs.Booleans.{Told, told, told-true, told-false, clash}
-use Rattle.protocol.proofs.model.Base.{has, Window, eqb-same}
+use Rattle.protocol.proofs.model.Base.{has, Window}
 use Rattle.protocol.proofs.model.Model as model
 use Rattle.protocol.proofs.model.Model.{Row, Plain, Mending, opn, revived}
 use Rattle.protocol.proofs.model.Rows.{opn-valid, shut-opn}
-use Rattle.protocol.proofs.Windows.{nums, length-nums, has-nums, distinct-nums, below-nums, empty-nums}
+use Rattle.protocol.proofs.Windows.{nums, length-nums, has-nums, distinct-nums, below-nums, empty-nums, some-length}
 use Rattle.record.proofs.WindowLaws.{length-array, zero-past}
-use Rattle.protocol.proofs.Flags.{rowOf, Flags, f0, f1, f3, f5, f7, f9, f11, f13, f15, LegalRow, row-legal}
+use Rattle.protocol.proofs.Flags.{rowOf, Flags, f0, f1, f3, f5, f7, f9, f11, f13, f15, LegalRow}
 use Rattle.protocol.proofs.Tables.{rowAt, each-of, at-open}
-use Rattle.protocol.proofs.Judged.{first-none}
+use Rattle.protocol.proofs.Judged.{NoneHold, accepted}
 use Rattle.record.proofs.RecordLaws.{window-in}
-use Rattle.protocol.proofs.Abstract.{Core, phaseFor, boxOfCore, abs, Shape}
-
--- a test at each slot of a window
-slots-of : (t : Slot → Bool) (w : List Slot) → ((s : Slot) → listed s w ≡ true → t s ≡ true) → eachSlot t w ≡ true
-unfolding eachSlot listed
-slots-of t [] h = refl
-slots-of t (s ∷ w) h = rw (h s (rw (eqb-same (s .0))), slots-of t w (λ u q. h u (rw q (or-true (eqb (u .0) (s .0))))))
-  where
-    or-true : (b : Bool) → (b || true) ≡ true
-    or-true true = refl
-    or-true false = refl
+use Rattle.protocol.proofs.Abstract.{Core, phaseFor, boxOfCore, abs, Shape, ready-sound}
+use Rattle.protocol.proofs.Sound.{Sound, sound-agree, rows-legal}
+use Rattle.record.proofs.Each.{listed-same}
+use Rattle.protocol.proofs.why.RowsRules.{agree-same}
 
 -- a legal row that is free is zero
 free-zero : {l : Label} {b f : ℕ} → LegalRow l b f → rowOf b (f % 8) ≡ Row.free → (b ≡ 0) × (f ≡ 0)
@@ -88,69 +81,46 @@ module _ (l : Label) (k : Core) (S : Shape l k) (W : Window (l .slots) (nums (k 
   unfolding lengthTest lengthsTest
   length-pass = rw (eq-eqb _ _ (S .images .ssd-size), eq-eqb _ _ (S .images .hdd-size), eq-eqb _ _ (S .table-size))
 
-  each-pass : eachRow (λ s block flags. rowTest l block flags) 0 (k .table) ≡ true
-  each-pass = each-of (λ s block flags. rowTest l block flags) 0 (k .table)
-      (λ s h. row-legal l _ _ (S .rows s (omega (arith, S .table-size))))
-
   rows-pass : agreeTest (phaseFor (k .recovering)) (k .table) (k .window) ≡ true → rowsTest (boxOfCore l k .state) (k .table) ≡ true
   unfolding rowsTest
-  rows-pass a = rw (each-pass, window-in l (k .hand) (k .newest) (phaseFor (k .recovering)) (k .unconfirmed) (k .window)) a
+  rows-pass a =
+      rw (
+        rows-legal l (k .table) (S .table-size) .1 (S .rows),
+        window-in l (k .hand) (k .newest) (phaseFor (k .recovering)) (k .unconfirmed) (k .window),
+      ) a
 
 -- a ready box
 module _ (l : Label) (k : Core) (S : Shape l k) (p : Plain) (R : model.Ready (abs l k) p) where
   on : k .recovering ≡ false
   on = unfold abs in R .phase
 
-  W : Window (l .slots) (nums (k .window))
-  W = unfold abs in R .win-rule
-
-  open-is : (s : ℕ) → opn (rowAt (k .table) s) ≡ has (nums (k .window)) s
-  open-is = unfold abs in R .open-row
-
-  listed-low : (s : ℕ) → listed (record { 0 = s }) (k .window) ≡ true → s < l .slots
-  unfolding abs
-  listed-low s h = R .in-range s (opn-valid (rowAt (k .table) s) (open-is s ∙ has-nums (k .window) s ∙ h))
-
-  listed-writing : (s : Slot) → listed s (k .window) ≡ true → writing (rowFlags (k .table) s) ≡ true
-  listed-writing s h = sym (at-open l (k .table) (S .rows) (s .0) (listed-low (s .0) h)) ∙ open-is (s .0) ∙ has-nums (k .window) (s .0) ∙ h
-
-  writing-listed : (s : ℕ) → 2 * s + 1 < length (k .table)
-      → (not (writing (getD (k .table) (2 * s + 1) 0)) || listed (record { 0 = 0 + s }) (k .window)) ≡ true
-  writing-listed s h =
-      let i : s < l .slots = omega (arith, S .table-size) in
-      let z : 0 + s ≡ s = omega arith in
-      rw z (go (writing (getD (k .table) (2 * s + 1) 0)) (sym (at-open l (k .table) (S .rows) s i) ∙ open-is s ∙ has-nums (k .window) s))
-    where
-      go : (o : Bool) → o ≡ listed (record { 0 = s }) (k .window) → (not o || listed (record { 0 = s }) (k .window)) ≡ true
-      go true e = sym e
-      go false e = refl
+  T : Sound l (k .table) (k .window)
+  T = ready-sound l k S p R
 
   agree-ready : agreeTest (phaseFor (k .recovering)) (k .table) (k .window) ≡ true
-  agree-ready =
-      rw (on, slots-of (λ s. writing (rowFlags (k .table) s)) (k .window) listed-writing)
-      (each-of (λ s block flags. not (writing flags) || listed (record { 0 = s }) (k .window)) 0 (k .table) writing-listed)
+  agree-ready = rw on (agree-same Ready (k .table) (k .window) .1 (sound-agree T))
 
   -- the tests of 3 to 6 fail
   ready-record : recordTest (boxOfCore l k .state) ≡ true
-  ready-record = record-pass l k S W
+  ready-record = record-pass l k S (T .rule)
 
   ready-rows : rowsTest (boxOfCore l k .state) (k .table) ≡ true
-  ready-rows = rows-pass l k S W agree-ready
+  ready-rows = rows-pass l k S (T .rule) agree-ready
 
   ready-phase : isReady (phaseFor (k .recovering)) ≡ true
   ready-phase = rw on
 
+  -- so no service is refused by what is asked first
+  ready-first : (c : Call) {a : Aim} → kind c ≡ aService a → pageLengthTest (a .purpose) ≡ true
+      → NoneHold (askedFirst (kind c)) (λ r. test r c (boxOfCore l k))
+  unfolding test
+  ready-first c q m = rw q (rw ready-record, (rw (q, length-pass l k S (T .rule), m), (rw (q, ready-rows), (rw (q, on), tt))))
+
   pub view-judged : (b : Block) → b .0 < l .blocks → judged (view b) (boxOfCore l k) ≡ none
-  unfolding judged test
-  view-judged b h =
-      first-none (chain (view b)) (λ r. test r (view b) (boxOfCore l k))
-      (rw ready-record, (rw (length-pass l k S W), (rw ready-rows, (rw on, (lt-leb _ _ h, tt)))))
+  view-judged b h = accepted (view b) (boxOfCore l k) (ready-first (view b) refl refl) (unfold test in (lt-leb _ _ h, tt))
 
   pub look-judged : (b : Block) → b .0 < l .blocks → judged (lookUp b) (boxOfCore l k) ≡ none
-  unfolding judged test
-  look-judged b h =
-      first-none (chain (lookUp b)) (λ r. test r (lookUp b) (boxOfCore l k))
-      (rw ready-record, (rw (length-pass l k S W), (rw ready-rows, (rw on, (lt-leb _ _ h, tt)))))
+  look-judged b h = accepted (lookUp b) (boxOfCore l k) (ready-first (lookUp b) refl refl) (unfold test in (lt-leb _ _ h, tt))
 
   -- a flush has a stamp left
   flush-left : k .unconfirmed ≡ true → k .newest < largestStamp
@@ -158,10 +128,8 @@ module _ (l : Label) (k : Core) (S : Shape l k) (p : Plain) (R : model.Ready (ab
   flush-left u = omega (arith, R .budget, rw u at (R .short))
 
   pub flush-judged : judged flush (boxOfCore l k) ≡ none
-  unfolding judged test plan
-  flush-judged =
-      first-none (chain flush) (λ r. test r flush (boxOfCore l k))
-      (rw ready-record, (rw (length-pass l k S W), (rw ready-rows, (rw on, (go (told (k .unconfirmed)), tt)))))
+  unfolding test plan
+  flush-judged = accepted flush (boxOfCore l k) (ready-first flush refl refl) (go (told (k .unconfirmed)), tt)
     where
       go : Told (k .unconfirmed) → (storesMeta (flushing (k .unconfirmed)) && leb largestStamp (k .newest)) ≡ false
       go (told-true u) = rw (u, lt-leb _ _ (flush-left u))
@@ -179,11 +147,7 @@ module _ (l : Label) (k : Core) (S : Shape l k) (p : Plain) (M : Mending (abs l 
 
   pub some-pending : isEmpty (k .window) ≡ false
   unfolding abs
-  some-pending = sym (empty-nums (k .window)) ∙ not-is (model.empty (nums (k .window))) (sym (M .phase) ∙ on)
-    where
-      not-is : (b : Bool) → not b ≡ true → b ≡ false
-      not-is true e = sym e
-      not-is false e = refl
+  some-pending = sym (empty-nums (k .window)) ∙ not-true (model.empty (nums (k .window))) (sym (M .phase) ∙ on)
 
   pending-low : (s : ℕ) → listed (record { 0 = s }) (k .window) ≡ true → s < l .slots
   unfolding abs
@@ -209,7 +173,11 @@ module _ (l : Label) (k : Core) (S : Shape l k) (p : Plain) (M : Mending (abs l 
 
   agree-mending : agreeTest (phaseFor (k .recovering)) (k .table) (k .window) ≡ true
   agree-mending =
-      rw (on, some-pending, slots-of (λ s. eqb (rowBlock (k .table) s .0) 0 && eqb (rowFlags (k .table) s) 0) (k .window) pending-zero)
+      rw (
+        on,
+        some-pending,
+        listed-same (λ s. eqb (rowBlock (k .table) s .0) 0 && eqb (rowFlags (k .table) s) 0) (k .window) .1 pending-zero,
+      )
       (each-of (λ s block flags. not (writing flags)) 0 (k .table)
       (λ s h. rw (sym (at-open l (k .table) (S .rows) s (omega (arith, S .table-size))) ∙ shut-row s)))
 
@@ -223,18 +191,11 @@ module _ (l : Label) (k : Core) (S : Shape l k) (p : Plain) (M : Mending (abs l 
     some-length (k .window) some-pending,
     length-nums (k .window),
   )
-    where
-      some-length : (w : List Slot) → isEmpty w ≡ false → 0 < length w
-      some-length [] e = clash {b = true} refl e
-      some-length (s ∷ w) e = omega arith
 
   pub step-judged : judged step (boxOfCore l k) ≡ none
-  unfolding judged test plan
+  unfolding test plan
   step-judged =
-      first-none (chain step) (λ r. test r step (boxOfCore l k)) (
-        rw (record-pass l k S pending-rule),
-        (
-          rw (length-pass l k S pending-rule),
-          (rw (rows-pass l k S pending-rule agree-mending), (rw on, (rw (on, lt-leb _ _ mending-left), tt))),
-        ),
-      )
+      let P = pending-rule in
+      accepted step (boxOfCore l k)
+      (rw (record-pass l k S P), (rw (length-pass l k S P), (rw (rows-pass l k S P agree-mending), (rw on, tt))))
+      (rw (on, lt-leb _ _ mending-left), tt)

@@ -1,37 +1,35 @@
 -- Where a block is, by the definition and by the model.
-use Prim.Native.Nat.{ℕ, zero, suc, _+_, _-_, _*_, _≤_, _<_}
-use mathlib.Core.Path.{_≡_, refl, sym, ap, subst, _∙_}
+use Prim.Native.Nat.{ℕ, _+_, _*_, _<_}
+use mathlib.Core.Path.{_≡_, refl, sym, ap, _∙_}
 use mathlib.Core.Logic.{_≢_}
-use mathlib.Core.Bool.{Bool, true, false, cond, not, _||_}
+use mathlib.Core.Bool.{Bool, true, false, _||_, or-true}
 use mathlib.Core.List.{List, [], _∷_}
 use mathlib.Core.Option.{Option, some, none}
 use native.Mathlib.Omega.{arith}
 use native.Mathlib.Nat.{zero-add}
 use lib.ListN.{length, getD}
 use lib.Dec.{eqb}
+use borrow.Author.Tests.{eqb-true}
 use Rattle.pages.specs.Pages.{pageAt}
 use Rattle.layout.specs.declared.Slot.{Slot}
 use Rattle.layout.specs.declared.Block.{Block}
 use Rattle.layout.specs.declared.Label.{Label}
 use Rattle.layout.specs.declared.Entry.{Entry}
-use Rattle.layout.specs.Places.{metaPages, dataPlace, tableLength}
-use Rattle.layout.specs.MetaPage.{rowsFrom}
 use Rattle.layout.specs.PageRule.{listed}
 use Rattle.protocol.specs.Rows.{valid}
-use Rattle.protocol.specs.Box.{Images, Box}
 use Rattle.protocol.specs.Condition.{slotFrom}
 use Rattle.protocol.specs.Recovery.{metasOf, entryIn, newestOf, storedRows}
 use Rattle.protocol.specs.Judge.{isReady}
-use Rattle.protocol.specs.Demand3.{storedWindow, Outside, inWindow, Place, entryPlace, storedSlot, placeIf, place}
+use Rattle.protocol.specs.Demand3.{Outside, inWindow, Place, entryPlace, storedSlot, placeIf, place}
 use Rattle.layout.proofs.Booleans.{Told, told, told-true, told-false, clash}
-use Rattle.protocol.proofs.model.Base.{has, eqb-same, eqb-is}
+use Rattle.protocol.proofs.model.Base.{has, eqb-same}
 use Rattle.protocol.proofs.model.Model as model
-use Rattle.protocol.proofs.model.Model.{Row, Model, Plain, Stored, Mending, opn, blk}
+use Rattle.protocol.proofs.model.Model.{Plain, Stored, Mending, blk}
 use Rattle.protocol.proofs.model.View as seen
 use Rattle.protocol.proofs.model.View.{Found, found, viewAt}
 use Rattle.protocol.proofs.model.Places as places
 use Rattle.protocol.proofs.model.Places.{shutAt, down-outside, down-inside}
-use Rattle.protocol.proofs.Windows.{nums, has-nums}
+use Rattle.protocol.proofs.Windows.{has-nums}
 use Rattle.protocol.proofs.Tables.{rowAt}
 use Rattle.protocol.proofs.Conditions.{Located, located}
 use Rattle.protocol.proofs.Entries.{length-rows, rows-block, rows-flags}
@@ -39,7 +37,7 @@ use Rattle.protocol.proofs.Reopens.{valid-ent, block-ent, window-block}
 use Rattle.protocol.proofs.Passes.{shut-row}
 use Rattle.protocol.proofs.Views.{asSlot, read-view, look-slot}
 use Rattle.protocol.proofs.Claims.{ready-of, mending-of, unready-on}
-use Rattle.protocol.proofs.Abstract.{Core, phaseFor, boxOfCore, entAt, abs, ImagesKept, Shape, Phased}
+use Rattle.protocol.proofs.Abstract.{Core, phaseFor, boxOfCore, entAt, abs, Shape, Phased}
 
 -- the model's
 abbrev pub modelPlace : Label → Core → ℕ → Place
@@ -50,10 +48,6 @@ pub data InWindow (pages : List (List ℕ)) (w : List Slot) (b : Block) : Bool �
   inside : (s : Slot) → listed s w ≡ true → entryIn pages s .block .0 ≡ b .0 → InWindow pages w b true
   outside : ((s : Slot) → listed s w ≡ true → entryIn pages s .block .0 ≢ b .0) → InWindow pages w b false
 
-or-true : (b : Bool) → (b || true) ≡ true
-or-true true = refl
-or-true false = refl
-
 pub in-window : (pages : List (List ℕ)) (w : List Slot) (b : Block) → InWindow pages w b (inWindow pages w b)
 unfolding inWindow listed
 in-window pages [] b = outside λ s h. clash {b = false} h refl
@@ -61,7 +55,7 @@ in-window pages (s ∷ w) b = go (told (eqb (entryIn pages s .block .0) (b .0)))
   where
     go : {r : Bool} → Told (eqb (entryIn pages s .block .0) (b .0)) → InWindow pages w b r
         → InWindow pages (s ∷ w) b (elim (eqb (entryIn pages s .block .0) (b .0)) [ true ↦ true | false ↦ r ])
-    go (told-true e) I = rw e (inside s (rw (eqb-same (s .0))) (eqb-is _ _ e))
+    go (told-true e) I = rw e (inside s (rw (eqb-same (s .0))) (eqb-true _ _ e))
     go (told-false e) (inside t h q) = rw e (inside t (rw h (or-true (eqb (t .0) (s .0)))) q)
     go (told-false e) (outside h) = rw e (outside each)
       where
@@ -70,7 +64,7 @@ in-window pages (s ∷ w) b = go (told (eqb (entryIn pages s .block .0) (b .0)))
           where
             by : Told (eqb (t .0) (s .0)) → ⊥
             by (told-true y) =
-                let f : t .0 ≡ s .0 = eqb-is _ _ y in
+                let f : t .0 ≡ s .0 = eqb-true _ _ y in
                 let g : entryIn pages t ≡ entryIn pages s = ap (λ (n : ℕ). entryIn pages (record { 0 = n })) f in
                 clash {b = eqb (entryIn pages s .block .0) (b .0)} (rw (← g, z) (eqb-same (b .0))) e
             by (told-false y) = h t (rw y at q) z

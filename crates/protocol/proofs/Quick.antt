@@ -7,7 +7,6 @@ use Rattle.layout.specs.declared.Block.{Block}
 use Rattle.layout.specs.declared.Label.{Label}
 use Rattle.protocol.specs.Paper.{refused}
 use Rattle.protocol.specs.Box.{Images, Box, Effect, boxAfter, left}
-use Rattle.layout.specs.LabelPage.{after}
 use Rattle.protocol.specs.Plan.{Call, reopen}
 use Rattle.protocol.specs.Calls.{effectOf}
 use Rattle.protocol.specs.Events.{World, Junk, Arrival, Event, call, reopens, cut, called, handed, takenIf, reopened, survived, made, struck, apply, run}

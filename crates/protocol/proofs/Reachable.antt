@@ -1,44 +1,35 @@
 -- Every event keeps the invariant.
-use Prim.Native.Nat.{ℕ, zero, suc, _+_, _-_, _*_, _≤_, _<_}
+use Prim.Native.Nat.{ℕ}
 use mathlib.Core.Path.{_≡_, refl, sym, ap, subst, _∙_}
-use mathlib.Core.Bool.{Bool, true, false, not, _&&_}
+use mathlib.Core.Bool.{Bool, true, false, _&&_}
 use mathlib.Core.List.{List, [], _∷_}
 use mathlib.Core.Option.{Option, some, none}
-use native.Mathlib.Omega.{arith}
 use lib.ListN.{length}
-use lib.Dec.{leb, eqb}
-use borrow.Author.Tests.{leb-false, eqb-true, not-false}
-use Rattle.layout.specs.declared.Slot.{Slot}
-use Rattle.layout.specs.declared.Block.{Block}
+use lib.Dec.{eqb}
+use borrow.Author.Tests.{eqb-true, not-false}
 use Rattle.layout.specs.declared.Label.{Label}
 use mathlib.Core.Logic.{_⊎_, inl, inr}
 use Rattle.layout.specs.Places.{ssdLength, hddLength, tableLength}
 use Rattle.protocol.specs.Recovery.{labelAt}
 use Rattle.protocol.specs.Paper.{refused}
-use Rattle.protocol.specs.Box.{Images, Box, Store, Effect, Result, left, boxAfter, refusing, applied}
-use Rattle.protocol.specs.Condition.{conditionOf}
-use Rattle.protocol.specs.Plan.{Call, format, step, flush, reopen, offer, fetch, landFetch, lookUp, view, writeBack, land, plan}
+use Rattle.protocol.specs.Box.{Images, Box, Store, applied}
+use Rattle.protocol.specs.Plan.{Call, format, step, reopen, plan}
 use Rattle.protocol.specs.Perform.{perform}
-use Rattle.protocol.specs.Judge.{Reason, wrongPhase, test, lengthsTest, lengthTest, chain, judged, isReady}
+use Rattle.protocol.specs.Judge.{Reason, wrongLength, wrongPhase, test, lengthsTest, lengthTest, judged}
 use Rattle.protocol.specs.Calls.{decided, effectOf, resultOf}
 use Rattle.protocol.specs.ReferenceDisk.{Disk}
 use Rattle.protocol.specs.Events.{World, Junk, Arrival, old, new, Event, call, reopens, cut, called, handed, takenIf, reopened, survived, made, struck, apply, run, CallFits, Fits, AllFit}
-use Rattle.layout.proofs.Booleans.{Told, told, told-true, told-false, clash}
-use Rattle.protocol.proofs.model.Base.{and-left, and-right}
+use Rattle.layout.proofs.Booleans.{clash, and-parts}
 use Rattle.protocol.proofs.model.Model as model
-use Rattle.protocol.proofs.model.Model.{Model, Plain, Stored, Mending}
-use Rattle.protocol.proofs.Judged.{NoneHold, none-hold}
-use Rattle.protocol.proofs.Conditions.{stands}
-use Rattle.protocol.proofs.ReadyCalls.{calledAs, called-as, refused-same, worldOf, stay-next, offer-next, fetch-next, land-next, landFetch-next, lookUp-next, writeBack-next, flush-next}
+use Rattle.protocol.proofs.model.Model.{Plain, Stored, Mending}
+use Rattle.protocol.proofs.Judged.{passed, passed-first}
+use Rattle.protocol.proofs.Sorted.{Sorted, is-format, is-reopen, is-step, is-service, sorted}
+use Rattle.protocol.proofs.ReadyCalls.{calledAs, called-as, refused-same, worldOf, service-next}
 use Rattle.protocol.proofs.Reopens.{label-is, reopen-judged}
 use Rattle.protocol.proofs.MendingCalls.{phased-stored, step-inv, reopen-inv}
-use Rattle.protocol.proofs.Abstract.{Core, phaseFor, boxOfCore, abs, ImagesKept, Shape, Agrees, Phased, is-ready, is-mending, Inv}
+use Rattle.protocol.proofs.Abstract.{Core, boxOfCore, abs, ImagesKept, Shape, Agrees, Phased, is-ready, is-mending, Inv}
 
--- a call that no reason refuses: none of its chain holds, and it answers what its plan says
-pub facts : (c : Call) (x : Box) → judged c x ≡ none → NoneHold (chain c) (λ r. test r c x)
-unfolding judged
-facts c x e = none-hold (chain c) (λ r. test r c x) e
-
+-- a call that no reason refuses answers what its plan says
 pub said-of : (c : Call) (x : Box) → judged c x ≡ none → refused (resultOf c x .said) ≡ refused (perform (plan c x) x .said)
 unfolding effectOf
 said-of c x e = ap (λ (o : Option Reason). refused (decided o c x .said)) e
@@ -56,18 +47,14 @@ pub data Mendable : Call → Type 0 where
 
 pub mendable : (l : Label) (k : Core) (d : Disk) → k .recovering ≡ true → (c : Call) → CallFits c (worldOf l k d)
     → judged c (boxOfCore l k) ≡ none → Mendable c
-unfolding test
-mendable l k d on (format slots blocks) f e = no-format slots blocks (worldOf l k d) f e
-mendable l k d on step f e = steps
-mendable l k d on reopen f e = reopens-it
-mendable l k d on flush f e = clash {b = true} refl (rw on at (facts flush (boxOfCore l k) e .1 .1 .1 .0))
-mendable l k d on (offer b) f e = clash {b = true} refl (rw on at (facts (offer b) (boxOfCore l k) e .1 .1 .1 .0))
-mendable l k d on (fetch b) f e = clash {b = true} refl (rw on at (facts (fetch b) (boxOfCore l k) e .1 .1 .1 .0))
-mendable l k d on (landFetch b) f e = clash {b = true} refl (rw on at (facts (landFetch b) (boxOfCore l k) e .1 .1 .1 .0))
-mendable l k d on (lookUp b) f e = clash {b = true} refl (rw on at (facts (lookUp b) (boxOfCore l k) e .1 .1 .1 .0))
-mendable l k d on (view b) f e = clash {b = true} refl (rw on at (facts (view b) (boxOfCore l k) e .1 .1 .1 .0))
-mendable l k d on (writeBack b) f e = clash {b = true} refl (rw on at (facts (writeBack b) (boxOfCore l k) e .1 .1 .1 .0))
-mendable l k d on (land b page) f e = clash {b = true} refl (rw on at (facts (land b page) (boxOfCore l k) e .1 .1 .1 .0))
+mendable l k d on c = go (sorted c)
+  where
+    go : {c : Call} → Sorted c → CallFits c (worldOf l k d) → judged c (boxOfCore l k) ≡ none → Mendable c
+    go (is-format slots blocks) f e = no-format slots blocks (worldOf l k d) f e
+    go is-step f e = steps
+    go is-reopen f e = reopens-it
+    go (is-service {c} q _) f e =
+        clash {b = true} refl (unfold test in (rw (q, on) at (passed-first c (boxOfCore l k) e q wrongPhase refl)))
 
 -- a call that is not refused
 module _ (l : Label) (k : Core) (S : Shape l k) (d : Disk) (p : Plain) (A : Agrees l d p) where
@@ -83,39 +70,11 @@ module _ (l : Label) (k : Core) (S : Shape l k) (d : Disk) (p : Plain) (A : Agre
     on : k .recovering ≡ false
     on = unfold abs in R .phase
 
-    ready-call : (c : Call) → CallFits c (worldOf l k d) → judged c (boxOfCore l k) ≡ none → Inv l (called c (worldOf l k d))
-    unfolding test plan
-    ready-call (format slots blocks) f e = no-format slots blocks (worldOf l k d) f e
-    ready-call step f e = clash {b = true} refl (rw on at (facts step (boxOfCore l k) e .1 .1 .1 .0))
-    ready-call flush f e = rw (made-as flush e)
-        (flush-next l k S d p A R (k .unconfirmed) refl (facts flush (boxOfCore l k) e .1 .1 .1 .1 .0))
-    ready-call reopen f e = reopen-call (phased-stored (abs l k) p (is-ready R))
-    ready-call (offer b) f e =
-        let q = facts (offer b) (boxOfCore l k) e in
-        let t = q .1 .1 .1 .1 in
-        rw (made-as (offer b) e) (offer-next l k S d p A R b (leb-false _ _ (t .0)) (stands l (k .table) (S .table-size) b) (t .1 .0)
-        (t .1 .1 .0) (t .1 .1 .1 .1 .0))
-    ready-call (fetch b) f e =
-        let q = facts (fetch b) (boxOfCore l k) e in
-        let t = q .1 .1 .1 .1 in
-        rw (made-as (fetch b) e) (fetch-next l k S d p A R b (leb-false _ _ (t .0)) (stands l (k .table) (S .table-size) b)
-        (t .1 .1 .1 .0) (t .1 .1 .1 .1 .1 .0))
-    ready-call (landFetch b) f e =
-        let q = facts (landFetch b) (boxOfCore l k) e in
-        let t = q .1 .1 .1 .1 in
-        rw (made-as (landFetch b) e) (landFetch-next l k S d p A R b (leb-false _ _ (t .0)) (stands l (k .table) (S .table-size) b)
-        (not-false _ (t .1 .0)))
-    ready-call (lookUp b) f e = rw (made-as (lookUp b) e) (lookUp-next l k S d p A R b (stands l (k .table) (S .table-size) b))
-    ready-call (view b) f e = rw (made-as (view b) e) (stay-next l k S d p A R (view b) _ p refl refl A R)
-    ready-call (writeBack b) f e = rw (made-as (writeBack b) e) (writeBack-next l k S d p A R b (stands l (k .table) (S .table-size) b))
-    ready-call (land b page) f e =
-        let q = facts (land b page) (boxOfCore l k) e in
-        let t = q .1 .1 .1 .1 in
-        let size : length page ≡ 4096 = eqb-true _ _
-        (and-right (lengthTest l (record { ssd = k .ssd; hdd = k .hdd }) (k .table)) (eqb (length page) 4096) (not-false _ (q .1 .0)))
-        in
-        rw (made-as (land b page) e) (land-next l k S d p A R b page (leb-false _ _ (t .0)) size (stands l (k .table) (S .table-size) b)
-        (not-false _ (t .1 .0)))
+    ready-call : {c : Call} → Sorted c → CallFits c (worldOf l k d) → judged c (boxOfCore l k) ≡ none → Inv l (called c (worldOf l k d))
+    ready-call (is-format slots blocks) f e = no-format slots blocks (worldOf l k d) f e
+    ready-call is-step f e = clash {b = true} refl (unfold test in (rw on at (passed step (boxOfCore l k) e wrongPhase refl)))
+    ready-call is-reopen f e = reopen-call (phased-stored (abs l k) p (is-ready R))
+    ready-call (is-service {c} K does) f e = rw (made-as c e) (service-next l k S d p A R c K (does (boxOfCore l k) e))
 
   -- a mending box
   module _ (M : Mending (abs l k) p) (on : k .recovering ≡ true) where
@@ -146,7 +105,7 @@ call-inv l c w f I = at-core (λ v. CallFits c v → Inv l (called c v)) I go f
     by none e g = phase (I .phased)
       where
         phase : Phased (abs l (I .core)) (I .plain) → Inv l (called c (worldOf l (I .core) (w .disk)))
-        phase (is-ready R) = ready-call l (I .core) (I .shape) (w .disk) (I .plain) (I .agrees) R c g e
+        phase (is-ready R) = ready-call l (I .core) (I .shape) (w .disk) (I .plain) (I .agrees) R (sorted c) g e
         phase (is-mending on M) = mending-call l (I .core) (I .shape) (w .disk) (I .plain) (I .agrees) M (unfold abs in on) c g e
 
     go : CallFits c (worldOf l (I .core) (w .disk)) → Inv l (called c (worldOf l (I .core) (w .disk)))
@@ -159,14 +118,14 @@ module _ (l : Label) (k : Core) (p : Plain) (K : ImagesKept l (k .ssd) (k .hdd))
   label-there = ap (λ (i : Images). labelAt (i .ssd)) im ∙ label-is l k p K St
 
   table-judged : judged reopen x ≡ none → length (x .table) ≡ tableLength l
-  unfolding judged test lengthTest lengthsTest
+  unfolding test lengthTest lengthsTest
   table-judged e =
-      let q = none-hold (chain reopen) (λ r. test r reopen x) e .1 .0 in
       let a = labelAt (x .images .ssd) in
       let i = eqb (length (x .images .ssd)) (ssdLength a) in
       let j = eqb (length (x .images .hdd)) (hddLength a) in
       let t = eqb (length (x .table)) (tableLength a) in
-      let r : t ≡ true = and-right j t (and-right i (j && t) (and-left (i && (j && t)) true (not-false _ q))) in
+      let q = not-false _ (passed reopen x e wrongLength refl) in
+      let r : t ≡ true = and-parts j t (and-parts i (j && t) (and-parts (i && (j && t)) true q .0) .1) .1 in
       eqb-true _ _ r ∙ ap tableLength label-there
 
   pub table-right : refused (resultOf reopen x .said) ≡ false → length (x .table) ≡ tableLength l

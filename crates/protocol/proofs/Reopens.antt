@@ -27,7 +27,7 @@ use Rattle.protocol.specs.Box.{Images, Box, left, boxAfter}
 use Rattle.protocol.specs.Recovery.{labelRead, labelAt, metasOf, entryIn, newestOf, storedRows, pagesTest, recovered, recover}
 use Rattle.protocol.specs.Plan.{reopen, recovers}
 use Rattle.protocol.specs.Perform.{perform}
-use Rattle.protocol.specs.Judge.{labelTest, lengthsTest, lengthTest, test, chain, firstOf, judged, isEmpty}
+use Rattle.protocol.specs.Judge.{labelTest, lengthsTest, lengthTest, test, judged, isEmpty}
 use Rattle.protocol.proofs.model.Base.{has}
 use Rattle.protocol.proofs.model.Model as model
 use Rattle.protocol.proofs.model.Model.{Row, Plain, Stored, dty, opn, blk, revived, reopened, same-path}
@@ -37,7 +37,7 @@ use Rattle.protocol.proofs.Flags.{rowOf}
 use Rattle.protocol.proofs.Tables.{rowAt, rowAt-out, Rows}
 use Rattle.protocol.proofs.Metas.{length-metas}
 use Rattle.protocol.proofs.Entries.{length-rows, rows-block, rows-flags, LegalEntry, legal-entry, SameEntry, same-entry, ent-in, recovered-row, recovered-legal, each-legal, stamps-differ, none-twice, all-open}
-use Rattle.protocol.proofs.Judged.{first-none}
+use Rattle.protocol.proofs.Judged.{accepted}
 use Rattle.protocol.proofs.Performed.{phase-empty}
 use Rattle.protocol.proofs.Abstract.{Core, boxOfCore, entAt, abs, ImagesKept, Shape}
 
@@ -185,12 +185,11 @@ module _ (l : Label) (k : Core) (p : Plain) (K : ImagesKept l (k .ssd) (k .hdd))
 
   pub reopen-judged : (x : Box) → x .images ≡ record { ssd = k .ssd; hdd = k .hdd } → length (x .table) ≡ tableLength l
       → judged reopen x ≡ none
-  unfolding judged test
+  unfolding test
   reopen-judged x e h =
-      ap (λ (im : Images). firstOf (chain reopen) (λ r. test r reopen (record { images = im; table = x .table; state = x .state }))) e
-      ∙ first-none (chain reopen) (λ r. test r reopen
-      (record { images = record { ssd = k .ssd; hdd = k .hdd }; table = x .table; state = x .state }))
-      (rw label-pass, (rw (label-is, length-pass (x .table) h), (rw (label-is, pages-pass), tt)))
+      ap (λ (im : Images). judged reopen (record { images = im; table = x .table; state = x .state })) e
+      ∙ accepted reopen (record { images = record { ssd = k .ssd; hdd = k .hdd }; table = x .table; state = x .state })
+      (rw label-pass, (rw (label-is, length-pass (x .table) h), (rw (label-is, pages-pass), tt))) tt
 
   -- what it leaves
   pub reopen-box : (x : Box) → x .images ≡ record { ssd = k .ssd; hdd = k .hdd }

@@ -17,9 +17,10 @@ use Rattle.protocol.specs.Box.{Box, Image, ssdImage, hddImage, Store, Ef
 use Rattle.protocol.specs.Plan.{Call, format, step, flush, reopen, offer, land, fetch, landFetch, lookUp, view, writeBack}
 use Rattle.protocol.specs.Recovery.{Recovered}
 use Rattle.protocol.specs.Judge.{windowFull, allOpen, labelFor, lengthsTest, lengthTest, judged}
+use Rattle.protocol.specs.Kinds.{kind}
 use Rattle.protocol.specs.Calls.{effectOf}
 use Rattle.protocol.specs.Events.{call}
-use Rattle.protocol.proofs.Report.{nothing, label, meta, slot, block, line, diskOf, lost, start, filled, metaPage, labelPage, pages}
+use Rattle.protocol.proofs.Report.{nothing, meta, slot, line, diskOf, lost, start, filled, metaPage, labelPage, pages}
 use Rattle.layout.proofs.PlaceLaws.{sameLabel}
 use Rattle.protocol.proofs.Known.{effectKnown, effect-known, known}
 use Rattle.protocol.proofs.QuickRows.{walked, bothWalked, quickTest, quickRecover, quick-recover}
@@ -369,7 +370,7 @@ windows =
 
 -- the lengths of such a box are known
 counted : (c : Call) (table : List ℕ) (state : Record) (wanted : Effect)
-    → sameLabel (labelFor c (boxed table state)) one ≡ true
+    → sameLabel (labelFor (kind c) (boxed table state)) one ≡ true
     → effectKnown one c (boxed table state) ≡ wanted
     → effectOf c (boxed table state) ≡ wanted
 counted c table state wanted e h = effect-known one c (boxed table state) sized-one e ∙ h

@@ -1,45 +1,37 @@
 -- A metadata page stored: what entries, newest window, data pages and page rules are then.
-use Prim.Native.Nat.{ℕ, zero, suc, _+_, _-_, _*_, _/_, _%_, _^_, _≤_, _<_, min}
-use mathlib.Core.Path.{_≡_, refl, sym, ap, subst, _∙_}
+use Prim.Native.Nat.{ℕ, _+_, _-_, _*_, _/_, _%_, _^_, _≤_, _<_, min}
+use mathlib.Core.Path.{_≡_, refl, sym, ap, _∙_}
 use mathlib.Core.Logic.{_≢_}
-use mathlib.Core.Bool.{Bool, true, false, cond, not, _&&_, _||_}
-use mathlib.Core.List.{List, [], _∷_, _++_}
+use mathlib.Core.Bool.{true, cond}
+use mathlib.Core.List.{List, []}
 use native.Mathlib.Omega.{arith}
 use native.Mathlib.Decide.{ℕ-discrete, decLt}
 use native.Mathlib.Nat.{add-zero}
-use lib.ListN.{length, getD, set, take, drop, length-set, length-take, length-drop, List·getD-eq-default}
+use lib.ListN.{length, getD, set, drop, length-take, length-drop, List·getD-eq-default}
 use lib.Seq.{getD-take, getD-drop, getD-set-same, getD-set-other}
 use lib.Dec.{eqb, ltb}
-use borrow.Author.Tests.{lt-ltb, le-ltb, ltb-true, ltb-false}
+use borrow.Author.Tests.{ltb-false, eqb-true}
 use Rattle.pages.specs.Pages.{pageAt, putPage, Holds}
 use Rattle.pages.proofs.PageLaws.{put-same, put-other, length-put}
 use Rattle.layout.specs.declared.Slot.{Slot}
 use Rattle.layout.specs.declared.Label.{Label}
-use Rattle.layout.specs.declared.Entry.{Entry}
-use Rattle.layout.specs.Places.{Limits, metaPages, metaPlace, ssdLength, tableLength, metaOf, entryOf}
+use Rattle.layout.specs.Places.{Limits, metaPages, tableLength}
 use Rattle.layout.specs.MetaPage.{encodeMeta, rowsOn, stampOf, windowOf, entryAt}
-use Rattle.layout.specs.PageRule.{pageTest, pairTest, listed, distinct, inRange}
-use Rattle.layout.proofs.RoundTrip.{encoded-legal}
-use Rattle.layout.proofs.MetaLaws.{length-encode, encode-stamp, encode-window, encode-entry, Fit}
-use Rattle.protocol.specs.Recovery.{metasOf, entryIn, Newest, newestOf}
+use Rattle.layout.specs.PageRule.{pageTest, pairTest, inRange}
+use Rattle.layout.proofs.RoundTrip.{encoded-legal, range-fit}
+use Rattle.layout.proofs.MetaLaws.{length-encode, encode-stamp, encode-window, encode-entry}
+use Rattle.protocol.specs.Recovery.{metasOf, entryIn, newestOf}
 use Rattle.protocol.specs.Rows.{valid}
 use Rattle.protocol.specs.Judge.{rowTest}
-use Rattle.layout.proofs.Booleans.{Told, told, told-true, told-false, clash}
-use Rattle.protocol.proofs.model.Base.{Window, eqb-same, eqb-other, eqb-is, and-left, and-right}
+use Rattle.layout.proofs.Booleans.{Told, told, told-true, told-false, and-parts}
+use Rattle.protocol.proofs.model.Base.{Window}
 use Rattle.protocol.proofs.model.Base as base
 use Rattle.protocol.proofs.model.Model.{Row}
 use Rattle.protocol.proofs.Windows.{nums, length-nums, distinct-nums, below-nums}
 use Rattle.protocol.proofs.Flags.{rowOf, LegalRow, row-legal}
 use Rattle.protocol.proofs.Tables.{rowAt, rowAt-out, Rows}
-use Rattle.protocol.proofs.Metas.{metas-put, metas-else, metas-at, length-metas, entry-set, newest-set, stamp-most}
+use Rattle.protocol.proofs.Metas.{metas-put, metas-else, length-metas, entry-set, newest-set, stamp-most}
 use Rattle.protocol.proofs.Abstract.{entAt, Pages, ImagesKept}
-
--- slots in range are numbers of 4 bytes
-fit-window : (l : Label) (w : List Slot) → l .slots ≤ 57600 → inRange l w ≡ true → Fit w
-unfolding inRange
-fit-window l [] h e k q = absurd (omega arith)
-fit-window l (s ∷ w) h e zero q = let m = ltb-true (s .0) (l .slots) (and-left (ltb (s .0) (l .slots)) (inRange l w) e) in omega arith
-fit-window l (s ∷ w) h e (suc k) q = fit-window l w h (and-right (ltb (s .0) (l .slots)) (inRange l w) e) k (omega arith)
 
 -- the row of slot s stands in the rows of its page
 module _ (l : Label) (table : List ℕ) (size : length table ≡ tableLength l) (p : ℕ) where
@@ -58,7 +50,7 @@ module _ (l : Label) (table : List ℕ) (size : length table ≡ tableLength l) 
 -- a legal row, as its entry is judged
 pair-legal : (l : Label) (b f : ℕ) → LegalRow l b f → pairTest l b (f % 8) ≡ true
 unfolding rowTest
-pair-legal l b f r = and-left (pairTest l b (f % 8)) _ (row-legal l b f r)
+pair-legal l b f r = and-parts (pairTest l b (f % 8)) _ (row-legal l b f r) .0
 
 -- a page of a stamp, a window and the rows of a table
 module _
@@ -92,7 +84,7 @@ module _
     page-stamp = encode-stamp t w (rowsOn p table) few rows-few t-fits
 
     pub page-window : windowOf (encodeMeta t w (rowsOn p table)) ≡ w
-    page-window = encode-window t w (rowsOn p table) few rows-few (fit-window l w (limits .slots-most) ranged)
+    page-window = encode-window t w (rowsOn p table) few rows-few (range-fit l w (limits .slots-most) ranged)
 
     -- a block in a table is a number of 4 bytes
     block-small : (s : ℕ) → getD table (2 * s) 0 < 2 ^ 32
@@ -182,7 +174,7 @@ module _
             (cond (ltb s (l .slots)) (rowOf (entryIn (metasOf l ssd) (record { 0 = s }) .block .0)
             (entryIn (metasOf l ssd) (record { 0 = s }) .flags)) Row.free)
         go (told-true h) (told-true e) =
-            let f : s / 240 ≡ p = eqb-is _ _ e in
+            let f : s / 240 ≡ p = eqb-true _ _ e in
             let g : 240 * p + s % 240 ≡ s = omega arith in
             let e₀ : entryAt page (s % 240) ≡ record {
               block = record { 0 = getD table (2 * (240 * p + s % 240)) 0 };

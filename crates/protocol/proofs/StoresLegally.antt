@@ -1,54 +1,47 @@
 -- Every metadata page that an accepted call stores keeps the page's rule, and says table, window and stamp.
-use Prim.Native.Nat.{ℕ, zero, suc, _+_, _-_, _*_, _/_, _^_, _<_}
+use Prim.Native.Nat.{ℕ, zero, suc, _+_, _^_, _<_}
 use mathlib.Core.Path.{_≡_, refl, sym, ap, subst, _∙_}
 use mathlib.Core.Logic.{_≢_}
-use mathlib.Core.Bool.{Bool, true, false, not, _&&_}
+use mathlib.Core.Bool.{Bool, true, false, _&&_}
 use mathlib.Core.List.{List, [], _∷_, _++_}
-use mathlib.Core.Option.{Option, some, none}
+use mathlib.Core.Option.{Option, some, none, Option·some-injective, Option·none-ne-some}
 use native.Mathlib.Omega.{arith}
-use lib.ListN.{length, getD}
-use lib.Dec.{eqb, leb, ltb}
+use lib.ListN.{length}
+use lib.Dec.{leb}
 use borrow.Author.Tests.{leb-false}
 use Rattle.layout.specs.declared.Slot.{Slot}
 use Rattle.layout.specs.declared.Block.{Block}
 use Rattle.layout.specs.declared.Label.{Label}
-use Rattle.layout.specs.Places.{Limits, metaPages, metaPlace, tableLength}
+use Rattle.layout.specs.Places.{Limits, metaPages, metaPlace, metaOf, tableLength}
 use Rattle.layout.specs.LabelPage.{encodeLabel}
 use Rattle.layout.specs.MetaPage.{encodeMeta, rowsOn}
-use Rattle.layout.specs.PageRule.{listed}
 use Rattle.layout.proofs.RuleLaws.{page-rule}
 use Rattle.record.specs.declared.Record.{Record}
 use Rattle.record.specs.declared.Phase.{Phase}
 use Rattle.record.specs.declared.Phase.the-variants.{Formatting, Recovering, Ready}
-use Rattle.protocol.specs.declared.Condition.{Condition}
-use Rattle.protocol.specs.declared.Condition.the-variants.{NotCached, Clean, Dirty, Writing, Fetching}
 use Rattle.protocol.specs.Paper.{Paper, announced, done}
-use Rattle.protocol.specs.Rows.{rowFlags, setRow, valid, dirty, writing, withWriting}
+use Rattle.protocol.specs.Rows.{rowFlags, setRow, writing}
 use Rattle.record.specs.Record.{labelIn, windowIn, withHand, withPhase, withStamp, largestStamp}
 use Rattle.protocol.specs.Box.{Box, Image, ssdImage, hddImage, Store, Effect}
-use Rattle.protocol.specs.Condition.{conditionOf}
-use Rattle.protocol.specs.Sweep.{nextSlot, Victim, sweep}
 use Rattle.protocol.specs.Recovery.{offPage}
-use Rattle.protocol.specs.Plan.{Call, format, step, flush, reopen, offer, fetch, landFetch, lookUp, view, writeBack, land, opens, lands, confirms, mends, formats, takesAs, takes, offering, fetching, landing, landingFetch, lookingUp, writingBack, flushing, lowestPage, stepping, plan, storesMeta}
+use Rattle.protocol.specs.Plan.{Call, step, opens, lands, mends, formats, lowestPage, stepping, plan, storesMeta, Move}
 use Rattle.protocol.specs.Perform.{confirmed, joined, landedAs, mendedAt, formatStore, formatState, perform}
-use Rattle.protocol.specs.Judge.{Reason, isEmpty, agreeTest, openRows, test, judged, isReady}
-use Rattle.record.specs.Window.{eachSlot}
+use Rattle.protocol.specs.Judge.{Reason, isEmpty, agreeTest, test, judged, stampsSpent}
 use Rattle.protocol.specs.Calls.{decided, effectOf}
 use Rattle.protocol.specs.Beside.{stampStored, MetaStored, StoresLegally}
-use Rattle.layout.proofs.Booleans.{Told, told, told-true, told-false, clash}
-use Rattle.protocol.proofs.model.Base.{Window, keep-window, snoc-window, has, and-left, and-right}
-use Rattle.protocol.proofs.Windows.{nums, nums-append, nums-one, nums-off, has-nums}
+use Rattle.layout.proofs.Booleans.{Told, told, told-true, told-false, clash, and-parts}
+use Rattle.protocol.proofs.model.Base.{Window, keep-window}
+use Rattle.protocol.proofs.Windows.{nums, nums-off}
 use Rattle.record.proofs.WindowLaws.{take-array}
-use Rattle.protocol.proofs.Flags.{Flags, f5, f7, LegalRow, changed-open, changed-row}
-use Rattle.protocol.proofs.Tables.{Rows, set-rows, length-row, at-open}
-use Rattle.protocol.proofs.Conditions.{Stands, absent, is-clean, is-dirty, is-writing, is-fetching, stands}
-use Rattle.protocol.proofs.Counting.{window-count}
-use Rattle.protocol.proofs.Sweeps.{Alike, alike-same, Swept, took, stuck, swept}
+use Rattle.protocol.proofs.Tables.{Rows}
+use Rattle.protocol.specs.Kinds.{Aim}
 use Rattle.protocol.proofs.Stores.{page-stamp, page-window, page-entry, page-legal}
-use Rattle.protocol.proofs.ReadyCalls.{by-bool}
-use Rattle.protocol.proofs.Reachable.{facts}
+use Rattle.protocol.proofs.Judged.{passed}
 use Rattle.protocol.proofs.UpdateFirst.{none-of}
-use Rattle.protocol.proofs.Accepted.{Legal, legal-judged}
+use Rattle.protocol.proofs.Sound.{Sound}
+use Rattle.protocol.proofs.Accepted.{Legal, step-legal, service-legal, service-ready, legal-sound}
+use Rattle.protocol.proofs.Does.{Opening, Does, does-nothing, does-use, does-open, does-copy, does-land, does-fetch, does-rest, does-confirm, opening-sound}
+use Rattle.protocol.proofs.Sorted.{Sorted, is-format, is-reopen, is-step, is-service, sorted}
 
 -- a page of this table, window and stamp
 meta-stored : (l : Label) → Limits l → (table : List ℕ) → length table ≡ tableLength l → Rows l table → (t : ℕ) → t < 2 ^ 32
@@ -69,10 +62,10 @@ Stores l ph e =
     → MetaStored l p (s .bytes) ph (e .state) (e .table)
 
 no-store : {A : Type 0} {s : Store} → none ≡ some s → A
-no-store q = let z : _≡_ {A = ℕ} 0 1 = cc in absurd (omega arith)
+no-store {s = s} q = absurd (Option·none-ne-some s q)
 
 the-store : {s t : Store} → some s ≡ some t → s ≡ t
-the-store q = cc
+the-store {s} {t} q = Option·some-injective s t q
 
 -- a store on the HDD is none on the SSD
 isSsd : Image → Bool
@@ -129,143 +122,7 @@ confirmed-stores l K r e table size R n W ph v q said =
     go ready = refl
     go recovering = refl
 
--- what a test at each slot of a window says
-slots-get : (t : Slot → Bool) (w : List Slot) → eachSlot t w ≡ true → (s : ℕ) → listed (record { 0 = s }) w ≡ true
-    → t (record { 0 = s }) ≡ true
-unfolding eachSlot listed
-slots-get t [] e s h = clash {b = false} h refl
-slots-get t (u ∷ w) e s h = go (told (eqb s (u .0))) (λ k. slots-get t w (and-right (t u) (eachSlot t w) e) s k)
-  where
-    go : Told (eqb s (u .0)) → (listed (record { 0 = s }) w ≡ true → t (record { 0 = s }) ≡ true) → t (record { 0 = s }) ≡ true
-    go (told-true q) ih = let z : s ≡ u .0 = Rattle.protocol.proofs.model.Base.eqb-is _ _ q in
-        ap (λ (n : ℕ). t (record { 0 = n })) z ∙ and-left (t u) (eachSlot t w) e
-    go (told-false q) ih = ih (rw q at h)
-
-below-get : (n : ℕ) (w : List ℕ) → Rattle.protocol.proofs.model.Base.below n w ≡ true → (s : ℕ) → has w s ≡ true → s < n
-unfolding Rattle.protocol.proofs.model.Base.below has
-below-get n [] e s h = clash {b = false} h refl
-below-get n (u ∷ w) e s h = go (told (eqb s u)) (λ k. below-get n w (and-right (ltb u n) _ e) s k)
-  where
-    go : Told (eqb s u) → (has w s ≡ true → s < n) → s < n
-    go (told-true q) ih = let z : s ≡ u = Rattle.protocol.proofs.model.Base.eqb-is _ _ q in
-        rw z (Rattle.protocol.proofs.model.Moves.ltb-lt u n (and-left (ltb u n) _ e))
-    go (told-false q) ih = ih (rw q at h)
-
--- a legal box that is ready
-module _ (x : Box) (L : Legal x) (on : x .state .phase ≡ Ready) where
-  abbrev lab : Label
-  lab = labelIn (x .state)
-
-  serving : Serving (x .state .phase)
-  serving = rw on ready
-
-  agreed : agreeTest Ready (x .table) (windowIn (x .state)) ≡ true
-  agreed = subst (λ (q : Phase). agreeTest q (x .table) (windowIn (x .state)) ≡ true) on (L .agree)
-
-  listed-open : (s : ℕ) → has (nums (windowIn (x .state))) s ≡ true
-      → (2 * s + 1 < length (x .table)) × (writing (getD (x .table) (2 * s + 1) 0) ≡ true)
-  listed-open s h =
-      let i : s < x .state .label .slots = below-get (x .state .label .slots) (nums (windowIn (x .state))) (L .window-rule .in-slots) s h in (
-        omega (arith, L .table-size),
-        slots-get (λ u. writing (rowFlags (x .table) u)) (windowIn (x .state))
-            (and-left (eachSlot (λ u. writing (rowFlags (x .table) u)) (windowIn (x .state))) _ agreed) s
-            (sym (has-nums (windowIn (x .state)) s) ∙ h),
-      )
-
-  room : openRows (x .table) < 63 → length (nums (windowIn (x .state))) < 63
-  room h = omega (arith, window-count (nums (windowIn (x .state))) (x .table) (L .window-rule .apart) listed-open)
-
-  not-listed : (s : ℕ) → writing (getD (x .table) (2 * s + 1) 0) ≡ false → has (nums (windowIn (x .state))) s ≡ false
-  not-listed s w = go (told (has (nums (windowIn (x .state))) s))
-    where
-      go : Told (has (nums (windowIn (x .state))) s) → has (nums (windowIn (x .state))) s ≡ false
-      go (told-true h) = clash (listed-open s h .1) w
-      go (told-false h) = h
-
-  joined-window : (s : ℕ) (hand : Slot) → windowIn (joined (record { 0 = s }) hand (x .state)) ≡ windowIn (x .state) ++
-      (record { 0 = s } ∷ [])
-  unfolding windowIn
-  joined-window s hand = take-array (windowIn (x .state) ++ (record { 0 = s } ∷ []))
-
-  opens-stores : (s b f : ℕ) (v : List ℕ) (hand : Slot) → s < x .state .label .slots → Alike lab (x .table) v → LegalRow lab b f
-      → writing (getD (x .table) (2 * s + 1) 0) ≡ false
-      → openRows (x .table) < 63 → x .state .newest < largestStamp - 63
-      → Stores lab (x .state .phase) (perform (opens (record { 0 = s }) (record { 0 = b }) f v hand) x)
-  unfolding perform
-  opens-stores s b f v hand low T R w few left-over =
-      confirmed-stores lab (L .limits) (joined (record { 0 = s }) hand (x .state)) refl (setRow v (record { 0 = s }) (record { 0 = b }) f)
-      (length-row lab v (T .size) s b f low) (set-rows lab v (T .size) s b f low (T .legal) R) (omega arith)
-      (subst (λ (z : List Slot). Window (x .state .label .slots) (nums z)) (sym (joined-window s hand))
-      (subst (λ (z : List ℕ). Window (x .state .label .slots) z)
-      (sym (nums-append (windowIn (x .state)) (record { 0 = s } ∷ [])
-      ∙ ap (λ (z : List ℕ). nums (windowIn (x .state)) ++ z) (nums-one (record { 0 = s }))))
-      (snoc-window (x .state .label .slots) (nums (windowIn (x .state))) s low (not-listed s w) (room few) (L .window-rule))))
-      (x .state .phase) serving (s / 240) (announced (record { 0 = s }))
-
-  confirms-stores : x .state .newest < largestStamp → Stores lab (x .state .phase) (perform confirms x)
-  unfolding perform
-  confirms-stores n = confirmed-stores lab (L .limits) (x .state) refl (x .table) (L .table-size) (L .rows) n (L .window-rule)
-      (x .state .phase) serving 0 done
-
-  -- a sweep
-  takes-stores : (b f : ℕ) → b < x .state .label .blocks → LegalRow lab b f → openRows (x .table) < 63 → {o : Option Victim}
-      → Swept lab (x .table) o
-      → (storesMeta (takes lab (record { 0 = b }) f o) && leb (largestStamp - 63) (x .state .newest)) ≡ false
-      → Stores lab (x .state .phase) (perform (takes lab (record { 0 = b }) f o) x)
-  unfolding perform
-  takes-stores b f bl R few stuck = λ spent s g. no-store g
-  takes-stores b f bl R few (took v low shut unused T) =
-      by-bool (λ z. (storesMeta (takesAs z lab (record { 0 = b }) f v) && leb (largestStamp - 63) (x .state .newest)) ≡ false
-      → Stores lab (x .state .phase) (perform (takesAs z lab (record { 0 = b }) f v) x))
-      (dirty (rowFlags (v .table) (v .slot)))
-      (λ e spent s g i. hdd-not (the-store g) i)
-      (λ e spent. opens-stores (v .slot .0) b f (v .table) (nextSlot lab (v .slot)) low T R
-      (sym (at-open lab (x .table) (L .rows) (v .slot .0) low)
-      ∙ ap Rattle.protocol.proofs.model.Model.opn (sym (T .row (v .slot .0)))
-      ∙ at-open lab (v .table) (T .legal) (v .slot .0) low ∙ shut)
-      few (leb-false _ _ spent))
-
-  row-of : (b : ℕ) {f : ℕ} → Flags f → valid f ≡ true → b < x .state .label .blocks → LegalRow lab b f
-  row-of b k v h = record { flags = k; low = λ _. h; free = λ e. clash v e }
-
-  sweep-here : Swept lab (x .table) (sweep lab (x .table) (x .state .hand))
-  sweep-here = swept (2 * x .state .label .slots) lab (x .table) (x .table) (alike-same lab (x .table) (L .table-size) (L .rows))
-      (x .state .hand) (L .hand-low)
-
-  offer-stores : (b : Block) → b .0 < x .state .label .blocks → {z : Condition} → Stands lab (x .table) (b .0) z
-      → (not (Rattle.protocol.specs.Judge.takesWrite z) && leb 63 (openRows (x .table))) ≡ false
-      → (storesMeta (offering x b z) && leb (largestStamp - 63) (x .state .newest)) ≡ false
-      → Stores lab (x .state .phase) (perform (offering x b z) x)
-  unfolding perform
-  offer-stores b bl (absent h) full spent = takes-stores (b .0) 7 bl (row-of (b .0) f7 refl bl) (leb-false _ _ full) sweep-here spent
-  offer-stores b bl (is-clean s H w d) full spent =
-      let C = changed-open (L .rows s (H .low) .flags) (getD (x .table) (2 * s) 0) (H .held) w d in
-      opens-stores s (b .0) (withWriting (getD (x .table) (2 * s + 1) 0)) (x .table) (x .state .hand) (H .low)
-      (alike-same lab (x .table) (L .table-size) (L .rows))
-      (subst (λ (n : ℕ). LegalRow lab n (withWriting (getD (x .table) (2 * s + 1) 0))) (H .block) (changed-row (L .rows s (H .low)) C)) w
-      (leb-false _ _ full) (leb-false _ _ spent)
-  offer-stores b bl (is-dirty s H w d) full spent = λ s g. no-store g
-  offer-stores b bl (is-writing s H w d) full spent = λ s g. no-store g
-  offer-stores b bl (is-fetching s H w d) full spent = λ s g. no-store g
-
-  fetch-stores : (b : Block) → b .0 < x .state .label .blocks → {z : Condition} → Stands lab (x .table) (b .0) z
-      → leb 63 (openRows (x .table)) ≡ false
-      → (storesMeta (fetching x b z) && leb (largestStamp - 63) (x .state .newest)) ≡ false
-      → Stores lab (x .state .phase) (perform (fetching x b z) x)
-  unfolding perform
-  fetch-stores b bl (absent h) full spent = takes-stores (b .0) 5 bl (row-of (b .0) f5 refl bl) (leb-false _ _ full) sweep-here spent
-  fetch-stores b bl (is-clean s H w d) full spent = λ s g. no-store g
-  fetch-stores b bl (is-dirty s H w d) full spent = λ s g. no-store g
-  fetch-stores b bl (is-writing s H w d) full spent = λ s g. no-store g
-  fetch-stores b bl (is-fetching s H w d) full spent = λ s g. no-store g
-
-  flush-stores : (u : Bool) → (storesMeta (flushing u) && leb largestStamp (x .state .newest)) ≡ false
-      → Stores lab (x .state .phase) (perform (flushing u) x)
-  unfolding perform
-  flush-stores true spent = confirms-stores (leb-false _ _ spent)
-  flush-stores false spent = λ s g. no-store g
-
--- data pages and the HDD
+-- data pages
 lands-elsewhere : (l : Label) (ph : Phase) (s : Slot) (d : List ℕ) (x : Box) → labelIn (x .state) ≡ l → Stores l ph (perform (lands s d) x)
 unfolding perform
 lands-elsewhere l ph s d x e = go (writing (rowFlags (x .table) s))
@@ -277,40 +134,41 @@ lands-elsewhere l ph s d x e = go (writing (rowFlags (x .table) s))
     go true = elsewhere l ph (landedAs true s d x) _ refl past
     go false = elsewhere l ph (landedAs false s d x) _ refl past
 
--- the conditions of calls that store no metadata
-landing-stores : (l : Label) (ph : Phase) (page : List ℕ) (x : Box) → labelIn (x .state) ≡ l → (z : Condition)
-    → Stores l ph (perform (landing page z) x)
-unfolding perform
-landing-stores l ph page x e NotCached = λ s g. no-store g
-landing-stores l ph page x e (Clean s) = λ s g. no-store g
-landing-stores l ph page x e (Dirty s) = lands-elsewhere l ph s page x e
-landing-stores l ph page x e (Writing s) = lands-elsewhere l ph s page x e
-landing-stores l ph page x e (Fetching s) = λ s g. no-store g
+-- a legal box that is ready
+module _ (x : Box) (L : Legal x) (on : x .state .phase ≡ Ready) where
+  abbrev lab : Label
+  lab = labelIn (x .state)
 
-landingFetch-stores : (l : Label) (ph : Phase) (x : Box) (b : Block) → labelIn (x .state) ≡ l → (z : Condition)
-    → Stores l ph (perform (landingFetch x b z) x)
-unfolding perform
-landingFetch-stores l ph x b e NotCached = λ s g. no-store g
-landingFetch-stores l ph x b e (Clean s) = λ s g. no-store g
-landingFetch-stores l ph x b e (Dirty s) = λ s g. no-store g
-landingFetch-stores l ph x b e (Writing s) = λ s g. no-store g
-landingFetch-stores l ph x b e (Fetching s) = lands-elsewhere l ph s _ x e
+  S : Sound lab (x .table) (windowIn (x .state))
+  S = legal-sound x L on
 
-lookingUp-stores : (l : Label) (ph : Phase) (x : Box) (z : Condition) → Stores l ph (perform (lookingUp z) x)
-unfolding perform
-lookingUp-stores l ph x NotCached = λ s g. no-store g
-lookingUp-stores l ph x (Clean s) = λ s g. no-store g
-lookingUp-stores l ph x (Dirty s) = λ s g. no-store g
-lookingUp-stores l ph x (Writing s) = λ s g. no-store g
-lookingUp-stores l ph x (Fetching s) = λ s g. no-store g
+  serving : Serving (x .state .phase)
+  serving = rw on ready
 
-writingBack-stores : (l : Label) (ph : Phase) (x : Box) (z : Condition) → Stores l ph (perform (writingBack x z) x)
-unfolding perform
-writingBack-stores l ph x NotCached = λ s g. no-store g
-writingBack-stores l ph x (Clean s) = λ s g. no-store g
-writingBack-stores l ph x (Dirty s) = λ s g i. hdd-not (the-store g) i
-writingBack-stores l ph x (Writing s) = λ s g. no-store g
-writingBack-stores l ph x (Fetching s) = λ s g. no-store g
+  joined-window : (s hand : Slot) → windowIn (joined s hand (x .state)) ≡ windowIn (x .state) ++ (s ∷ [])
+  unfolding windowIn
+  joined-window s hand = take-array (windowIn (x .state) ++ (s ∷ []))
+
+  opens-stores : {s : Slot} {b : Block} {f : ℕ} {v : List ℕ} {hand : Slot} → Opening x s b f v hand
+      → Stores lab (x .state .phase) (perform (opens s b f v hand) x)
+  unfolding perform
+  opens-stores {s} {b} {f} {v} {hand} O =
+      let T = opening-sound O S in
+      confirmed-stores lab (L .limits) (joined s hand (x .state)) refl (setRow v s b f) (T .size) (T .legal) (omega (arith, O .stamps))
+      (subst (λ (z : List Slot). Window (x .state .label .slots) (nums z)) (sym (joined-window s hand)) (T .rule))
+      (x .state .phase) serving (metaOf s) (announced s)
+
+  does-stores : {a : Aim} {m : Move} → Does x a m → Stores lab (x .state .phase) (perform m x)
+  unfolding perform
+  does-stores (does-nothing z n) = λ s g. no-store g
+  does-stores (does-use z H) = λ s g. no-store g
+  does-stores (does-open z O) = opens-stores O
+  does-stores (does-copy z n C) = λ s g i. hdd-not (the-store g) i
+  does-stores (does-land H bl d size) = lands-elsewhere lab (x .state .phase) _ _ x refl
+  does-stores (does-fetch z H bl w) = lands-elsewhere lab (x .state .phase) _ _ x refl
+  does-stores (does-rest n u) = λ s g. no-store g
+  does-stores (does-confirm u n) =
+      confirmed-stores lab (L .limits) (x .state) refl (x .table) (S .size) (S .legal) n (S .rule) (x .state .phase) serving 0 done
 
 -- a step
 module _ (x : Box) (L : Legal x) where
@@ -332,8 +190,8 @@ module _ (x : Box) (L : Legal x) where
   -- while formatting nothing is open
   none-open : (d : ℕ) → x .state .phase ≡ Formatting d → windowIn (x .state) ≡ []
   none-open d on = go (windowIn (x .state))
-      (and-left (isEmpty (windowIn (x .state))) _
-      (subst (λ (q : Phase). agreeTest q (x .table) (windowIn (x .state)) ≡ true) on (L .agree)))
+      (and-parts (isEmpty (windowIn (x .state))) _
+      (subst (λ (q : Phase). agreeTest q (x .table) (windowIn (x .state)) ≡ true) on (L .agree)) .0)
     where
       go : (w : List Slot) → isEmpty w ≡ true → w ≡ []
       go [] e = refl
@@ -376,43 +234,16 @@ module _ (x : Box) (L : Legal x) where
   step-stores Recovering on spent = mends-stores on (leb-false _ _ spent)
   step-stores Ready on spent = λ s g. no-store g
 
-ready-of : (p : Phase) → not (isReady p) ≡ false → p ≡ Ready
-ready-of Ready e = refl
-ready-of Recovering e = clash {b = true} refl e
-ready-of (Formatting d) e = clash {b = true} refl e
-
 -- a call that no reason refuses
-made-stores : (c : Call) (x : Box) → judged c x ≡ none → Stores (labelIn (x .state)) (x .state .phase) (perform (plan c x) x)
-unfolding test plan perform
-made-stores (format slots blocks) x e = λ s g. no-store g
-made-stores reopen x e = λ s g. no-store g
-made-stores step x e =
-    let f = facts step x e in
-    step-stores x (legal-judged x true (f .0) (f .1 .0) (f .1 .1 .0)) (x .state .phase) refl (f .1 .1 .1 .1 .0)
-made-stores flush x e =
-    let f = facts flush x e in
-    flush-stores x (legal-judged x true (f .0) (f .1 .0) (f .1 .1 .0)) (ready-of (x .state .phase) (f .1 .1 .1 .0))
-    (x .state .unconfirmed) (f .1 .1 .1 .1 .0)
-made-stores (offer b) x e =
-    let f = facts (offer b) x e in
-    let L = legal-judged x true (f .0) (f .1 .0) (f .1 .1 .0) in
-    let t = f .1 .1 .1 .1 in
-    offer-stores x L (ready-of (x .state .phase) (f .1 .1 .1 .0)) b (leb-false _ _ (t .0))
-    (stands (labelIn (x .state)) (x .table) (L .table-size) b) (t .1 .1 .0) (t .1 .1 .1 .1 .0)
-made-stores (fetch b) x e =
-    let f = facts (fetch b) x e in
-    let L = legal-judged x true (f .0) (f .1 .0) (f .1 .1 .0) in
-    let t = f .1 .1 .1 .1 in
-    fetch-stores x L (ready-of (x .state .phase) (f .1 .1 .1 .0)) b (leb-false _ _ (t .0))
-    (stands (labelIn (x .state)) (x .table) (L .table-size) b) (t .1 .1 .1 .0) (t .1 .1 .1 .1 .1 .0)
-made-stores (landFetch b) x e = landingFetch-stores (labelIn (x .state)) (x .state .phase) x b refl (conditionOf (x .table) b)
-made-stores (lookUp b) x e = lookingUp-stores (labelIn (x .state)) (x .state .phase) x (conditionOf (x .table) b)
-made-stores (view b) x e = λ s g. no-store g
-made-stores (writeBack b) x e = writingBack-stores (labelIn (x .state)) (x .state .phase) x (conditionOf (x .table) b)
-made-stores (land b page) x e = landing-stores (labelIn (x .state)) (x .state .phase) page x refl (conditionOf (x .table) b)
+made-stores : {c : Call} → Sorted c → (x : Box) → judged c x ≡ none → Stores (labelIn (x .state)) (x .state .phase) (perform (plan c x) x)
+made-stores (is-format slots blocks) x e = unfold plan perform in λ s g. no-store g
+made-stores is-reopen x e = unfold plan perform in λ s g. no-store g
+made-stores is-step x e =
+    unfold test plan in (step-stores x (step-legal x e) (x .state .phase) refl (passed step x e stampsSpent refl))
+made-stores (is-service {c} k does) x e = does-stores x (service-legal c x k e) (service-ready c x k e) (does x e)
 
 pub stores-legally : (c : Call) (x : Box) → StoresLegally c x
 unfolding effectOf
 stores-legally c x r =
     let e = none-of c x r in
-    subst (λ (o : Option Reason). Stores (labelIn (x .state)) (x .state .phase) (decided o c x)) (sym e) (made-stores c x e)
+    subst (λ (o : Option Reason). Stores (labelIn (x .state)) (x .state .phase) (decided o c x)) (sym e) (made-stores (sorted c) x e)

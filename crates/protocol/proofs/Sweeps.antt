@@ -1,14 +1,13 @@
 -- What a sweep takes: a slot that is not open, with nothing but used flags changed.
-use Prim.Native.Nat.{ℕ, zero, suc, _+_, _-_, _*_, _/_, _%_, _≤_, _<_}
-use mathlib.Core.Path.{_≡_, refl, sym, ap, subst, _∙_}
-use mathlib.Core.Logic.{_≢_}
-use mathlib.Core.Bool.{Bool, true, false, cond, not, _&&_, _||_}
-use mathlib.Core.List.{List, [], _∷_, _++_}
+use Prim.Native.Nat.{ℕ, zero, suc, _+_, _*_, _%_, _<_}
+use mathlib.Core.Path.{_≡_, refl, _∙_}
+use mathlib.Core.Bool.{true, false}
+use mathlib.Core.List.{List}
 use mathlib.Core.Option.{Option, some, none}
 use native.Mathlib.Omega.{arith}
 use native.Mathlib.Decide.{ℕ-discrete}
 use lib.ListN.{length, getD, set, length-set}
-use lib.Dec.{eqb, ltb}
+use lib.Dec.{ltb}
 use borrow.Author.Tests.{ltb-true}
 use Rattle.layout.specs.declared.Slot.{Slot}
 use Rattle.layout.specs.declared.Label.{Label}
@@ -17,8 +16,7 @@ use Rattle.protocol.specs.Rows.{rowFlags, setFlags, writing, used, witho
 use Rattle.protocol.specs.Sweep.{nextSlot, Victim, sweepFrom}
 use Rattle.layout.proofs.Booleans.{Told, told, told-true, told-false}
 use Rattle.protocol.proofs.model.Base.{upd, upd-same, upd-other}
-use Rattle.protocol.proofs.model.Model.{Row}
-use Rattle.protocol.proofs.Flags.{rowOf, LegalRow, Changed, changed-row, changed-unused}
+use Rattle.protocol.proofs.Flags.{rowOf, Changed, changed-row, changed-unused}
 use Rattle.protocol.proofs.Tables.{rowAt, Rows, flags-at, flags-rows}
 
 -- two tables with the same rows, but for used flags

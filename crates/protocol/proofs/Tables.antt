@@ -1,31 +1,22 @@
 -- The table's rows as the model's, and what each change of a row leaves.
-use Prim.Native.Nat.{ℕ, zero, suc, _+_, _-_, _*_, _/_, _%_, _≤_, _<_}
-use mathlib.Core.Path.{_≡_, refl, sym, ap, subst, _∙_}
-use mathlib.Core.Logic.{_≢_}
-use mathlib.Core.Bool.{Bool, true, false, cond, not, _&&_, _||_}
-use mathlib.Core.List.{List, [], _∷_, _++_}
-use mathlib.Core.Option.{Option, some, none}
+use Prim.Native.Nat.{ℕ, zero, suc, _+_, _*_, _%_, _≤_, _<_}
+use mathlib.Core.Path.{_≡_, refl, ap, _∙_}
+use mathlib.Core.Bool.{Bool, true, cond}
+use mathlib.Core.List.{List, [], _∷_}
 use native.Mathlib.Omega.{arith}
-use native.Mathlib.Decide.{ℕ-discrete, decLt}
-use native.Mathlib.Nat.{zero-add}
+use native.Mathlib.Decide.{ℕ-discrete}
 use lib.ListN.{length, getD, set, length-set, List·getD-eq-default}
 use lib.Seq.{getD-set-same, getD-set-other}
-use lib.Dec.{eqb, ltb, leb}
-use borrow.Author.Tests.{lt-ltb, ltb-true, eqb-true, eqb-false, ne-eqb, eq-eqb}
-use Rattle.layout.specs.declared.Slot.{Slot}
-use Rattle.layout.specs.declared.Block.{Block}
+use lib.Dec.{eqb}
+use borrow.Author.Tests.{ne-eqb}
 use Rattle.layout.specs.declared.Label.{Label}
 use Rattle.layout.specs.Places.{tableLength}
-use Rattle.protocol.specs.declared.Condition.{Condition}
-use Rattle.protocol.specs.declared.Condition.the-variants.{NotCached, Clean, Dirty, Writing, Fetching}
-use Rattle.protocol.specs.Rows.{rowBlock, rowFlags, setFlags, setRow, valid, dirty, writing, used, withoutDirty, withoutWriting, withoutUsed, withUsed, withWriting}
-use Rattle.protocol.specs.Judge.{rowTest, eachRow}
-use Rattle.protocol.specs.Condition.{slotFrom, slotOf, conditionAt, conditionOf}
-use Rattle.layout.proofs.Booleans.{Told, told, told-true, told-false, clash}
-use Rattle.protocol.proofs.model.Base.{upd, upd-same, upd-other, and-left, and-right, eqb-same, eqb-is, eqb-other}
+use Rattle.protocol.specs.Rows.{valid, dirty, writing, eachRow}
+use Rattle.layout.proofs.Booleans.{and-parts}
+use Rattle.protocol.proofs.model.Base.{upd, upd-same, upd-other, eqb-same}
 use Rattle.protocol.proofs.model.Model as model
-use Rattle.protocol.proofs.model.Model.{Row, dty, opn, blk, shut, cleaned}
-use Rattle.protocol.proofs.Flags.{rowOf, Flags, LegalRow, legal-row, row-legal, Same, same, Changed, changed-row}
+use Rattle.protocol.proofs.model.Model.{Row, dty, opn, blk}
+use Rattle.protocol.proofs.Flags.{rowOf, LegalRow, Same, same}
 
 -- row s of a table
 unfoldable pub rowAt : List ℕ → ℕ → Row
@@ -49,7 +40,7 @@ module _ (l : Label) (t : List ℕ) (size : length t ≡ tableLength l) where
           rw (e, eqb-same s, getD-set-other (set t (2 * s) b) (2 * s + 1) (2 * s) f 0 (omega arith))
           (getD-set-same t (2 * s) b 0 (omega arith))
       go (no n) =
-          rw (eqb-other u s n, getD-set-other (set t (2 * s) b) (2 * s + 1) (2 * u) f 0 (omega arith))
+          rw (ne-eqb u s n, getD-set-other (set t (2 * s) b) (2 * s + 1) (2 * u) f 0 (omega arith))
           (getD-set-other t (2 * s) (2 * u) b 0 (λ e. n (omega arith)))
 
   pub set-flags : (s u f : ℕ) → s < l .slots → getD (set t (2 * s + 1) f) (2 * u + 1) 0 ≡ cond (eqb u s) f (getD t (2 * u + 1) 0)
@@ -57,7 +48,7 @@ module _ (l : Label) (t : List ℕ) (size : length t ≡ tableLength l) where
     where
       go : Dec (u ≡ s) → getD (set t (2 * s + 1) f) (2 * u + 1) 0 ≡ cond (eqb u s) f (getD t (2 * u + 1) 0)
       go (yes e) = rw (e, eqb-same s) (getD-set-same t (2 * s + 1) f 0 (omega arith))
-      go (no n) = rw (eqb-other u s n) (getD-set-other t (2 * s + 1) (2 * u + 1) f 0 (λ e. n (omega arith)))
+      go (no n) = rw (ne-eqb u s n) (getD-set-other t (2 * s + 1) (2 * u + 1) f 0 (λ e. n (omega arith)))
 
   pub keep-block : (s u f : ℕ) → getD (set t (2 * s + 1) f) (2 * u) 0 ≡ getD t (2 * u) 0
   keep-block s u f = getD-set-other t (2 * s + 1) (2 * u) f 0 (omega arith)
@@ -71,14 +62,14 @@ module _ (l : Label) (t : List ℕ) (size : length t ≡ tableLength l) (s f : �
       go : Dec (u ≡ s) → rowOf (getD (set t (2 * s + 1) f) (2 * u) 0) (getD (set t (2 * s + 1) f) (2 * u + 1) 0 % 8) ≡ upd
           (λ v. rowOf (getD t (2 * v) 0) (getD t (2 * v + 1) 0 % 8)) s (rowOf (getD t (2 * s) 0) (f % 8)) u
       go (yes e) = rw (e, upd-same, keep-block l t size s s f, set-flags l t size s s f h, eqb-same s)
-      go (no n) = rw (upd-other, keep-block l t size s u f, set-flags l t size s u f h, eqb-other u s n)
+      go (no n) = rw (upd-other, keep-block l t size s u f, set-flags l t size s u f h, ne-eqb u s n)
 
   pub flags-rows : Rows l t → LegalRow l (getD t (2 * s) 0) f → Rows l (set t (2 * s + 1) f)
   flags-rows R L u k = go (ℕ-discrete u s)
     where
       go : Dec (u ≡ s) → LegalRow l (getD (set t (2 * s + 1) f) (2 * u) 0) (getD (set t (2 * s + 1) f) (2 * u + 1) 0)
       go (yes e) = rw (e, keep-block l t size s s f, set-flags l t size s s f h, eqb-same s) L
-      go (no n) = rw (keep-block l t size s u f, set-flags l t size s u f h, eqb-other u s n) (R u k)
+      go (no n) = rw (keep-block l t size s u f, set-flags l t size s u f h, ne-eqb u s n) (R u k)
 
 -- a whole row is set
 module _ (l : Label) (t : List ℕ) (size : length t ≡ tableLength l) (s b f : ℕ) (h : s < l .slots) where
@@ -97,7 +88,7 @@ module _ (l : Label) (t : List ℕ) (size : length t ≡ tableLength l) (s b f :
           (getD (set (set t (2 * s) b) (2 * s + 1) f) (2 * u + 1) 0 % 8) ≡ upd
           (λ v. rowOf (getD t (2 * v) 0) (getD t (2 * v + 1) 0 % 8)) s (rowOf b (f % 8)) u
       go (yes e) = rw (e, upd-same, set-block l t size s s b f h, flags-word s, eqb-same s)
-      go (no n) = rw (upd-other, set-block l t size s u b f h, flags-word u, eqb-other u s n)
+      go (no n) = rw (upd-other, set-block l t size s u b f h, flags-word u, ne-eqb u s n)
 
   pub set-rows : Rows l t → LegalRow l b f → Rows l (set (set t (2 * s) b) (2 * s + 1) f)
   set-rows R L u k = go (ℕ-discrete u s)
@@ -105,7 +96,7 @@ module _ (l : Label) (t : List ℕ) (size : length t ≡ tableLength l) (s b f :
       go : Dec (u ≡ s) → LegalRow l (getD (set (set t (2 * s) b) (2 * s + 1) f) (2 * u) 0)
           (getD (set (set t (2 * s) b) (2 * s + 1) f) (2 * u + 1) 0)
       go (yes e) = rw (e, set-block l t size s s b f h, flags-word s, eqb-same s) L
-      go (no n) = rw (set-block l t size s u b f h, flags-word u, eqb-other u s n) (R u k)
+      go (no n) = rw (set-block l t size s u b f h, flags-word u, ne-eqb u s n) (R u k)
 
   pub length-row : length (set (set t (2 * s) b) (2 * s + 1) f) ≡ tableLength l
   length-row = length-set (set t (2 * s) b) (2 * s + 1) f ∙ sized
@@ -131,19 +122,21 @@ module _ (l : Label) (t : List ℕ) (R : Rows l t) (s : ℕ) (h : s < l .slots) 
   unfolding rowAt
   at-block v = at-same .same-block v
 
+-- the words of the next row
+pub at-suc : (s : ℕ) → (2 * suc s ≡ suc (suc (2 * s))) × (2 * suc s + 1 ≡ suc (suc (2 * s + 1)))
+at-suc s = (omega arith, omega arith)
+
 -- a test at every row of a table
 pub each-get : (test : ℕ → ℕ → ℕ → Bool) (k : ℕ) (t : List ℕ) → eachRow test k t ≡ true → (s : ℕ) → 2 * s + 1 < length t
     → test (k + s) (getD t (2 * s) 0) (getD t (2 * s + 1) 0) ≡ true
 unfolding eachRow
 each-get test k [] e s h = absurd (omega arith)
 each-get test k (b ∷ []) e s h = absurd (omega arith)
-each-get test k (b ∷ f ∷ t) e zero h = let z : k + 0 ≡ k = omega arith in rw z (and-left (test k b f) (eachRow test (suc k) t) e)
+each-get test k (b ∷ f ∷ t) e zero h = let z : k + 0 ≡ k = omega arith in rw z (and-parts (test k b f) (eachRow test (suc k) t) e .0)
 each-get test k (b ∷ f ∷ t) e (suc s) h =
-    let i = each-get test (suc k) t (and-right (test k b f) (eachRow test (suc k) t) e) s (omega arith) in
-    let e0 : 2 * suc s ≡ suc (suc (2 * s)) = omega arith in
-    let e1 : 2 * suc s + 1 ≡ suc (suc (2 * s + 1)) = omega arith in
-    let e2 : k + suc s ≡ suc k + s = omega arith in
-    rw (e1, e0, e2) i
+    let i = each-get test (suc k) t (and-parts (test k b f) (eachRow test (suc k) t) e .1) s (omega arith) in
+    let e : k + suc s ≡ suc k + s = omega arith in
+    rw (at-suc s .1, at-suc s .0, e) i
 
 pub each-of : (test : ℕ → ℕ → ℕ → Bool) (k : ℕ) (t : List ℕ)
     → ((s : ℕ) → 2 * s + 1 < length t → test (k + s) (getD t (2 * s) 0) (getD t (2 * s + 1) 0) ≡ true) → eachRow test k t ≡ true
@@ -157,8 +150,6 @@ each-of test k (b ∷ f ∷ t) h =
   where
     later : (s : ℕ) → 2 * s + 1 < length t → test (suc k + s) (getD t (2 * s) 0) (getD t (2 * s + 1) 0) ≡ true
     later s q =
-        let e0 : 2 * suc s ≡ suc (suc (2 * s)) = omega arith in
-        let e1 : 2 * suc s + 1 ≡ suc (suc (2 * s + 1)) = omega arith in
-        let e2 : k + suc s ≡ suc k + s = omega arith in
+        let e : k + suc s ≡ suc k + s = omega arith in
         let i = h (suc s) (omega arith) in
-        rw (e1, e0, e2) at i
+        rw (at-suc s .1, at-suc s .0, e) at i

@@ -1,39 +1,37 @@
 -- Update before data: what is stored of a slot as bytes land in it.
-use Prim.Native.Nat.{ℕ, suc, _+_, _*_, _≤_, _<_}
-use mathlib.Core.Path.{_≡_, refl, sym, ap, subst, _∙_}
-use mathlib.Core.Bool.{Bool, true, false}
-use mathlib.Core.List.{List, []}
+use Prim.Native.Nat.{ℕ, _+_, _*_}
+use mathlib.Core.Path.{_≡_, refl, sym, subst, _∙_}
+use mathlib.Core.Bool.{true, false}
+use mathlib.Core.List.{[]}
 use mathlib.Core.Option.{Option, some, none}
-use native.Mathlib.Omega.{arith}
 use lib.ListN.{getD}
 use Rattle.layout.specs.declared.Slot.{Slot}
 use Rattle.layout.specs.declared.Block.{Block}
 use Rattle.layout.specs.declared.Label.{Label}
-use Rattle.layout.specs.PageRule.{listed}
 use Rattle.protocol.specs.declared.Condition.{Condition}
-use Rattle.protocol.specs.declared.Condition.the-variants.{NotCached, Clean, Dirty, Writing, Fetching}
+use Rattle.protocol.specs.declared.Condition.the-variants.{Dirty, Writing, Fetching}
 use Rattle.protocol.specs.Paper.{refused}
 use Rattle.protocol.specs.Rows.{valid, dirty, writing}
-use Rattle.protocol.specs.Box.{Images, Box, Effect}
-use Rattle.protocol.specs.Condition.{conditionOf}
+use Rattle.protocol.specs.Box.{Box}
 use Rattle.protocol.specs.Plan.{Call, land, landFetch}
+use Rattle.protocol.specs.Kinds.{kind}
 use Rattle.protocol.specs.Recovery.{metasOf, entryIn, newestOf}
 use Rattle.protocol.specs.Judge.{Reason, judged}
 use Rattle.protocol.specs.Calls.{decided, effectOf, resultOf}
+use Rattle.protocol.specs.ReferenceDisk.{Disk}
 use Rattle.protocol.specs.Events.{World, mayFinish, CallFits}
 use Rattle.protocol.specs.Beside.{Announced, StoredDirty, UpdateFirst}
 use Rattle.layout.proofs.Booleans.{clash}
 use Rattle.protocol.proofs.model.Base.{has}
 use Rattle.protocol.proofs.model.Model as model
-use Rattle.protocol.proofs.model.Model.{Row, Model, Plain, dty, opn, blk}
-use Rattle.protocol.proofs.model.Rows.{opn-valid}
+use Rattle.protocol.proofs.model.Model.{Plain, opn}
 use Rattle.protocol.proofs.Windows.{nums, has-nums}
 use Rattle.protocol.proofs.Tables.{rowAt, at-open, at-block, at-valid, at-dirty}
 use Rattle.protocol.proofs.Conditions.{Held, Stands, is-writing, is-dirty, is-fetching, stands}
 use Rattle.protocol.proofs.Reopens.{valid-ent, block-ent, dirty-ent, open-ent}
 use Rattle.protocol.proofs.ReadyCalls.{worldOf}
 use Rattle.protocol.proofs.Reachable.{Mendable, steps, reopens-it, mendable}
-use Rattle.protocol.proofs.Abstract.{Core, boxOfCore, entAt, abs, Shape, Phased, is-ready, is-mending, Inv}
+use Rattle.protocol.proofs.Abstract.{Core, boxOfCore, abs, Shape, Phased, is-ready, is-mending, Inv}
 
 -- a call that is neither refused nor one of mending finds a ready box
 pub none-of : (c : Call) (x : Box) → refused (resultOf c x .said) ≡ false → judged c x ≡ none
@@ -80,21 +78,25 @@ module _ (l : Label) (k : Core) (S : Shape l k) (p : Plain) (R : model.Ready (ab
     block = entry-block;
   }
 
-may-of : {c : Call} → Mendable c → mayFinish c ≡ true
+-- any reference disk
+abbrev blank : Disk
+blank = record { page = λ b. []; contents = λ b. [] }
+
+may-of : {c : Call} → Mendable c → mayFinish (kind c) ≡ true
 may-of steps = refl
 may-of reopens-it = refl
 
 module _ (l : Label) (k : Core) (S : Shape l k) (p : Plain) (P : Phased (abs l k) p) where
   -- no landing is made while mending
-  ready-at : (c : Call) → mayFinish c ≡ false → CallFits c (worldOf l k (record { page = λ b. []; contents = λ b. [] }))
+  ready-at : (c : Call) → mayFinish (kind c) ≡ false → CallFits c (worldOf l k blank)
       → refused (resultOf c (boxOfCore l k) .said) ≡ false → model.Ready (abs l k) p
   ready-at c m f r = go P
     where
       go : Phased (abs l k) p → model.Ready (abs l k) p
       go (is-ready R) = R
-      go (is-mending on M) = clash (may-of (mendable l k _ (unfold abs in on) c f (none-of c (boxOfCore l k) r))) m
+      go (is-mending on M) = clash (may-of (mendable l k blank (unfold abs in on) c f (none-of c (boxOfCore l k) r))) m
 
-  core-first : UpdateFirst l (worldOf l k (record { page = λ b. []; contents = λ b. [] }))
+  core-first : UpdateFirst l (worldOf l k blank)
   core-first = record {
     land-open = λ b page r s e. go-open b s (ready-at (land b page) refl tt r)
         (subst (λ (z : Condition). Stands l (k .table) (b .0) z) e (stands l (k .table) (S .table-size) b));
@@ -120,6 +122,6 @@ pub update-first : (l : Label) (w : World) → Inv l w → UpdateFirst l w
 update-first l w I = subst (λ (x : Box). UpdateFirst l (record { box = x; disk = w .disk })) (sym (I .is-core))
     (any (core-first l (I .core) (I .shape) (I .plain) (I .phased)))
   where
-    any : UpdateFirst l (worldOf l (I .core) (record { page = λ b. []; contents = λ b. [] }))
+    any : UpdateFirst l (worldOf l (I .core) blank)
         → UpdateFirst l (worldOf l (I .core) (w .disk))
     any F = record { land-open = F .land-open; land-closed = F .land-closed; fetch-open = F .fetch-open }

@@ -1,33 +1,30 @@
 -- What a block of a ready box reads as, and the slot that a look-up names, are the model's.
-use Prim.Native.Nat.{ℕ, zero, suc, _+_, _-_, _*_, _≤_, _<_}
-use mathlib.Core.Path.{_≡_, refl, sym, ap, subst, _∙_}
+use Prim.Native.Nat.{ℕ, _+_, _*_, _<_}
+use mathlib.Core.Path.{_≡_, refl, sym, ap, _∙_}
 use mathlib.Core.Logic.{_≢_}
-use mathlib.Core.Bool.{Bool, true, false, cond, not}
-use mathlib.Core.List.{List, [], _∷_}
-use mathlib.Core.Option.{Option, some, none}
-use native.Mathlib.Omega.{arith}
-use lib.ListN.{length, getD}
+use mathlib.Core.Bool.{true, cond}
+use mathlib.Core.Option.{Option, some, none, Option·none-ne-some}
+use lib.ListN.{getD}
 use Rattle.pages.specs.Pages.{pageAt}
-use Rattle.pages.specs.Parts.{Part, pagePart}
+use Rattle.pages.specs.Parts.{pagePart}
 use Rattle.layout.specs.declared.Slot.{Slot}
 use Rattle.layout.specs.declared.Block.{Block}
 use Rattle.layout.specs.declared.Label.{Label}
-use Rattle.layout.specs.Places.{metaPages, tableLength}
+use Rattle.layout.specs.Places.{metaPages}
 use Rattle.protocol.specs.declared.Condition.{Condition}
 use Rattle.protocol.specs.declared.Condition.the-variants.{NotCached, Clean, Dirty, Writing, Fetching}
-use Rattle.protocol.specs.Paper.{Paper, refusal, answer, refused, inSlot, onDisk}
-use Rattle.protocol.specs.Rows.{valid, dirty, writing}
-use Rattle.protocol.specs.Box.{Images, Box, Effect}
+use Rattle.protocol.specs.Paper.{inSlot}
+use Rattle.protocol.specs.Rows.{valid, writing}
 use Rattle.protocol.specs.Condition.{conditionOf}
-use Rattle.protocol.specs.Plan.{lookUp, view, lookingUp, plan, stay, uses}
+use Rattle.protocol.specs.Plan.{lookUp, view, lookingUp, plan}
 use Rattle.protocol.specs.Perform.{perform}
-use Rattle.protocol.specs.Judge.{Reason, judged}
-use Rattle.protocol.specs.Calls.{decided, effectOf, resultOf, boxOf, viewPart, viewed, viewOf, View}
+use Rattle.protocol.specs.Judge.{Reason}
+use Rattle.protocol.specs.Calls.{effectOf, resultOf, viewPart, viewed, viewOf}
 use Rattle.protocol.specs.Events.{lent, readOf}
 use Rattle.protocol.specs.Demand3.{slotSaid}
-use Rattle.layout.proofs.Booleans.{Told, told, told-true, told-false, clash}
+use Rattle.layout.proofs.Booleans.{Told, told, told-true, told-false}
 use Rattle.protocol.proofs.model.Model as model
-use Rattle.protocol.proofs.model.Model.{Row, Model, Plain, opn, blk}
+use Rattle.protocol.proofs.model.Model.{Plain, opn, blk}
 use Rattle.protocol.proofs.model.View as seen
 use Rattle.protocol.proofs.model.View.{Found, found, viewAt}
 use Rattle.protocol.proofs.model.Places.{shutAt}
@@ -138,22 +135,16 @@ module _ (l : Label) (k : Core) (S : Shape l k) (p : Plain) (R : model.Ready (ab
   -- the slot that a look-up names holds the page
   named : (o : Option ℕ) (s : Slot) → asSlot (shutAt (abs l k) o) ≡ some s → viewAt (abs l k) b o ≡ pageAt (k .ssd) (1 + metaPages l + s .0)
   unfolding abs
-  named none s e = none-some e
-    where
-      none-some : {A : Type 0} {t : Slot} → none ≡ some t → A
-      none-some q = let z : _≡_ {A = ℕ} 0 1 = cc in absurd (omega arith)
+  named none s e = absurd (Option·none-ne-some s e)
   named (some t) s e = go (told (opn (rowAt (k .table) t)))
     where
-      none-some : {A : Type 0} {u : Slot} → none ≡ some u → A
-      none-some q = let z : _≡_ {A = ℕ} 0 1 = cc in absurd (omega arith)
-
       number-of : Option Slot → ℕ
       number-of none = 0
       number-of (some u) = u .0
 
       go : Told (opn (rowAt (k .table) t)) → cond (opn (rowAt (k .table) t)) (pageAt (k .hdd) b)
           (pageAt (k .ssd) (1 + metaPages l + t)) ≡ pageAt (k .ssd) (1 + metaPages l + s .0)
-      go (told-true o) = none-some (rw o at e)
+      go (told-true o) = absurd (Option·none-ne-some s (rw o at e))
       go (told-false o) =
           let f : asSlot (some t) ≡ some s = rw o at e in
           let q : t ≡ s .0 = ap number-of f in

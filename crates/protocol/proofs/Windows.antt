@@ -1,10 +1,12 @@
 -- Windows of slots, as the model's lists of numbers.
-use Prim.Native.Nat.{ℕ, suc, _/_, _≤_}
+use Prim.Native.Nat.{ℕ, suc, _/_, _≤_, _<_}
 use mathlib.Core.Path.{_≡_, refl, sym, ap, _∙_}
 use mathlib.Core.Bool.{Bool, true, false, cond, not}
 use mathlib.Core.List.{List, [], _∷_, _++_}
 use lib.ListN.{length}
 use lib.Dec.{eqb}
+use native.Mathlib.Omega.{arith}
+use borrow.Author.Tests.{eqb-true, ne-eqb, not-true}
 use Rattle.layout.specs.declared.Slot.{Slot}
 use Rattle.layout.specs.declared.Label.{Label}
 use Rattle.layout.specs.PageRule.{listed, distinct, inRange}
@@ -12,8 +14,8 @@ use Rattle.record.specs.Window.{without}
 use Rattle.protocol.specs.Recovery.{offPage}
 use Rattle.protocol.specs.Judge.{isEmpty}
 use Rattle.protocol.proofs.model.Base as base
-use Rattle.layout.proofs.Booleans.{Told, told, told-true, told-false, clash}
-use Rattle.protocol.proofs.model.Base.{has, keep, off, metaNo, Window, eqb-same, eqb-is, eqb-other, and-left, and-right, not-true}
+use Rattle.layout.proofs.Booleans.{Told, told, told-true, told-false, clash, and-parts}
+use Rattle.protocol.proofs.model.Base.{has, keep, off, metaNo, Window, eqb-same}
 
 -- the numbers of a window
 unfoldable pub nums : List Slot → List ℕ
@@ -69,21 +71,21 @@ keep-all (t ∷ w) s h = go (told (eqb s t)) (λ k. keep-all w s k)
     go : Told (eqb s t) → (has w s ≡ false → base.without w s ≡ w) → cond (not (eqb t s)) (t ∷ base.without w s) (base.without w s) ≡ t ∷ w
     go (told-true e) ih = clash refl (rw e at h)
     go (told-false e) ih =
-        let d : eqb t s ≡ false = eqb-other t s (λ q. clash (rw q (eqb-same s)) e) in
+        let d : eqb t s ≡ false = ne-eqb t s (λ q. clash (rw q (eqb-same s)) e) in
         rw d (ap (λ (l : List ℕ). t ∷ l) (ih (rw e at h)))
 
 pub nums-without : (s : Slot) (w : List Slot) → distinct w ≡ true → nums (without s w) ≡ base.without (nums w) (s .0)
 unfolding nums without keep distinct
 nums-without s [] d = refl
-nums-without s (t ∷ w) d = go (told (eqb (t .0) (s .0))) (nums-without s w (and-right (not (listed t w)) (distinct w) d))
+nums-without s (t ∷ w) d = go (told (eqb (t .0) (s .0))) (nums-without s w (and-parts (not (listed t w)) (distinct w) d .1))
   where
     go : Told (eqb (t .0) (s .0)) → nums (without s w) ≡ base.without (nums w) (s .0)
         → nums (elim (eqb (t .0) (s .0)) [ true ↦ w | false ↦ t ∷ without s w ]) ≡ cond (not (eqb (t .0) (s .0)))
         (t .0 ∷ base.without (nums w) (s .0)) (base.without (nums w) (s .0))
     go (told-true e) ih =
-        let q : t .0 ≡ s .0 = eqb-is _ _ e in
+        let q : t .0 ≡ s .0 = eqb-true _ _ e in
         let k : has (nums w) (s .0) ≡ false = rw (← q)
-        (has-nums w (t .0) ∙ not-true (listed t w) (and-left (not (listed t w)) (distinct w) d)) in
+        (has-nums w (t .0) ∙ not-true (listed t w) (and-parts (not (listed t w)) (distinct w) d .0)) in
         rw e (sym (keep-all (nums w) (s .0) k))
     go (told-false e) ih = rw e (ap (λ (l : List ℕ). t .0 ∷ l) ih)
 
@@ -96,3 +98,7 @@ pub empty-nums : (w : List Slot) → Rattle.protocol.proofs.model.Model
 unfolding nums
 empty-nums [] = refl
 empty-nums (s ∷ w) = refl
+
+pub some-length : (w : List Slot) → isEmpty w ≡ false → 0 < length w
+some-length [] e = clash {b = true} refl e
+some-length (s ∷ w) e = omega arith

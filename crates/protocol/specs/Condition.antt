@@ -1,6 +1,6 @@
 -- A block's condition, on which every call rests: not cached, clean, dirty, open for writing, open for fetch.
 use Prim.Native.Nat.{ℕ, suc}
-use mathlib.Core.Bool.{Bool, true, false, cond, _&&_}
+use mathlib.Core.Bool.{Bool, true, false, _&&_}
 use mathlib.Core.List.{List, [], _∷_}
 use mathlib.Core.Option.{Option, some, none}
 use lib.Dec.{eqb}
@@ -37,3 +37,34 @@ conditionAt table (some s) =
 
 unfoldable pub conditionOf : List ℕ → Block → Condition
 conditionOf table b = conditionAt table (slotOf table b)
+
+-- what 8 to 12 ask of a condition: open; cached
+abbrev pub isOpen : Condition → Bool
+isOpen NotCached = false
+isOpen (Clean s) = false
+isOpen (Dirty s) = false
+isOpen (Writing s) = true
+isOpen (Fetching s) = true
+
+abbrev pub isCached : Condition → Bool
+isCached NotCached = false
+isCached (Clean s) = true
+isCached (Dirty s) = true
+isCached (Writing s) = true
+isCached (Fetching s) = true
+
+-- "open for writing, or dirty and not open"
+abbrev pub takesWrite : Condition → Bool
+takesWrite NotCached = false
+takesWrite (Clean s) = false
+takesWrite (Dirty s) = true
+takesWrite (Writing s) = true
+takesWrite (Fetching s) = false
+
+-- "open for fetch"
+abbrev pub takesFetch : Condition → Bool
+takesFetch NotCached = false
+takesFetch (Clean s) = false
+takesFetch (Dirty s) = false
+takesFetch (Writing s) = false
+takesFetch (Fetching s) = true

@@ -2,7 +2,7 @@
 use Prim.Native.Nat.{ℕ, _≤_, _<_}
 use mathlib.Core.Path.{_≡_}
 use mathlib.Core.Logic.{_≢_}
-use mathlib.Core.Bool.{Bool, true, false, not}
+use mathlib.Core.Bool.{Bool, true, false}
 use mathlib.Core.List.{List, [], _∷_}
 use mathlib.Core.Option.{Option, some, none}
 use lib.ListN.{length}
@@ -22,7 +22,7 @@ use Rattle.protocol.specs.Recovery.{metasOf, entryIn, newestOf, storedRo
 use Rattle.protocol.specs.Judge.{isReady}
 use Rattle.protocol.specs.Calls.{resultOf, viewOf}
 use Rattle.protocol.specs.ReferenceDisk.{MayBe}
-use Rattle.protocol.specs.Events.{World, Junk, Arrival, Event, call, reopens, cut, handed, reopened, struck, lent, readOf, finished, apply, run, steps, formatted, startOf, AllFit, Fits}
+use Rattle.protocol.specs.Events.{World, Junk, Arrival, Event, call, reopens, cut, handed, struck, lent, readOf, finished, apply, run, steps, formatted, startOf, AllFit, Fits}
 
 -- the newest stored window: "the largest stamp's"
 abbrev pub storedWindow : Label → Images → List Slot

@@ -13,7 +13,8 @@ use Rattle.layout.specs.Places.{labelOf, blockPlace, formatSteps, tableLength}
 use Rattle.record.specs.declared.Record.{Record}
 use Rattle.protocol.specs.Paper.{refused}
 use Rattle.protocol.specs.Box.{Images, Box, Store, applied, Result, boxAfter}
-use Rattle.protocol.specs.Plan.{Call, format, step, flush, reopen, offer, fetch, landFetch, lookUp, view, writeBack, land}
+use Rattle.protocol.specs.Plan.{Call, format, step, reopen}
+use Rattle.protocol.specs.Kinds.{Kind, aFormat, aReopening, aStep, aService, kind}
 use Rattle.protocol.specs.Judge.{isReady}
 use Rattle.protocol.specs.Calls.{effectOf, resultOf, viewOf}
 use Rattle.protocol.specs.ReferenceDisk.{Disk, settled, fed}
@@ -46,18 +47,11 @@ unfoldable pub readOf : Box → Block → List ℕ
 readOf x b = viewOf (lent (x .images .ssd)) (lent (x .images .hdd)) (x .table) (x .state) b .handed .bytes
 
 -- "Reopening, when finished (at once, or by the last step)": what blocks read as then
-abbrev pub mayFinish : Call → Bool
-mayFinish (format slots blocks) = false
-mayFinish step = true
-mayFinish flush = false
-mayFinish reopen = true
-mayFinish (offer b) = false
-mayFinish (fetch b) = false
-mayFinish (landFetch b) = false
-mayFinish (lookUp b) = false
-mayFinish (view b) = false
-mayFinish (writeBack b) = false
-mayFinish (land b page) = false
+abbrev pub mayFinish : Kind → Bool
+mayFinish (aFormat l) = false
+mayFinish aReopening = true
+mayFinish aStep = true
+mayFinish (aService a) = false
 
 abbrev pub readsIf : Bool → Box → Option (Block → List ℕ)
 readsIf true x = some (readOf x)
@@ -65,7 +59,7 @@ readsIf false x = none
 
 -- does this call, which answered so, finish a reopening
 abbrev pub finished : Call → Result → Bool
-finished c r = not (refused (r .said)) && (mayFinish c && isReady (r .state .phase))
+finished c r = not (refused (r .said)) && (mayFinish (kind c) && isReady (r .state .phase))
 
 unfoldable pub called : Call → World → World
 called c w =
@@ -129,18 +123,14 @@ abbrev pub startOf : Label → Box → World
 startOf l x = record { box = x; disk = settled (λ b. pageAt (x .images .hdd) (blockPlace l b)) }
 
 -- the lists of demand 3: formats are refused where they stand, and after a cut the table has the right length
+abbrev pub KindFits : Kind → Bool → Type 0
+KindFits (aFormat l) r = r ≡ true
+KindFits aReopening r = Unit {0}
+KindFits aStep r = Unit {0}
+KindFits (aService a) r = Unit {0}
+
 abbrev pub CallFits : Call → World → Type 0
-CallFits (format slots blocks) w = refused (resultOf (format slots blocks) (w .box) .said) ≡ true
-CallFits step w = Unit {0}
-CallFits flush w = Unit {0}
-CallFits reopen w = Unit {0}
-CallFits (offer b) w = Unit {0}
-CallFits (fetch b) w = Unit {0}
-CallFits (landFetch b) w = Unit {0}
-CallFits (lookUp b) w = Unit {0}
-CallFits (view b) w = Unit {0}
-CallFits (writeBack b) w = Unit {0}
-CallFits (land b page) w = Unit {0}
+CallFits c w = KindFits (kind c) (refused (resultOf c (w .box) .said))
 
 abbrev pub Fits : Label → Event → World → Type 0
 Fits l (call c) w = CallFits c w

@@ -1,31 +1,30 @@
 -- Why a call says no: one test for each number of document 01's table, and each call's chain of them, "Least number first".
-use Prim.Native.Nat.{ℕ, zero, suc, _-_, _%_}
+use Prim.Native.Nat.{ℕ, suc, _-_, _%_}
 use mathlib.Core.Bool.{Bool, true, false, not, _&&_, _||_}
-use mathlib.Core.List.{List, [], _∷_}
+use mathlib.Core.List.{List, [], _∷_, _++_}
 use mathlib.Core.Option.{Option, some, none}
 use lib.ListN.{length}
 use lib.Dec.{eqb, ltb, leb}
 use Rattle.pages.specs.Pages.{pageAt}
 use Rattle.layout.specs.declared.Slot.{Slot}
-use Rattle.layout.specs.declared.Block.{Block}
 use Rattle.layout.specs.declared.Label.{Label}
 use Rattle.layout.specs.declared.LabelRead.{LabelRead}
 use Rattle.layout.specs.declared.LabelRead.the-variants.{Legal, Illegal}
-use Rattle.layout.specs.Places.{labelOf, withinLimits, labelPlace, ssdLength, hddLength, tableLength}
+use Rattle.layout.specs.Places.{withinLimits, labelPlace, ssdLength, hddLength, tableLength}
 use Rattle.layout.specs.LabelPage.{decodeLabel}
 use Rattle.layout.specs.PageRule.{pairTest, listed}
 use Rattle.record.specs.declared.Record.{Record}
 use Rattle.record.specs.declared.Phase.{Phase}
 use Rattle.record.specs.declared.Phase.the-variants.{Formatting, Recovering, Ready}
 use Rattle.protocol.specs.declared.Condition.{Condition}
-use Rattle.protocol.specs.declared.Condition.the-variants.{NotCached, Clean, Dirty, Writing, Fetching}
-use Rattle.protocol.specs.Rows.{rowBlock, rowFlags, valid, writing, used}
+use Rattle.protocol.specs.Rows.{rowBlock, rowFlags, valid, writing, used, eachRow, openRows, allWriting}
 use Rattle.record.specs.Window.{eachSlot}
 use Rattle.record.specs.Record.{largestStamp, labelIn, windowIn}
 use Rattle.record.specs.Rule.{recordTest}
 use Rattle.protocol.specs.Box.{Images, Box}
-use Rattle.protocol.specs.Condition.{conditionOf}
+use Rattle.protocol.specs.Condition.{conditionOf, isOpen, isCached, takesWrite, takesFetch}
 use Rattle.protocol.specs.Plan.{Call, format, step, flush, reopen, offer, fetch, landFetch, lookUp, view, writeBack, land, plan, storesMeta}
+use Rattle.protocol.specs.Kinds.{Purpose, toServe, toSettle, toWrite, toFetch, toLandFetch, toLand, Kind, aFormat, aReopening, aStep, aService, kind, aim}
 use Rattle.protocol.specs.Recovery.{labelAt, metasOf, pagesTest}
 
 -- the rows of document 01's table
@@ -48,33 +47,32 @@ numberOf windowFull = 11
 numberOf allOpen = 12
 numberOf stampsSpent = 13
 
--- the label by which a call judges lengths: format by its arguments, reopen by the label page, others by the record
-abbrev pub labelFor : Call → Box → Label
-labelFor (format slots blocks) x = labelOf slots blocks
-labelFor reopen x = labelAt (x .images .ssd)
-labelFor step x = labelIn (x .state)
-labelFor flush x = labelIn (x .state)
-labelFor (offer b) x = labelIn (x .state)
-labelFor (fetch b) x = labelIn (x .state)
-labelFor (landFetch b) x = labelIn (x .state)
-labelFor (lookUp b) x = labelIn (x .state)
-labelFor (view b) x = labelIn (x .state)
-labelFor (writeBack b) x = labelIn (x .state)
-labelFor (land b page) x = labelIn (x .state)
+-- "Least number first": the order in which conditions are judged. Document 02 puts numbers between these (the first of them, 14,
+-- between 6 and 7), so the order is a list of its own; a reason's rank is its place in it
+abbrev pub order : List Reason
+order =
+    badLimits ∷ noLabel ∷ badRecord ∷ wrongLength ∷ badRows ∷ wrongPhase ∷ blockTooHigh ∷ slotOpen ∷ wrongState ∷ hasSlot ∷ windowFull
+    ∷ allOpen ∷ stampsSpent ∷ []
 
--- the block that a call names (0 where it names none: no such call asks for it)
-abbrev pub blockFor : Call → Block
-blockFor (format slots blocks) = record { 0 = 0 }
-blockFor reopen = record { 0 = 0 }
-blockFor step = record { 0 = 0 }
-blockFor flush = record { 0 = 0 }
-blockFor (offer b) = b
-blockFor (fetch b) = b
-blockFor (landFetch b) = b
-blockFor (lookUp b) = b
-blockFor (view b) = b
-blockFor (writeBack b) = b
-blockFor (land b page) = b
+unfoldable pub rankIn : List Reason → Reason → ℕ
+rankIn [] r = 0
+rankIn (q ∷ qs) r = elim (eqb (numberOf q) (numberOf r)) [ true ↦ 0 | false ↦ suc (rankIn qs r) ]
+
+abbrev pub rank : Reason → ℕ
+rank r = rankIn order r
+
+-- reasons in that order
+unfoldable pub rising : List Reason → Bool
+rising [] = true
+rising (r ∷ []) = true
+rising (r ∷ q ∷ rs) = ltb (rank r) (rank q) && rising (q ∷ rs)
+
+-- the label by which a call judges lengths: format by its arguments, reopen by the label page, others by the record
+abbrev pub labelFor : Kind → Box → Label
+labelFor (aFormat l) x = l
+labelFor aReopening x = labelAt (x .images .ssd)
+labelFor aStep x = labelIn (x .state)
+labelFor (aService a) x = labelIn (x .state)
 
 -- 2: "SSD under a page, or first page no legal label"
 abbrev pub isLabel : LabelRead → Bool
@@ -85,18 +83,13 @@ unfoldable pub labelTest : List ℕ → Bool
 labelTest ssd = leb 4096 (length ssd) && isLabel (decodeLabel (pageAt ssd labelPlace))
 
 -- 4: "an image, table or data page of the wrong length"
-abbrev pub pageLengthTest : Call → Bool
-pageLengthTest (format slots blocks) = true
-pageLengthTest reopen = true
-pageLengthTest step = true
-pageLengthTest flush = true
-pageLengthTest (offer b) = true
-pageLengthTest (fetch b) = true
-pageLengthTest (landFetch b) = true
-pageLengthTest (lookUp b) = true
-pageLengthTest (view b) = true
-pageLengthTest (writeBack b) = true
-pageLengthTest (land b page) = eqb (length page) 4096
+abbrev pub pageLengthTest : Purpose → Bool
+pageLengthTest toServe = true
+pageLengthTest toSettle = true
+pageLengthTest toWrite = true
+pageLengthTest toFetch = true
+pageLengthTest toLandFetch = true
+pageLengthTest (toLand page) = eqb (length page) 4096
 
 unfoldable pub lengthsTest : Label → ℕ → ℕ → ℕ → Bool
 lengthsTest l ssd hdd table = eqb ssd (ssdLength l) && (eqb hdd (hddLength l) && eqb table (tableLength l))
@@ -107,11 +100,6 @@ lengthTest l im table = lengthsTest l (length (im .ssd)) (length (im .hdd)) (len
 -- 5, of a table: "table row .. breaks its rule": the entry rules, and 8 for used "(only with valid)"
 unfoldable pub rowTest : Label → ℕ → ℕ → Bool
 rowTest l block flags = pairTest l block (flags % 8) && (ltb flags 16 && (not (used flags) || valid flags))
-
-unfoldable pub eachRow : (ℕ → ℕ → ℕ → Bool) → ℕ → List ℕ → Bool
-eachRow test s [] = true
-eachRow test s (block ∷ []) = true
-eachRow test s (block ∷ flags ∷ rows) = test s block flags && eachRow test (suc s) rows
 
 abbrev pub isEmpty : List Slot → Bool
 isEmpty [] = true
@@ -133,18 +121,11 @@ unfoldable pub rowsTest : Record → List ℕ → Bool
 rowsTest r table = eachRow (λ s block flags. rowTest (labelIn r) block flags) 0 table && agreeTest (r .phase) table (windowIn r)
 
 -- 5 of a reopening judges the metadata pages, of any other call the table
-abbrev pub contentsTest : Call → Box → Bool
-contentsTest (format slots blocks) x = true
-contentsTest reopen x = pagesTest (labelAt (x .images .ssd)) (metasOf (labelAt (x .images .ssd)) (x .images .ssd))
-contentsTest step x = rowsTest (x .state) (x .table)
-contentsTest flush x = rowsTest (x .state) (x .table)
-contentsTest (offer b) x = rowsTest (x .state) (x .table)
-contentsTest (fetch b) x = rowsTest (x .state) (x .table)
-contentsTest (landFetch b) x = rowsTest (x .state) (x .table)
-contentsTest (lookUp b) x = rowsTest (x .state) (x .table)
-contentsTest (view b) x = rowsTest (x .state) (x .table)
-contentsTest (writeBack b) x = rowsTest (x .state) (x .table)
-contentsTest (land b page) x = rowsTest (x .state) (x .table)
+abbrev pub contentsTest : Kind → Box → Bool
+contentsTest (aFormat l) x = true
+contentsTest aReopening x = pagesTest (labelAt (x .images .ssd)) (metasOf (labelAt (x .images .ssd)) (x .images .ssd))
+contentsTest aStep x = rowsTest (x .state) (x .table)
+contentsTest (aService a) x = rowsTest (x .state) (x .table)
 
 -- 6: "wrong phase: step when ready, anything else before"
 abbrev pub isReady : Phase → Bool
@@ -152,131 +133,78 @@ isReady Ready = true
 isReady Recovering = false
 isReady (Formatting d) = false
 
-abbrev pub phaseTest : Call → Phase → Bool
-phaseTest (format slots blocks) p = true
-phaseTest reopen p = true
-phaseTest step p = not (isReady p)
-phaseTest flush p = isReady p
-phaseTest (offer b) p = isReady p
-phaseTest (fetch b) p = isReady p
-phaseTest (landFetch b) p = isReady p
-phaseTest (lookUp b) p = isReady p
-phaseTest (view b) p = isReady p
-phaseTest (writeBack b) p = isReady p
-phaseTest (land b page) p = isReady p
-
--- 8 to 10, by the block's condition
-abbrev pub isOpen : Condition → Bool
-isOpen NotCached = false
-isOpen (Clean s) = false
-isOpen (Dirty s) = false
-isOpen (Writing s) = true
-isOpen (Fetching s) = true
-
-abbrev pub isCached : Condition → Bool
-isCached NotCached = false
-isCached (Clean s) = true
-isCached (Dirty s) = true
-isCached (Writing s) = true
-isCached (Fetching s) = true
-
--- "open for writing, or dirty and not open"
-abbrev pub takesWrite : Condition → Bool
-takesWrite NotCached = false
-takesWrite (Clean s) = false
-takesWrite (Dirty s) = true
-takesWrite (Writing s) = true
-takesWrite (Fetching s) = false
-
--- "open for fetch"
-abbrev pub takesFetch : Condition → Bool
-takesFetch NotCached = false
-takesFetch (Clean s) = false
-takesFetch (Dirty s) = false
-takesFetch (Writing s) = false
-takesFetch (Fetching s) = true
+abbrev pub phaseTest : Kind → Phase → Bool
+phaseTest (aFormat l) p = true
+phaseTest aReopening p = true
+phaseTest aStep p = not (isReady p)
+phaseTest (aService a) p = isReady p
 
 -- 9: "land: block in neither state named; land a fetch: not open for fetch"
-abbrev pub stateTest : Call → Condition → Bool
-stateTest (format slots blocks) k = true
-stateTest reopen k = true
-stateTest step k = true
-stateTest flush k = true
-stateTest (offer b) k = true
-stateTest (fetch b) k = true
-stateTest (landFetch b) k = takesFetch k
-stateTest (lookUp b) k = true
-stateTest (view b) k = true
-stateTest (writeBack b) k = true
-stateTest (land b page) k = takesWrite k
+abbrev pub stateTest : Purpose → Condition → Bool
+stateTest toServe k = true
+stateTest toSettle k = true
+stateTest toWrite k = true
+stateTest toFetch k = true
+stateTest toLandFetch k = takesFetch k
+stateTest (toLand page) k = takesWrite k
 
 -- 11: "a fetch, or an offer of a block that isn't dirty, while 63 are open"
-unfoldable pub openRows : List ℕ → ℕ
-openRows [] = 0
-openRows (block ∷ []) = 0
-openRows (block ∷ flags ∷ rows) = elim (writing flags) [ true ↦ suc (openRows rows) | false ↦ openRows rows ]
-
-abbrev pub opensAnother : Call → Condition → Bool
-opensAnother (format slots blocks) k = false
-opensAnother reopen k = false
-opensAnother step k = false
-opensAnother flush k = false
-opensAnother (offer b) k = not (takesWrite k)
-opensAnother (fetch b) k = true
-opensAnother (landFetch b) k = false
-opensAnother (lookUp b) k = false
-opensAnother (view b) k = false
-opensAnother (writeBack b) k = false
-opensAnother (land b page) k = false
-
--- 12: "a slot must be swept for, all are open"
-abbrev pub allWriting : List ℕ → Bool
-allWriting table = eachRow (λ s block flags. writing flags) 0 table
+abbrev pub opensAnother : Purpose → Condition → Bool
+opensAnother toServe k = false
+opensAnother toSettle k = false
+opensAnother toWrite k = not (takesWrite k)
+opensAnother toFetch k = true
+opensAnother toLandFetch k = false
+opensAnother (toLand page) k = false
 
 -- 13: "the newest stamp is 4,294,967,295, or for an offer or fetch 4,294,967,232 or more"
-abbrev pub stampBound : Call → ℕ
-stampBound (format slots blocks) = largestStamp
-stampBound reopen = largestStamp
-stampBound step = largestStamp
-stampBound flush = largestStamp
-stampBound (offer b) = largestStamp - 63
-stampBound (fetch b) = largestStamp - 63
-stampBound (landFetch b) = largestStamp
-stampBound (lookUp b) = largestStamp
-stampBound (view b) = largestStamp
-stampBound (writeBack b) = largestStamp
-stampBound (land b page) = largestStamp
+abbrev pub stampBound : Purpose → ℕ
+stampBound toServe = largestStamp
+stampBound toSettle = largestStamp
+stampBound toWrite = largestStamp - 63
+stampBound toFetch = largestStamp - 63
+stampBound toLandFetch = largestStamp
+stampBound (toLand page) = largestStamp
 
 -- does the condition of a row of the table hold for this call
 unfoldable pub test : Reason → Call → Box → Bool
-test badLimits c x = not (withinLimits (labelFor c x))
+test badLimits c x = not (withinLimits (labelFor (kind c) x))
 test noLabel c x = not (labelTest (x .images .ssd))
 test badRecord c x = not (recordTest (x .state))
-test wrongLength c x = not (lengthTest (labelFor c x) (x .images) (x .table) && pageLengthTest c)
-test badRows c x = not (contentsTest c x)
-test wrongPhase c x = not (phaseTest c (x .state .phase))
-test blockTooHigh c x = leb (x .state .label .blocks) (blockFor c .0)
-test slotOpen c x = isOpen (conditionOf (x .table) (blockFor c))
-test wrongState c x = not (stateTest c (conditionOf (x .table) (blockFor c)))
-test hasSlot c x = isCached (conditionOf (x .table) (blockFor c))
-test windowFull c x = opensAnother c (conditionOf (x .table) (blockFor c)) && leb 63 (openRows (x .table))
-test allOpen c x = not (isCached (conditionOf (x .table) (blockFor c))) && allWriting (x .table)
-test stampsSpent c x = storesMeta (plan c x) && leb (stampBound c) (x .state .newest)
+test wrongLength c x = not (lengthTest (labelFor (kind c) x) (x .images) (x .table) && pageLengthTest (aim c .purpose))
+test badRows c x = not (contentsTest (kind c) x)
+test wrongPhase c x = not (phaseTest (kind c) (x .state .phase))
+test blockTooHigh c x = leb (x .state .label .blocks) (aim c .block .0)
+test slotOpen c x = isOpen (conditionOf (x .table) (aim c .block))
+test wrongState c x = not (stateTest (aim c .purpose) (conditionOf (x .table) (aim c .block)))
+test hasSlot c x = isCached (conditionOf (x .table) (aim c .block))
+test windowFull c x = opensAnother (aim c .purpose) (conditionOf (x .table) (aim c .block)) && leb 63 (openRows (x .table))
+test allOpen c x = not (isCached (conditionOf (x .table) (aim c .block))) && allWriting (x .table)
+test stampsSpent c x = storesMeta (plan c x) && leb (stampBound (aim c .purpose)) (x .state .newest)
 
--- the numbers that belong to each call, least first
+-- the numbers that belong to each call, in the order of judging: first those of its kind ("Format and reopen judge neither that
+-- record nor the table's contents"), then its own
+abbrev pub askedFirst : Kind → List Reason
+askedFirst (aFormat l) = badLimits ∷ wrongLength ∷ []
+askedFirst aReopening = noLabel ∷ wrongLength ∷ badRows ∷ []
+askedFirst aStep = badRecord ∷ wrongLength ∷ badRows ∷ wrongPhase ∷ []
+askedFirst (aService a) = badRecord ∷ wrongLength ∷ badRows ∷ wrongPhase ∷ []
+
+abbrev pub askedThen : Call → List Reason
+askedThen (format slots blocks) = []
+askedThen reopen = []
+askedThen step = stampsSpent ∷ []
+askedThen flush = stampsSpent ∷ []
+askedThen (offer b) = blockTooHigh ∷ slotOpen ∷ windowFull ∷ allOpen ∷ stampsSpent ∷ []
+askedThen (fetch b) = blockTooHigh ∷ slotOpen ∷ hasSlot ∷ windowFull ∷ allOpen ∷ stampsSpent ∷ []
+askedThen (landFetch b) = blockTooHigh ∷ wrongState ∷ []
+askedThen (lookUp b) = blockTooHigh ∷ []
+askedThen (view b) = blockTooHigh ∷ []
+askedThen (writeBack b) = blockTooHigh ∷ slotOpen ∷ []
+askedThen (land b page) = blockTooHigh ∷ wrongState ∷ []
+
 abbrev pub chain : Call → List Reason
-chain (format slots blocks) = badLimits ∷ wrongLength ∷ []
-chain reopen = noLabel ∷ wrongLength ∷ badRows ∷ []
-chain step = badRecord ∷ wrongLength ∷ badRows ∷ wrongPhase ∷ stampsSpent ∷ []
-chain flush = badRecord ∷ wrongLength ∷ badRows ∷ wrongPhase ∷ stampsSpent ∷ []
-chain (offer b) = badRecord ∷ wrongLength ∷ badRows ∷ wrongPhase ∷ blockTooHigh ∷ slotOpen ∷ windowFull ∷ allOpen ∷ stampsSpent ∷ []
-chain (fetch b) =
-    badRecord ∷ wrongLength ∷ badRows ∷ wrongPhase ∷ blockTooHigh ∷ slotOpen ∷ hasSlot ∷ windowFull ∷ allOpen ∷ stampsSpent ∷ []
-chain (landFetch b) = badRecord ∷ wrongLength ∷ badRows ∷ wrongPhase ∷ blockTooHigh ∷ wrongState ∷ []
-chain (lookUp b) = badRecord ∷ wrongLength ∷ badRows ∷ wrongPhase ∷ blockTooHigh ∷ []
-chain (view b) = badRecord ∷ wrongLength ∷ badRows ∷ wrongPhase ∷ blockTooHigh ∷ []
-chain (writeBack b) = badRecord ∷ wrongLength ∷ badRows ∷ wrongPhase ∷ blockTooHigh ∷ slotOpen ∷ []
-chain (land b page) = badRecord ∷ wrongLength ∷ badRows ∷ wrongPhase ∷ blockTooHigh ∷ wrongState ∷ []
+chain c = askedFirst (kind c) ++ askedThen c
 
 -- the first reason of a chain whose condition holds; a later one is not asked
 unfoldable pub firstOf : List Reason → (Reason → Bool) → Option Reason

@@ -4,6 +4,7 @@ pub mod Box
 pub mod Condition
 pub mod Sweep
 pub mod Plan
+pub mod Kinds
 pub mod Recovery
 pub mod Perform
 pub mod Judge

@@ -1,6 +1,6 @@
 -- What a reopening reads of the metadata pages: the newest window, the rules between pages, the table and the record
 -- (document 01, "Reopen" and the rules under the page table).
-use Prim.Native.Nat.{ℕ, zero, suc, _%_}
+use Prim.Native.Nat.{ℕ, suc, _%_}
 use mathlib.Core.Bool.{Bool, true, false, not, _&&_, _||_}
 use mathlib.Core.List.{List, [], _∷_}
 use mathlib.Core.Option.{Option, some, none}

@@ -5,7 +5,8 @@ use mathlib.Core.List.{List, [], _∷_, List·Memᴰ}
 use mathlib.Core.Option.{Option, some, none}
 use lib.Dec.{eqb}
 use Rattle.layout.specs.declared.Block.{Block}
-use Rattle.protocol.specs.Plan.{Call, format, step, flush, reopen, offer, fetch, landFetch, lookUp, view, writeBack, land}
+use Rattle.protocol.specs.Plan.{Call}
+use Rattle.protocol.specs.Kinds.{Purpose, toServe, toSettle, toWrite, toFetch, toLandFetch, toLand, aim}
 
 -- "Each block has a page and the contents that may come back"
 pub record Disk : Type 0 where
@@ -27,22 +28,17 @@ written b bytes d = record {
   contents = λ c. cond (eqb (c .0) (b .0)) (bytes ∷ d .contents b) (d .contents c);
 }
 
--- what a call that was not refused does to the disk
-abbrev pub fedCall : Call → Disk → Disk
-fedCall (format slots blocks) d = d
-fedCall step d = d
-fedCall flush d = settled (d .page)
-fedCall reopen d = d
-fedCall (offer b) d = d
-fedCall (fetch b) d = d
-fedCall (landFetch b) d = d
-fedCall (lookUp b) d = d
-fedCall (view b) d = d
-fedCall (writeBack b) d = d
-fedCall (land b bytes) d = written b bytes d
+-- what a call that was not refused does to the disk: "Landing a write", "Flush", "Anything else .. no change"
+abbrev pub fedCall : Purpose → Block → Disk → Disk
+fedCall toServe b d = d
+fedCall toSettle b d = settled (d .page)
+fedCall toWrite b d = d
+fedCall toFetch b d = d
+fedCall toLandFetch b d = d
+fedCall (toLand bytes) b d = written b bytes d
 
 -- "The plain disk is fed calls, arguments, refusals, and what blocks read as when a reopening finishes"
 abbrev pub fed : Call → Bool → Option (Block → List ℕ) → Disk → Disk
 fed c true reads d = d
-fed c false none d = fedCall c d
+fed c false none d = fedCall (aim c .purpose) (aim c .block) d
 fed c false (some reads) d = settled reads

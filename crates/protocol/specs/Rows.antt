@@ -1,12 +1,11 @@
 -- The table's rows, their flags, and the record's window (document 01, "Table in memory" and "Record").
-use Prim.Native.Nat.{ℕ, _+_, _-_, _*_, _/_, _%_}
-use mathlib.Core.Bool.{Bool, cond}
-use mathlib.Core.List.{List}
+use Prim.Native.Nat.{ℕ, suc, _+_, _-_, _*_, _/_, _%_}
+use mathlib.Core.Bool.{Bool, true, false, cond, _&&_}
+use mathlib.Core.List.{List, [], _∷_}
 use lib.ListN.{getD, set}
 use lib.Dec.{eqb}
 use Rattle.layout.specs.declared.Slot.{Slot}
 use Rattle.layout.specs.declared.Block.{Block}
-use Rattle.record.specs.declared.Record.{Record}
 
 -- "lent 32-bit words, two for each slot: block and flags"
 abbrev pub rowBlock : List ℕ → Slot → Block
@@ -50,3 +49,18 @@ withUsed flags = cond (used flags) flags (flags + 8)
 -- a clean row's flags as it is opened for writing: dirty and writing, too
 abbrev pub withWriting : ℕ → ℕ
 withWriting flags = flags + 6
+
+-- a test at every row, with its slot
+unfoldable pub eachRow : (ℕ → ℕ → ℕ → Bool) → ℕ → List ℕ → Bool
+eachRow test s [] = true
+eachRow test s (block ∷ []) = true
+eachRow test s (block ∷ flags ∷ rows) = test s block flags && eachRow test (suc s) rows
+
+-- how many rows are writing, and whether all are (11: "while 63 are open", 12: "all are open")
+unfoldable pub openRows : List ℕ → ℕ
+openRows [] = 0
+openRows (block ∷ []) = 0
+openRows (block ∷ flags ∷ rows) = elim (writing flags) [ true ↦ suc (openRows rows) | false ↦ openRows rows ]
+
+abbrev pub allWriting : List ℕ → Bool
+allWriting table = eachRow (λ s block flags. writing flags) 0 table

@@ -16,13 +16,14 @@ use Rattle.layout.specs.PageRule.{PageRule, PairRule, listed}
 use Rattle.record.specs.declared.Record.{Record}
 use Rattle.record.specs.declared.Phase.{Phase}
 use Rattle.record.specs.declared.Phase.the-variants.{Formatting, Recovering, Ready}
-use Rattle.protocol.specs.Rows.{rowBlock, rowFlags, valid, dirty, writing, used}
+use Rattle.protocol.specs.Rows.{rowBlock, rowFlags, valid, dirty, writing, used, openRows}
 use Rattle.record.specs.Record.{labelIn, windowIn}
 use Rattle.record.specs.Rule.{RecordRule}
 use Rattle.protocol.specs.Box.{Images, Box}
-use Rattle.protocol.specs.Plan.{Call, format, step, flush, reopen, offer, fetch, landFetch, lookUp, view, writeBack, land, plan, storesMeta}
+use Rattle.protocol.specs.Plan.{Call, plan, storesMeta}
+use Rattle.protocol.specs.Kinds.{Purpose, toServe, toSettle, toWrite, toFetch, toLandFetch, toLand, Kind, aFormat, aReopening, aStep, aService, kind, aim}
 use Rattle.protocol.specs.Recovery.{labelAt, metasOf, entryIn}
-use Rattle.protocol.specs.Judge.{Reason, badLimits, noLabel, badRecord, wrongLength, badRows, wrongPhase, blockTooHigh, slotOpen, wrongState, hasSlot, windowFull, allOpen, stampsSpent, labelFor, blockFor, openRows, stampBound}
+use Rattle.protocol.specs.Judge.{Reason, badLimits, noLabel, badRecord, wrongLength, badRows, wrongPhase, blockTooHigh, slotOpen, wrongState, hasSlot, windowFull, allOpen, stampsSpent, labelFor, stampBound}
 
 -- 2: the first page is the page of a label within the limits
 pub record HasLabel (ssd : List ℕ) : Type 0 where
@@ -32,24 +33,19 @@ pub record HasLabel (ssd : List ℕ) : Type 0 where
   pub page : pageAt ssd labelPlace ≡ encodeLabel label
 
 -- 4
-abbrev pub PageLength : Call → Type 0
-PageLength (format slots blocks) = Unit {0}
-PageLength reopen = Unit {0}
-PageLength step = Unit {0}
-PageLength flush = Unit {0}
-PageLength (offer b) = Unit {0}
-PageLength (fetch b) = Unit {0}
-PageLength (landFetch b) = Unit {0}
-PageLength (lookUp b) = Unit {0}
-PageLength (view b) = Unit {0}
-PageLength (writeBack b) = Unit {0}
-PageLength (land b page) = length page ≡ 4096
+abbrev pub PageLength : Purpose → Type 0
+PageLength toServe = Unit {0}
+PageLength toSettle = Unit {0}
+PageLength toWrite = Unit {0}
+PageLength toFetch = Unit {0}
+PageLength toLandFetch = Unit {0}
+PageLength (toLand page) = length page ≡ 4096
 
-pub record Lengths (l : Label) (c : Call) (im : Images) (table : List ℕ) : Type 0 where
+pub record Lengths (l : Label) (p : Purpose) (im : Images) (table : List ℕ) : Type 0 where
   pub ssd-length : length (im .ssd) ≡ ssdLength l
   pub hdd-length : length (im .hdd) ≡ hddLength l
   pub table-length : length table ≡ tableLength l
-  pub page-length : PageLength c
+  pub page-length : PageLength p
 
 -- the table has a row for the slot
 abbrev pub IsRow : List ℕ → Slot → Type 0
@@ -97,32 +93,18 @@ pub record PagesRule (l : Label) (pages : List (List ℕ)) : Type 0 where
       → (valid (entryIn pages (slotAt (getD pages p []) k) .flags) ≡ true) ×
       (writing (entryIn pages (slotAt (getD pages p []) k) .flags) ≡ true)
 
-abbrev pub Contents : Call → Box → Type 0
-Contents (format slots blocks) x = Unit {0}
-Contents reopen x = PagesRule (labelAt (x .images .ssd)) (metasOf (labelAt (x .images .ssd)) (x .images .ssd))
-Contents step x = RowsRule (x .state) (x .table)
-Contents flush x = RowsRule (x .state) (x .table)
-Contents (offer b) x = RowsRule (x .state) (x .table)
-Contents (fetch b) x = RowsRule (x .state) (x .table)
-Contents (landFetch b) x = RowsRule (x .state) (x .table)
-Contents (lookUp b) x = RowsRule (x .state) (x .table)
-Contents (view b) x = RowsRule (x .state) (x .table)
-Contents (writeBack b) x = RowsRule (x .state) (x .table)
-Contents (land b page) x = RowsRule (x .state) (x .table)
+abbrev pub Contents : Kind → Box → Type 0
+Contents (aFormat l) x = Unit {0}
+Contents aReopening x = PagesRule (labelAt (x .images .ssd)) (metasOf (labelAt (x .images .ssd)) (x .images .ssd))
+Contents aStep x = RowsRule (x .state) (x .table)
+Contents (aService a) x = RowsRule (x .state) (x .table)
 
 -- 6
-abbrev pub RightPhase : Call → Phase → Type 0
-RightPhase (format slots blocks) p = Unit {0}
-RightPhase reopen p = Unit {0}
-RightPhase step p = p ≢ Ready
-RightPhase flush p = p ≡ Ready
-RightPhase (offer b) p = p ≡ Ready
-RightPhase (fetch b) p = p ≡ Ready
-RightPhase (landFetch b) p = p ≡ Ready
-RightPhase (lookUp b) p = p ≡ Ready
-RightPhase (view b) p = p ≡ Ready
-RightPhase (writeBack b) p = p ≡ Ready
-RightPhase (land b page) p = p ≡ Ready
+abbrev pub RightPhase : Kind → Phase → Type 0
+RightPhase (aFormat l) p = Unit {0}
+RightPhase aReopening p = Unit {0}
+RightPhase aStep p = p ≢ Ready
+RightPhase (aService a) p = p ≡ Ready
 
 -- 8 to 12: the block's slot, "its lowest slot counts"
 pub record SlotOf (table : List ℕ) (b : Block) : Type 0 where
@@ -133,52 +115,42 @@ pub record SlotOf (table : List ℕ) (b : Block) : Type 0 where
   pub lowest : (t : Slot) → t .0 < slot .0 → valid (rowFlags table t) ≡ true → rowBlock table t .0 ≢ b .0
 
 -- 9: open for writing, or dirty and not open; open for fetch
-abbrev pub RightState : Call → List ℕ → Type 0
-RightState (format slots blocks) table = Unit {0}
-RightState reopen table = Unit {0}
-RightState step table = Unit {0}
-RightState flush table = Unit {0}
-RightState (offer b) table = Unit {0}
-RightState (fetch b) table = Unit {0}
-RightState (landFetch b) table = (s : SlotOf table b) × (writing (rowFlags table (s .slot)) ≡ true) ×
+abbrev pub RightState : Purpose → Block → List ℕ → Type 0
+RightState toServe b table = Unit {0}
+RightState toSettle b table = Unit {0}
+RightState toWrite b table = Unit {0}
+RightState toFetch b table = Unit {0}
+RightState toLandFetch b table = (s : SlotOf table b) × (writing (rowFlags table (s .slot)) ≡ true) ×
     (dirty (rowFlags table (s .slot)) ≡ false)
-RightState (lookUp b) table = Unit {0}
-RightState (view b) table = Unit {0}
-RightState (writeBack b) table = Unit {0}
-RightState (land b page) table = (s : SlotOf table b) × (dirty (rowFlags table (s .slot)) ≡ true)
+RightState (toLand page) b table = (s : SlotOf table b) × (dirty (rowFlags table (s .slot)) ≡ true)
 
 -- 11: a fetch, or an offer of a block that isn't dirty
-abbrev pub OpensAnother : Call → List ℕ → Type 0
-OpensAnother (format slots blocks) table = ⊥
-OpensAnother reopen table = ⊥
-OpensAnother step table = ⊥
-OpensAnother flush table = ⊥
-OpensAnother (offer b) table = (s : SlotOf table b) → dirty (rowFlags table (s .slot)) ≡ false
-OpensAnother (fetch b) table = Unit {0}
-OpensAnother (landFetch b) table = ⊥
-OpensAnother (lookUp b) table = ⊥
-OpensAnother (view b) table = ⊥
-OpensAnother (writeBack b) table = ⊥
-OpensAnother (land b page) table = ⊥
+abbrev pub OpensAnother : Purpose → Block → List ℕ → Type 0
+OpensAnother toServe b table = ⊥
+OpensAnother toSettle b table = ⊥
+OpensAnother toWrite b table = (s : SlotOf table b) → dirty (rowFlags table (s .slot)) ≡ false
+OpensAnother toFetch b table = Unit {0}
+OpensAnother toLandFetch b table = ⊥
+OpensAnother (toLand page) b table = ⊥
 
 -- the table of document 01
 abbrev pub Why : Reason → Call → Box → Type 0
-Why badLimits c x = Limits (labelFor c x) → ⊥
+Why badLimits c x = Limits (labelFor (kind c) x) → ⊥
 Why noLabel c x = HasLabel (x .images .ssd) → ⊥
 Why badRecord c x = RecordRule (x .state) → ⊥
-Why wrongLength c x = Lengths (labelFor c x) c (x .images) (x .table) → ⊥
-Why badRows c x = Contents c x → ⊥
-Why wrongPhase c x = RightPhase c (x .state .phase) → ⊥
-Why blockTooHigh c x = x .state .label .blocks ≤ blockFor c .0
-Why slotOpen c x = (s : SlotOf (x .table) (blockFor c)) × (writing (rowFlags (x .table) (s .slot)) ≡ true)
-Why wrongState c x = RightState c (x .table) → ⊥
-Why hasSlot c x = SlotOf (x .table) (blockFor c)
-Why windowFull c x = OpensAnother c (x .table) × (63 ≤ openRows (x .table))
-Why allOpen c x = (SlotOf (x .table) (blockFor c) → ⊥) × ((s : Slot) → IsRow (x .table) s → writing (rowFlags (x .table) s) ≡ true)
-Why stampsSpent c x = (storesMeta (plan c x) ≡ true) × (stampBound c ≤ x .state .newest)
+Why wrongLength c x = Lengths (labelFor (kind c) x) (aim c .purpose) (x .images) (x .table) → ⊥
+Why badRows c x = Contents (kind c) x → ⊥
+Why wrongPhase c x = RightPhase (kind c) (x .state .phase) → ⊥
+Why blockTooHigh c x = x .state .label .blocks ≤ aim c .block .0
+Why slotOpen c x = (s : SlotOf (x .table) (aim c .block)) × (writing (rowFlags (x .table) (s .slot)) ≡ true)
+Why wrongState c x = RightState (aim c .purpose) (aim c .block) (x .table) → ⊥
+Why hasSlot c x = SlotOf (x .table) (aim c .block)
+Why windowFull c x = OpensAnother (aim c .purpose) (aim c .block) (x .table) × (63 ≤ openRows (x .table))
+Why allOpen c x = (SlotOf (x .table) (aim c .block) → ⊥) × ((s : Slot) → IsRow (x .table) s → writing (rowFlags (x .table) s) ≡ true)
+Why stampsSpent c x = (storesMeta (plan c x) ≡ true) × (stampBound (aim c .purpose) ≤ x .state .newest)
 
--- "Least number first .. A number is used if its condition holds for that call, and in no other case": r is the first of
--- a chain whose condition holds
+-- "Least number first .. A number is used if its condition holds for that call, and in no other case": r is the first in a
+-- call's order whose condition holds
 abbrev pub FirstWhy : List Reason → Reason → (Reason → Type 0) → Type 0
 FirstWhy [] r why = ⊥
 FirstWhy (q ∷ rs) r why = ((q ≡ r) × why r) ⊎ ((why q → ⊥) × FirstWhy rs r why)

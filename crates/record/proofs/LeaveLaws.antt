@@ -1,7 +1,7 @@
 -- A window without one of its slots, place by place.
 use Prim.Native.Nat.{ℕ, zero, suc, _+_, _-_, _≤_, _<_}
 use mathlib.Core.Path.{_≡_, refl, sym, ap, _∙_}
-use mathlib.Core.Bool.{Bool, true, false, _||_}
+use mathlib.Core.Bool.{Bool, true, false, _||_, or-false}
 use mathlib.Core.List.{List, [], _∷_}
 use native.Mathlib.Omega.{arith}
 use native.Mathlib.Numerals.{add-one}
@@ -57,11 +57,7 @@ listed-more : (s : Slot) (w : List Slot) (i : ℕ) (d : Slot) → i < length w
     → listed s (take (suc i) w) ≡ (listed s (take i w) || eqb (s .0) (getD w i d .0))
 unfolding listed
 listed-more s [] i d h = absurd (omega arith)
-listed-more s (t ∷ w) zero d h = go (eqb (s .0) (t .0))
-  where
-    go : (b : Bool) → (b || false) ≡ b
-    go true = refl
-    go false = refl
+listed-more s (t ∷ w) zero d h = or-false (eqb (s .0) (t .0))
 listed-more s (t ∷ w) (suc i) d h = go (eqb (s .0) (t .0)) (listed-more s w i d (omega arith))
   where
     go : (b : Bool) → listed s (take (suc i) w) ≡ (listed s (take i w) || eqb (s .0) (getD w i d .0))

@@ -8,13 +8,13 @@ use lib.ListN.{length, getD, set, take, drop, replicate, length-take, length-app
 use lib.Seq.{getD-take, take-at, drop-at, set-at}
 use lib.Dec.{eqb, ltb}
 use borrow.Author.Tests.{ltb-true}
+use Rattle.layout.proofs.Booleans.{and-parts}
 use Rattle.layout.specs.declared.Slot.{Slot}
 use Rattle.layout.specs.declared.Label.{Label}
 use Rattle.layout.specs.declared.Window.{Window}
 use Rattle.layout.specs.Places.{tableLength}
 use Rattle.layout.specs.PageRule.{listed, distinct, inRange}
 use Rattle.layout.specs.Window.{slotsIn, arrayOf, windowFrom, ZeroPast}
-use Rattle.layout.proofs.Booleans.{and-parts}
 use Rattle.layout.proofs.Loops.{left}
 use Rattle.record.specs.Window.{zeroSlots, eachSlot, without}
 

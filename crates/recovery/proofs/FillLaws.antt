@@ -8,7 +8,7 @@ use native.Mathlib.Numerals.{add-one}
 use lib.ListN.{length, getD, set, take, drop, length-set}
 use lib.Seq.{take-suc-set, take-all}
 use lib.Dec.{eqb, ltb}
-use borrow.Author.Tests.{eq-eqb, ne-eqb, ltb-true}
+use borrow.Author.Tests.{eq-eqb, ne-eqb, ltb-true, eqb-true}
 use Rattle.layout.specs.declared.Slot.{Slot}
 use Rattle.layout.specs.declared.Entry.{Entry}
 use Rattle.layout.specs.declared.Label.{Label}
@@ -17,8 +17,7 @@ use Rattle.layout.specs.PageRule.{listed, inRange}
 use Rattle.record.specs.declared.Record.{Record}
 use Rattle.protocol.specs.Rows.{valid, writing, setRow}
 use Rattle.protocol.specs.Recovery.{entryIn, Newest, newestOf, allOpenIn, freeEntry, recovered, recover}
-use Rattle.layout.proofs.Booleans.{Told, told, told-true, told-false, clash}
-use Rattle.protocol.proofs.model.Base.{and-left, and-right, eqb-is}
+use Rattle.layout.proofs.Booleans.{Told, told, told-true, told-false, clash, and-parts}
 use Rattle.record.proofs.WindowLaws.{take-array, window-left, window-end}
 use Rattle.layout.specs.declared.Window.{Window}
 use Rattle.layout.specs.Window.{slotsIn, windowFrom}
@@ -70,7 +69,7 @@ eqb-suc : (m n : ℕ) → eqb m n ≡ eqb (suc m) (suc n)
 eqb-suc m n = go (told (eqb m n))
   where
     go : Told (eqb m n) → eqb m n ≡ eqb (suc m) (suc n)
-    go (told-true e) = rw (e, eq-eqb (suc m) (suc n) (ap suc (eqb-is m n e)))
+    go (told-true e) = rw (e, eq-eqb (suc m) (suc n) (ap suc (eqb-true m n e)))
     go (told-false e) = rw (e, ne-eqb (suc m) (suc n) (λ z. clash (eq-eqb m n (omega arith)) e))
 
 -- a row that is zeroed
@@ -94,9 +93,9 @@ rows-freed : (l : Label) (w : List Slot) (f : ℕ → Entry) → inRange l w ≡
 unfolding freed inRange listed
 rows-freed l [] f e = refl
 rows-freed l (s ∷ w) f e =
-    let low : s .0 < l .slots = ltb-true _ _ (and-left (ltb (s .0) (l .slots)) (inRange l w) e) in
+    let low : s .0 < l .slots = ltb-true _ _ (and-parts (ltb (s .0) (l .slots)) (inRange l w) e .0) in
     ap (freed w) (row-freed (l .slots) f (s .0) low)
-    ∙ rows-freed l w (λ u. freeIf (eqb u (s .0)) (f u)) (and-right (ltb (s .0) (l .slots)) (inRange l w) e)
+    ∙ rows-freed l w (λ u. freeIf (eqb u (s .0)) (f u)) (and-parts (ltb (s .0) (l .slots)) (inRange l w) e .1)
     ∙ rows-ext (l .slots) (λ u. freeIf (listed (record { 0 = u }) w) (freeIf (eqb u (s .0)) (f u)))
     (λ u. freeIf (eqb u (s .0) || listed (record { 0 = u }) w) (f u)) (λ u. go (eqb u (s .0)) (listed (record { 0 = u }) w) (f u))
   where
@@ -123,16 +122,16 @@ open-at pages [] s e h = clash h refl
 open-at pages (t ∷ w) s e h = go (told (eqb (s .0) (t .0))) (open-at pages w s)
   where
     first : (valid (entryIn pages t .flags) && writing (entryIn pages t .flags)) ≡ true
-    first = and-left (valid (entryIn pages t .flags) && writing (entryIn pages t .flags)) _ e
+    first = and-parts (valid (entryIn pages t .flags) && writing (entryIn pages t .flags)) _ e .0
 
     go : Told (eqb (s .0) (t .0))
         → (allOpenIn pages w ≡ true → listed s w ≡ true → (valid (entryIn pages s .flags) ≡ true) ×
         (writing (entryIn pages s .flags) ≡ true))
         → (valid (entryIn pages s .flags) ≡ true) × (writing (entryIn pages s .flags) ≡ true)
     go (told-true q) ih =
-        let same : s ≡ t = ap (λ (n : ℕ). record { 0 = n }) (eqb-is (s .0) (t .0) q) in
-        rw same (and-left (valid (entryIn pages t .flags)) _ first, and-right (valid (entryIn pages t .flags)) _ first)
-    go (told-false q) ih = ih (and-right (valid (entryIn pages t .flags) && writing (entryIn pages t .flags)) _ e) (rw q at h)
+        let same : s ≡ t = ap (λ (n : ℕ). record { 0 = n }) (eqb-true (s .0) (t .0) q) in
+        rw same (and-parts (valid (entryIn pages t .flags)) _ first .0, and-parts (valid (entryIn pages t .flags)) _ first .1)
+    go (told-false q) ih = ih (and-parts (valid (entryIn pages t .flags) && writing (entryIn pages t .flags)) _ e .1) (rw q at h)
 
 -- it is dropped, and any other is kept
 kept-recovered : (pages : List (List ℕ)) (w : List Slot) (s : Slot) → allOpenIn pages w ≡ true

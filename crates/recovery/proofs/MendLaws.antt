@@ -10,6 +10,7 @@ use lib.ListN.{length, getD, take, drop}
 use lib.Seq.{take-suc}
 use lib.Dec.{eqb, ltb}
 use borrow.Author.Tests.{ltb-true}
+use Rattle.layout.proofs.Booleans.{and-parts}
 use Rattle.layout.specs.declared.Slot.{Slot}
 use Rattle.layout.specs.declared.Label.{Label}
 use Rattle.layout.specs.Places.{metaPages, metaOf}
@@ -23,7 +24,6 @@ use Rattle.protocol.specs.Recovery.{offPage, phaseOf}
 use Rattle.protocol.specs.Plan.{lowestFrom, lowestPage}
 use Rattle.protocol.specs.Perform.{mendedAt}
 use Rattle.record.specs.Rule.{recordTest}
-use Rattle.protocol.proofs.model.Base.{and-left, and-right}
 use Rattle.record.proofs.WindowLaws.{take-array, window-left, window-end}
 use Rattle.record.proofs.RecordLaws.{parts, window-is, window-length}
 use Rattle.serving.specs.Moves.{Fits}
@@ -106,8 +106,8 @@ low-from : (l : Label) (p : ℕ) (w : List Slot) → p < metaPages l → inRange
 unfolding lowestFrom inRange
 low-from l p [] h e = h
 low-from l p (s ∷ w) h e =
-    let low : s .0 < l .slots = ltb-true _ _ (and-left (ltb (s .0) (l .slots)) (inRange l w) e) in
-    let e₂ = and-right (ltb (s .0) (l .slots)) (inRange l w) e in
+    let low : s .0 < l .slots = ltb-true _ _ (and-parts (ltb (s .0) (l .slots)) (inRange l w) e .0) in
+    let e₂ = and-parts (ltb (s .0) (l .slots)) (inRange l w) e .1 in
     go (ltb (metaOf s) p) (low-from l (metaOf s) w (meta-of-low l s low) e₂) (low-from l p w h e₂)
   where
     go : (b : Bool) → lowestFrom (metaOf s) w < metaPages l → lowestFrom p w < metaPages l
@@ -119,8 +119,8 @@ pub lowest-low : (l : Label) (w : List Slot) → 1 ≤ length w → inRange l w 
 unfolding inRange
 lowest-low l [] h e = absurd (omega arith)
 lowest-low l (s ∷ w) h e =
-    let low : s .0 < l .slots = ltb-true _ _ (and-left (ltb (s .0) (l .slots)) (inRange l w) e) in
-    low-from l (metaOf s) w (meta-of-low l s low) (and-right (ltb (s .0) (l .slots)) (inRange l w) e)
+    let low : s .0 < l .slots = ltb-true _ _ (and-parts (ltb (s .0) (l .slots)) (inRange l w) e .0) in
+    low-from l (metaOf s) w (meta-of-low l s low) (and-parts (ltb (s .0) (l .slots)) (inRange l w) e .1)
 
 -- the record with the pending slots of other pages
 pub mended-is : (r next q : Record) (p : ℕ) (w left : Window) (phase : Phase) → w ≡ windowOf r → left ≡ windowFrom (offPage p (slotsIn w))

@@ -7,6 +7,7 @@ use mathlib.Core.Option.{none}
 use lib.ListN.{length}
 use lib.Dec.{eqb}
 use borrow.Author.Tests.{eqb-true}
+use Rattle.layout.proofs.Booleans.{and-parts}
 use Rattle.layout.specs.declared.Label.{Label}
 use Rattle.layout.specs.declared.LabelRead.the-variants.{Legal, Illegal}
 use Rattle.layout.specs.Places.{ssdLength, hddLength, tableLength}
@@ -18,7 +19,6 @@ use Rattle.protocol.specs.Plan.{reopen, recovers, plan}
 use Rattle.protocol.specs.Perform.{perform}
 use Rattle.protocol.specs.Judge.{lengthsTest, noLabel, wrongLength, badRows, isLabel, lengthTest, test, firstOf, judged}
 use Rattle.protocol.specs.Calls.{boxOf, reopenOf}
-use Rattle.protocol.proofs.model.Base.{and-left, and-right}
 use Rattle.serving.proofs.ServeLaws.{first-yes, first-no, performs, refused-as}
 use Rattle.stored.specs.Stored.{labelIf}
 use Rattle.stored.proofs.ReadLaws.{label-test, legal-read}
@@ -57,8 +57,8 @@ module _ (ssd hdd t : List ℕ) (r : Record) where
       pub sizes : (length ssd ≡ ssdLength l) × (length t ≡ tableLength l)
       unfolding lengthsTest
       sizes =
-          let b = and-right (eqb (length ssd) (ssdLength l)) _ h in
-          (eqb-true _ _ (and-left (eqb (length ssd) (ssdLength l)) _ h), eqb-true _ _ (and-right (eqb (length hdd) (hddLength l)) _ b))
+          let b = and-parts (eqb (length ssd) (ssdLength l)) _ h .1 in
+          (eqb-true _ _ (and-parts (eqb (length ssd) (ssdLength l)) _ h .0), eqb-true _ _ (and-parts (eqb (length hdd) (hddLength l)) _ b .1))
 
       pages-test : (b : Bool) → pagesTest l (metasOf l ssd) ≡ b → test badRows reopen x ≡ not b
       unfolding test

@@ -21,8 +21,7 @@ use Rattle.protocol.specs.Perform.{formatStore, formatState, perform}
 use Rattle.protocol.specs.Judge.{badRecord, wrongLength, badRows, wrongPhase, stampsSpent, isReady, isEmpty, agreeTest, lengthTest, test, firstOf, judged}
 use Rattle.record.specs.Rule.{stepsTest}
 use Rattle.protocol.specs.Calls.{boxOf, stepOf}
-use Rattle.layout.proofs.Booleans.{Told, told, told-true, told-false, clash}
-use Rattle.protocol.proofs.model.Base.{and-left}
+use Rattle.layout.proofs.Booleans.{Told, told, told-true, told-false, clash, and-parts}
 use Rattle.serving.specs.Judging.{soundThen}
 use Rattle.serving.proofs.ServeLaws.{Judges, numbers, first-yes, first-no, performs, refused-as, judged-on}
 use Rattle.serving.proofs.ReadyLaws.{SoundBox}
@@ -108,5 +107,5 @@ module _ (ssd hdd t : List ℕ) (r : Record) (S : SoundBox ssd hdd 4096 t r) whe
   some-pending e =
       let a : agreeTest Recovering t (windowIn r) ≡ true =
       ap (λ (p : Phase). agreeTest p t (windowIn r)) (sym e) ∙ S .sound .agree in
-      let n = some-slot (windowIn r) (and-left (not (isEmpty (windowIn r))) _ a) in
+      let n = some-slot (windowIn r) (and-parts (not (isEmpty (windowIn r))) _ a .0) in
       omega (arith, S .sound .count-is)

@@ -8,15 +8,16 @@ use native.Mathlib.Omega.{arith}
 use lib.ListN.{length}
 use lib.Dec.{eqb, leb}
 use borrow.Author.Tests.{eq-eqb, ne-eqb, eqb-true}
+use Rattle.layout.proofs.Booleans.{and-parts}
 use Rattle.layout.specs.declared.Block.{Block}
 use Rattle.layout.specs.declared.Label.{Label}
 use Rattle.layout.specs.Places.{ssdLength, hddLength, tableLength}
 use Rattle.record.specs.declared.Record.{Record}
 use Rattle.record.specs.Record.{labelIn, windowIn}
+use Rattle.protocol.specs.Rows.{openRows}
 use Rattle.protocol.specs.Condition.{conditionOf}
 use Rattle.record.specs.Rule.{recordTest}
-use Rattle.protocol.specs.Judge.{lengthsTest, rowsTest, agreeTest, isReady, openRows}
-use Rattle.protocol.proofs.model.Base.{and-right}
+use Rattle.protocol.specs.Judge.{lengthsTest, rowsTest, agreeTest, isReady}
 use Rattle.table.specs.Scan.{legalRows}
 use Rattle.serving.specs.declared.Judged.{Judged}
 use Rattle.serving.specs.Judging.{refuseIf, soundThen, readyThen, servesThen, judgedBy}
@@ -36,7 +37,7 @@ module _ (l : Label) (ssd hdd table : ℕ) where
 
   pub lengths-table : lengthsTest l ssd hdd table ≡ true → table ≡ tableLength l
   unfolding lengthsTest
-  lengths-table e = eqb-true _ _ (and-right (eqb hdd (hddLength l)) _ (and-right (eqb ssd (ssdLength l)) _ e))
+  lengths-table e = eqb-true _ _ (and-parts (eqb hdd (hddLength l)) _ (and-parts (eqb ssd (ssdLength l)) _ e .1) .1)
 
 -- 5, by what a scan and the agreement say
 module _ (r : Record) (t : List ℕ) where

@@ -14,14 +14,13 @@ use Rattle.layout.specs.PageRule.{listed}
 use Rattle.record.specs.declared.Record.{Record}
 use Rattle.record.specs.declared.Phase.{Phase}
 use Rattle.record.specs.declared.Phase.the-variants.{Formatting, Recovering, Ready}
-use Rattle.protocol.specs.Rows.{rowFlags, writing}
+use Rattle.protocol.specs.Rows.{rowFlags, writing, openRows}
 use Rattle.record.specs.Record.{labelIn, windowIn}
 use Rattle.record.specs.Rule.{recordTest}
-use Rattle.protocol.specs.Judge.{lengthsTest, lengthTest, rowsTest, agreeTest, isReady, openRows}
+use Rattle.protocol.specs.Judge.{lengthsTest, lengthTest, rowsTest, agreeTest, isReady}
 use Rattle.record.specs.Window.{eachSlot}
 use Rattle.protocol.specs.Calls.{boxOf}
-use Rattle.layout.proofs.Booleans.{clash}
-use Rattle.protocol.proofs.model.Base.{and-left, and-right}
+use Rattle.layout.proofs.Booleans.{clash, and-parts}
 use Rattle.protocol.proofs.Accepted.{Legal, legal}
 use Rattle.protocol.proofs.Tables.{each-get}
 use Rattle.table.specs.Scan.{legalRows}
@@ -66,12 +65,12 @@ module _ (ssd hdd : List ℕ) (page : ℕ) (t : List ℕ) (r : Record) where
       let n = not-false _ (p4 .0) in
       let w = not-false _ (pass (not (rowsTest r t)) 4 _ (p4 .1) .0) in
       let L : Legal (boxOf ssd hdd t r) =
-      legal (boxOf ssd hdd t r) k (and-left (lengthsTest (labelIn r) (length ssd) (length hdd) (length t)) _ n) w in
+      legal (boxOf ssd hdd t r) k (and-parts (lengthsTest (labelIn r) (length ssd) (length hdd) (length t)) _ n .0) w in
       record {
         record-kept = k;
         sound = L;
-        page-size = eqb-true _ _ (and-right (lengthsTest (labelIn r) (length ssd) (length hdd) (length t)) _ n);
-        rows = and-left (legalRows (labelIn r) t) _ w;
+        page-size = eqb-true _ _ (and-parts (lengthsTest (labelIn r) (length ssd) (length hdd) (length t)) _ n .1);
+        rows = and-parts (legalRows (labelIn r) t) _ w .0;
         fits = record {
           ssd-size = L .ssd-size;
           table-size = L .table-size;
@@ -104,8 +103,8 @@ module _ (ssd hdd : List ℕ) (page : ℕ) (t : List ℕ) (r : Record) (B : Read
 
   -- the window has as many slots as there are writing rows
   pub open-count : r .count ≡ openRows t
-  open-count = sym (eqb-true _ _ (and-right (eachSlot (λ s. writing (rowFlags t s)) (take (r .count) (r .window))) _
-      (ready-is r t (B .box .record-kept) (openRows t) (B .box .sound .table-size) refl ∙ agree)))
+  open-count = sym (eqb-true _ _ (and-parts (eachSlot (λ s. writing (rowFlags t s)) (take (r .count) (r .window))) _
+      (ready-is r t (B .box .record-kept) (openRows t) (B .box .sound .table-size) refl ∙ agree) .1))
 
   -- an open slot is in the window
   pub open-listed : (s : Slot) → s .0 < r .label .slots → writing (rowFlags t s) ≡ true → listed s (windowIn r) ≡ true
@@ -113,4 +112,4 @@ module _ (ssd hdd : List ℕ) (page : ℕ) (t : List ℕ) (r : Record) (B : Read
       let k : 2 * s .0 + 1 < length t = omega (arith, B .box .sound .table-size) in
       rw (zero-add (s .0), o) at
       (each-get (λ s block flags. not (writing flags) || listed (record { 0 = s }) (windowIn r)) 0 t
-      (and-right (eachSlot (λ s. writing (rowFlags t s)) (windowIn r)) _ agree) (s .0) k)
+      (and-parts (eachSlot (λ s. writing (rowFlags t s)) (windowIn r)) _ agree .1) (s .0) k)

@@ -8,15 +8,17 @@ use mathlib.Core.List.{List, [], _∷_, _++_}
 use mathlib.Core.Option.{Option, some, none}
 use lib.ListN.{length}
 use lib.Dec.{eqb}
-use borrow.Author.Tests.{eq-eqb}
+use borrow.Author.Tests.{eq-eqb, ne-eqb}
 use Rattle.layout.specs.declared.Block.{Block}
 use Rattle.record.specs.declared.Record.{Record}
 use Rattle.protocol.specs.Box.{Box, refusing, left}
 use Rattle.protocol.specs.Plan.{Call, Move, flush, offer, fetch, landFetch, lookUp, view, writeBack, land, plan}
 use Rattle.protocol.specs.Perform.{perform}
-use Rattle.protocol.specs.Judge.{lengthsTest, Reason, badLimits, noLabel, badRecord, wrongLength, badRows, wrongPhase, blockTooHigh, slotOpen, wrongState, hasSlot, windowFull, allOpen, stampsSpent, numberOf, lengthTest, test, chain, firstOf, judged}
+use Rattle.protocol.specs.Judge.{lengthsTest, Reason, badRecord, wrongLength, badRows, wrongPhase, blockTooHigh, slotOpen, wrongState, hasSlot, windowFull, allOpen, stampsSpent, numberOf, lengthTest, test, chain, firstOf, judged}
 use Rattle.protocol.specs.Calls.{decided, effectOf, resultOf, boxOf}
 use Rattle.layout.proofs.Booleans.{Told, told, told-true, told-false, clash}
+pub use Rattle.protocol.proofs.Judged.{first-yes, first-no}
+use Rattle.protocol.proofs.Reasons.{number-some}
 use Rattle.serving.specs.Judging.{refuseIf, soundThen, readyThen, servesThen}
 
 -- the first number of some reasons, or 0
@@ -25,30 +27,10 @@ numbers h [] = 0
 numbers h (q ∷ qs) = refuseIf (h q) (numberOf q) (numbers h qs)
 
 some-number : (q : Reason) → eqb (numberOf q) 0 ≡ false
-some-number badLimits = refl
-some-number noLabel = refl
-some-number badRecord = refl
-some-number wrongLength = refl
-some-number badRows = refl
-some-number wrongPhase = refl
-some-number blockTooHigh = refl
-some-number slotOpen = refl
-some-number wrongState = refl
-some-number hasSlot = refl
-some-number windowFull = refl
-some-number allOpen = refl
-some-number stampsSpent = refl
+some-number q = ne-eqb _ _ (number-some q)
 
--- a reason is asked: it holds, or the next ones are asked
+-- a reason's number is found, or that of the next ones
 module _ (h : Reason → Bool) (q : Reason) (qs : List Reason) where
-  pub first-yes : h q ≡ true → firstOf (q ∷ qs) h ≡ some q
-  unfolding firstOf
-  first-yes e = rw (e, firstOf)
-
-  pub first-no : h q ≡ false → firstOf (q ∷ qs) h ≡ firstOf qs h
-  unfolding firstOf
-  first-no e = rw (e, firstOf)
-
   number-yes : h q ≡ true → numbers h (q ∷ qs) ≡ numberOf q
   unfolding numbers
   number-yes e = rw e

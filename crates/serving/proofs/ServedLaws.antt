@@ -7,7 +7,7 @@ use Rattle.layout.specs.declared.Block.{Block}
 use Rattle.record.specs.declared.Record.{Record}
 use Rattle.protocol.specs.declared.Condition.{Condition}
 use Rattle.protocol.specs.Condition.{conditionOf}
-use Rattle.protocol.specs.Judge.{openRows}
+use Rattle.protocol.specs.Rows.{openRows}
 use Rattle.serving.specs.declared.Judged.{Judged}
 use Rattle.serving.specs.Judging.{servesThen, judgedBy}
 use Rattle.serving.proofs.JudgingLaws.{looked}

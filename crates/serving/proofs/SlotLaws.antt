@@ -7,6 +7,7 @@ use native.Mathlib.Omega.{arith}
 use lib.ListN.{length, getD}
 use lib.Dec.{ltb}
 use borrow.Author.Tests.{ltb-true}
+use Rattle.layout.proofs.Booleans.{and-parts}
 use Rattle.layout.specs.declared.Slot.{Slot}
 use Rattle.layout.specs.declared.Block.{Block}
 use Rattle.layout.specs.Places.{tableLength}
@@ -18,7 +19,6 @@ use Rattle.protocol.specs.Rows.{rowFlags, dirty, writing}
 use Rattle.record.specs.Record.{labelIn}
 use Rattle.protocol.specs.Condition.{conditionOf}
 use Rattle.protocol.specs.Judge.{rowTest}
-use Rattle.protocol.proofs.model.Base.{and-left, and-right}
 use Rattle.protocol.proofs.Conditions.{Held, Stands, absent, is-clean, is-dirty, is-writing, is-fetching, stands}
 use Rattle.protocol.proofs.Tables.{each-get}
 use Rattle.table.specs.Scan.{legalRows}
@@ -59,4 +59,4 @@ module _ (r : Record) (t : List ℕ) (b : Block) (size : length t ≡ tableLengt
   flags-low h s k =
       let q : 2 * s .0 + 1 < length t = omega (arith, size) in
       let e = each-get (λ s block flags. rowTest (labelIn r) block flags) 0 t h (s .0) q in
-      ltb-true _ _ (and-left (ltb (rowFlags t s) 16) _ (and-right (pairTest (labelIn r) (getD t (2 * s .0) 0) (rowFlags t s % 8)) _ e))
+      ltb-true _ _ (and-parts (ltb (rowFlags t s) 16) _ (and-parts (pairTest (labelIn r) (getD t (2 * s .0) 0) (rowFlags t s % 8)) _ e .1) .0)

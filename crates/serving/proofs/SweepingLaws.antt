@@ -10,9 +10,8 @@ use borrow.Author.Tests.{lt-ltb, le-ltb}
 use Rattle.layout.specs.declared.Slot.{Slot}
 use Rattle.layout.specs.declared.Label.{Label}
 use Rattle.layout.specs.Places.{tableLength}
-use Rattle.protocol.specs.Rows.{rowBlock, rowFlags, valid, dirty, writing}
+use Rattle.protocol.specs.Rows.{rowBlock, rowFlags, valid, dirty, writing, allWriting}
 use Rattle.protocol.specs.Sweep.{nextSlot, Victim, sweep}
-use Rattle.protocol.specs.Judge.{allWriting}
 use Rattle.layout.proofs.Booleans.{Told, told, told-true, told-false, clash}
 use Rattle.protocol.proofs.model.Model.{dty, opn}
 use Rattle.protocol.proofs.Flags.{Flags, f0, f1, f3, f5, f7, f9, f11, f13, f15}

@@ -16,14 +16,14 @@ use Rattle.layout.specs.Places.{Limits, tableLength}
 use Rattle.layout.proofs.PlaceLaws.{within}
 use Rattle.record.specs.declared.Record.{Record}
 use Rattle.protocol.specs.Paper.{copiedOut}
-use Rattle.protocol.specs.Rows.{rowFlags, dirty}
+use Rattle.protocol.specs.Rows.{rowFlags, dirty, openRows, allWriting}
 use Rattle.record.specs.Record.{labelIn, largestStamp}
 use Rattle.protocol.specs.Box.{Box, Effect, refusing, left}
 use Rattle.protocol.specs.Sweep.{nextSlot, Victim, sweep}
 use Rattle.protocol.specs.Plan.{Move, opens, copies, takesAs, takes, storesMeta}
 use Rattle.protocol.specs.Perform.{perform}
 use Rattle.record.specs.Rule.{recordTest}
-use Rattle.protocol.specs.Judge.{rowTest, openRows, allWriting}
+use Rattle.protocol.specs.Judge.{rowTest}
 use Rattle.record.proofs.RecordLaws.{parts}
 use Rattle.protocol.proofs.Flags.{legal-row}
 use Rattle.protocol.proofs.Tables.{Rows, each-get}

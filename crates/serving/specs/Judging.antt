@@ -8,9 +8,10 @@ use Rattle.layout.specs.declared.Block.{Block}
 use Rattle.record.specs.declared.Record.{Record}
 use Rattle.protocol.specs.declared.Condition.the-variants.{NotCached}
 use Rattle.record.specs.Record.{labelIn}
+use Rattle.protocol.specs.Rows.{openRows}
 use Rattle.protocol.specs.Condition.{conditionOf}
 use Rattle.record.specs.Rule.{recordTest}
-use Rattle.protocol.specs.Judge.{lengthsTest, rowsTest, isReady, openRows}
+use Rattle.protocol.specs.Judge.{lengthsTest, rowsTest, isReady}
 use Rattle.serving.specs.declared.Judged.{Judged}
 
 -- refused by n, or the rest

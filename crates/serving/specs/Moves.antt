@@ -10,10 +10,10 @@ use Rattle.layout.specs.Places.{ssdLength, tableLength}
 use Rattle.layout.specs.Window.{windowMost}
 use Rattle.record.specs.declared.Record.{Record}
 use Rattle.record.specs.Record.{labelIn, largestStamp}
+use Rattle.protocol.specs.Rows.{openRows, allWriting}
 use Rattle.protocol.specs.Box.{Box, Effect, refusing}
 use Rattle.protocol.specs.Plan.{Move, takes, sweeps, storesMeta}
 use Rattle.protocol.specs.Perform.{perform}
-use Rattle.protocol.specs.Judge.{openRows, allWriting}
 use Rattle.table.specs.Sweeps.{clearedFrom}
 use Rattle.serving.specs.Judging.{refuseIf}
 

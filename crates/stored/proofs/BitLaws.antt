@@ -1,8 +1,8 @@
 -- After a mark, which bits are set.
 use Prim.Native.Nat.{ℕ, zero, suc, _+_, _-_, _*_, _/_, _%_, _^_, _<_, max}
-use mathlib.Core.Path.{_≡_, refl, sym, ap, _∙_}
+use mathlib.Core.Path.{_≡_, sym, ap, _∙_}
 use mathlib.Core.Logic.{_≢_}
-use mathlib.Core.Bool.{Bool, true, false, _||_}
+use mathlib.Core.Bool.{true, false, _||_, or-true, or-false}
 use mathlib.Core.List.{List}
 use native.Mathlib.Omega.{arith}
 use native.Mathlib.Nat.{div-self, div-eq-of-lt, pow-suc, mul-mod-left, mod-eq-of-lt, one-mul}
@@ -41,14 +41,6 @@ pow-other j k ne = elim (decLt j k) [ yes l ↦ ap (λ (n : ℕ). n % 2) (div-eq
 
 pow-same : (k : ℕ) → 2 ^ k / 2 ^ k % 2 ≡ 1
 pow-same k = ap (λ (n : ℕ). n % 2) (div-self (pow-pos k))
-
-or-true : (b : Bool) → (b || true) ≡ true
-or-true true = refl
-or-true false = refl
-
-or-false : (b : Bool) → (b || false) ≡ b
-or-false true = refl
-or-false false = refl
 
 -- the bits of a word with one more set
 word-same : (a k : ℕ) → eqb (bitOr a (2 ^ k) / 2 ^ k % 2) 1 ≡ true

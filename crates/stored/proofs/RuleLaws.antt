@@ -6,6 +6,7 @@ use mathlib.Core.List.{List, []}
 use native.Mathlib.Numerals.{add-one}
 use lib.ListN.{length, getD, take, drop}
 use lib.Dec.{eqb}
+use Rattle.layout.proofs.Booleans.{and-parts}
 use Rattle.layout.specs.declared.Slot.{Slot}
 use Rattle.layout.specs.declared.Label.{Label}
 use Rattle.layout.specs.Places.{metaPages}
@@ -13,7 +14,6 @@ use Rattle.layout.specs.MetaPage.{stampOf}
 use Rattle.layout.specs.PageRule.{pageTest}
 use Rattle.protocol.specs.Rows.{valid, writing}
 use Rattle.protocol.specs.Recovery.{metasOf, entryIn, newestOf, eachLegal, stampIn, stampsDiffer, noneTwice, storedRows, allOpenIn, pagesTest}
-use Rattle.protocol.proofs.model.Base.{and-left, and-right}
 use Rattle.record.proofs.WindowLaws.{window-left, window-end}
 use Rattle.stored.proofs.StoredLaws.{metas-left, metas-end}
 
@@ -88,9 +88,9 @@ pub record Passed (l : Label) (pages : List (List ℕ)) : Type 0 where
 pub passed : (l : Label) (pages : List (List ℕ)) → pagesTest l pages ≡ true → Passed l pages
 unfolding pagesTest
 passed l pages e =
-    let a = and-right (eachLegal l 0 pages) _ e in
-    let b = and-right (stampsDiffer pages) _ a in
+    let a = and-parts (eachLegal l 0 pages) _ e .1 in
+    let b = and-parts (stampsDiffer pages) _ a .1 in
     record {
-      legal = and-left (eachLegal l 0 pages) _ e;
-      opened = and-right (noneTwice (storedRows l pages)) _ b;
+      legal = and-parts (eachLegal l 0 pages) _ e .0;
+      opened = and-parts (noneTwice (storedRows l pages)) _ b .1;
     }

@@ -9,6 +9,7 @@ use native.Mathlib.Nat.{zero-add}
 use native.Mathlib.Numerals.{add-one}
 use lib.ListN.{length, getD, set, take, drop, replicate, drop-of-length-le}
 use lib.Dec.{ltb}
+use Rattle.layout.proofs.Booleans.{and-parts}
 use Rattle.pages.specs.Pages.{pageAt}
 use Rattle.pages.proofs.PageLaws.{length-page}
 use Rattle.layout.specs.declared.Slot.{Slot}
@@ -18,13 +19,12 @@ use Rattle.layout.specs.MetaPage.{stampOf, countOf, slotAt, windowOf, firsts}
 use Rattle.layout.specs.PageRule.{pageTest, inRange, windowTest}
 use Rattle.layout.proofs.Loops.{left}
 use Rattle.layout.proofs.RuleLaws.{count-rule, page-rows}
-use Rattle.layout.proofs.JudgeLaws.{length-window}
+use Rattle.layout.proofs.JudgeLaws.{length-window, length-firsts}
 use Rattle.layout.specs.Window.{arrayOf, windowFrom}
 use Rattle.protocol.specs.Recovery.{metasOf, Newest, newer, newestFrom, newestOf, eachLegal}
-use Rattle.protocol.proofs.model.Base.{and-left}
 use Rattle.protocol.proofs.why.PagesRules.{legal-get}
 use Rattle.record.proofs.WindowLaws.{take-array, array-more}
-use Rattle.protocol.proofs.Metas.{length-firsts, length-metas, metas-at}
+use Rattle.protocol.proofs.Metas.{length-metas, metas-at}
 use Rattle.stored.specs.declared.Newest.{Newest as Numbered}
 use Rattle.layout.specs.declared.Window.{Window}
 use Rattle.stored.specs.Stored.{newestAt, newerIf, newerAt, Found}
@@ -132,7 +132,7 @@ count-low l p page e = count-rule page .0 (page-rows l p page .0 e .count) .most
 
 window-range : (l : Label) (page : List ℕ) → windowTest l page ≡ true → inRange l (windowOf page) ≡ true
 unfolding windowTest
-window-range l page e = and-left (inRange l (windowOf page)) _ e
+window-range l page e = and-parts (inRange l (windowOf page)) _ e .0
 
 -- the newest window of legal pages
 pub record Bounded (l : Label) (w : List Slot) : Type 0 where

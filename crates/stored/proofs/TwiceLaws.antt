@@ -9,26 +9,20 @@ use native.Mathlib.Decide.{decLt}
 use lib.ListN.{length, getD, drop, set, replicate, drop-of-length-le, length-set, length-replicate}
 use lib.Seq.{drop-cons}
 use lib.Dec.{eqb, leb, ltb}
-use borrow.Author.Tests.{eq-eqb, ne-eqb, le-leb, lt-leb, leb-true, lt-ltb, le-ltb, ltb-true}
+use borrow.Author.Tests.{eq-eqb, ne-eqb, le-leb, lt-leb, leb-true, lt-ltb, le-ltb, ltb-true, eqb-true}
 use Rattle.layout.specs.declared.Label.{Label}
 use Rattle.layout.specs.declared.Entry.{Entry}
 use Rattle.layout.specs.Places.{metaPages}
 use Rattle.layout.specs.MetaPage.{entryAt, rowsFrom}
-use Rattle.layout.proofs.Booleans.{Told, told, told-true, told-false, clash, and-assoc}
+use Rattle.layout.proofs.Booleans.{Told, told, told-true, told-false, clash, and-assoc, and-parts}
 use Rattle.layout.proofs.RuleLaws.{page-rule}
-use Rattle.protocol.specs.Rows.{valid}
-use Rattle.protocol.specs.Judge.{eachRow}
+use Rattle.protocol.specs.Rows.{valid, eachRow}
 use Rattle.protocol.specs.Recovery.{entryIn, eachLegal, blockIn, noneTwice, storedRows}
-use Rattle.protocol.proofs.model.Base.{and-left, and-right, eqb-is}
 use Rattle.protocol.proofs.Entries.{length-rows, rows-block, rows-flags}
 use Rattle.protocol.proofs.Tables.{each-of}
 use Rattle.stored.specs.Twice.{bitOf, marked, inSpan, visited, allFresh}
 use Rattle.stored.proofs.BitLaws.{bit-marked, bit-none}
 use Rattle.stored.proofs.StoredLaws.{legal-at}
-
-pub and-false : (b : Bool) → (b && false) ≡ false
-and-false true = refl
-and-false false = refl
 
 -- a range is the blocks of one quotient, since it begins at a multiple of its length
 pub out-of-span : (start block : ℕ) → start % 524288 ≡ 0 → (block / 524288 ≡ start / 524288 → ⊥) → inSpan start block ≡ false
@@ -54,7 +48,7 @@ noneMarked start map (block ∷ flags ∷ rows) =
     not ((valid flags && inSpan start block) && bitOf map (block - start)) && noneMarked start map rows
 
 span-low : (start block : ℕ) → inSpan start block ≡ true → (start ≤ block) × (block - start < 524288)
-span-low start block e = (leb-true _ _ (and-left (leb start block) _ e), ltb-true _ _ (and-right (leb start block) _ e))
+span-low start block e = (leb-true _ _ (and-parts (leb start block) _ e .0), ltb-true _ _ (and-parts (leb start block) _ e .1))
 
 -- one row, after a mark: its bit was set before, or its block is the one that was marked
 one-marked : (start : ℕ) (map : List ℕ) (x y g : ℕ) → length map ≡ 16384 → inSpan start x ≡ true
@@ -69,7 +63,7 @@ one-marked start map x y g size e = go (valid g) (told (inSpan start y))
     same k = pick (told (eqb y x))
       where
         pick : Told (eqb y x) → eqb (y - start) (x - start) ≡ eqb y x
-        pick (told-true q) = rw (q, eqb-is y x q) (eq-eqb (x - start) (x - start) refl)
+        pick (told-true q) = rw (q, eqb-true y x q) (eq-eqb (x - start) (x - start) refl)
         pick (told-false q) = rw q (ne-eqb (y - start) (x - start) (λ z. clash (eq-eqb y x (omega (arith, low .0))) q))
 
     go : (v : Bool) → Told (inSpan start y)
@@ -118,7 +112,7 @@ fresh-from start map (x ∷ f ∷ rows) size =
     go (told-false v) m ih = rw v (ih map size)
     go (told-true v) (told-true m) ih = rw (v, m)
     go (told-true v) (told-false m) ih =
-        let s = and-right (valid f) (inSpan start x) v in
+        let s = and-parts (valid f) (inSpan start x) v .1 in
         rw (v, m)
         (ih (marked map (x - start)) (length-marked map (x - start) ∙ size)
         ∙ rw (marks-split start map x rows size s)
@@ -155,10 +149,10 @@ unfolding noneAmong
 among-either p q r c [] e f = refl
 among-either p q r c (x ∷ []) e f = refl
 among-either p q r c (x ∷ g ∷ rows) e f =
-    rw (among-either p q r c rows (and-right (not ((valid g && p x) && blockIn x rows)) _ e)
-    (and-right (not ((valid g && q x) && blockIn x rows)) _ f))
-    (go (valid g) (blockIn x rows) (told (r x)) (and-left (not ((valid g && p x) && blockIn x rows)) _ e)
-    (and-left (not ((valid g && q x) && blockIn x rows)) _ f))
+    rw (among-either p q r c rows (and-parts (not ((valid g && p x) && blockIn x rows)) _ e .1)
+    (and-parts (not ((valid g && q x) && blockIn x rows)) _ f .1))
+    (go (valid g) (blockIn x rows) (told (r x)) (and-parts (not ((valid g && p x) && blockIn x rows)) _ e .0)
+    (and-parts (not ((valid g && q x) && blockIn x rows)) _ f .0))
   where
     go : (v b : Bool) → Told (r x) → not ((v && p x) && b) ≡ true → not ((v && q x) && b) ≡ true → (not ((v && r x) && b) && true) ≡ true
     go v b (told-false s) i j = rw s (none v)
@@ -179,8 +173,8 @@ unfolding noneAmong noneTwice
 twice-among kind [] e = refl
 twice-among kind (x ∷ []) e = refl
 twice-among kind (x ∷ f ∷ rows) e =
-    rw (twice-among kind rows (and-right (not (valid f && blockIn x rows)) _ e))
-    (go (valid f) (kind x) (blockIn x rows) (and-left (not (valid f && blockIn x rows)) _ e))
+    rw (twice-among kind rows (and-parts (not (valid f && blockIn x rows)) _ e .1))
+    (go (valid f) (kind x) (blockIn x rows) (and-parts (not (valid f && blockIn x rows)) _ e .0))
   where
     go : (v k b : Bool) → not (v && b) ≡ true → (not ((v && k) && b) && true) ≡ true
     go false k b i = refl
@@ -193,8 +187,8 @@ unfolding noneAmong noneTwice eachRow
 among-all kind k [] e n = refl
 among-all kind k (x ∷ []) e n = refl
 among-all kind k (x ∷ f ∷ rows) e n =
-    rw (among-all kind (suc k) rows (and-right (not (valid f) || kind x) _ e) (and-right (not ((valid f && kind x) && blockIn x rows)) _ n))
-    (go (valid f) (told (kind x)) (and-left (not (valid f) || kind x) _ e) (and-left (not ((valid f && kind x) && blockIn x rows)) _ n))
+    rw (among-all kind (suc k) rows (and-parts (not (valid f) || kind x) _ e .1) (and-parts (not ((valid f && kind x) && blockIn x rows)) _ n .1))
+    (go (valid f) (told (kind x)) (and-parts (not (valid f) || kind x) _ e .0) (and-parts (not ((valid f && kind x) && blockIn x rows)) _ n .0))
   where
     go : (v : Bool) → Told (kind x) → (not v || kind x) ≡ true → not ((v && kind x) && blockIn x rows) ≡ true
         → (not (v && blockIn x rows) && true) ≡ true

@@ -1,31 +1,18 @@
 -- Functions changed at one place, tests of windows, and the five legal rows.
-use Prim.Native.Nat.{ℕ, suc, _+_, _≤_, _<_, _/_}
-use mathlib.Core.Path.{_≡_, refl, sym, subst, _∙_}
+use Prim.Native.Nat.{ℕ, suc, _≤_, _<_, _/_}
+use mathlib.Core.Path.{_≡_, refl, _∙_}
 use mathlib.Core.Logic.{_≢_}
-use mathlib.Core.Bool.{Bool, true, false, cond, not, _&&_, _||_}
+use mathlib.Core.Bool.{Bool, true, false, cond, not, _&&_, _||_, or-true}
 use mathlib.Core.List.{List, [], _∷_, _++_}
 use native.Mathlib.Omega.{arith}
 use lib.ListN.{length, length-append}
-use lib.Dec.{eqb, ltb, lt→ltb, eqb→eq, eqb-refl, T}
-use Rattle.layout.proofs.Booleans.{Told, told, told-true, told-false, clash}
+use lib.Dec.{eqb, ltb}
+use borrow.Author.Tests.{eqb-true, not-true, lt-ltb, eq-eqb, ne-eqb}
+use Rattle.layout.proofs.Booleans.{Told, told, told-true, told-false, clash, and-parts, or-neither}
 use Rattle.protocol.proofs.Shown as computed-first
 
 pub eqb-same : (n : ℕ) → eqb n n ≡ true
-eqb-same n = go (eqb n n) (eqb-refl n)
-  where
-    go : (b : Bool) → T b → b ≡ true
-    go true t = refl
-    go false t = absurd t
-
-pub eqb-other : (m n : ℕ) → m ≢ n → eqb m n ≡ false
-eqb-other m n h = go (eqb m n) refl
-  where
-    go : (b : Bool) → eqb m n ≡ b → b ≡ false
-    go true e = absurd (h (eqb→eq m n (subst T (sym e) tt)))
-    go false e = refl
-
-pub eqb-is : (m n : ℕ) → eqb m n ≡ true → m ≡ n
-eqb-is m n e = eqb→eq m n (subst T (sym e) tt)
+eqb-same n = eq-eqb n n refl
 
 -- upd f s v: the function f with v at s
 unfoldable pub upd : {A : Type 0} → (ℕ → A) → ℕ → A → ℕ → A
@@ -38,7 +25,7 @@ module _ {A : Type 0} (f : ℕ → A) (s : ℕ) (v : A) where
 
   pub upd-other : (t : ℕ) → t ≢ s → upd f s v t ≡ f t
   unfolding upd
-  upd-other t h = rw eqb-other
+  upd-other t h = rw ne-eqb
 
 -- has w s: is the slot s in the window w
 unfoldable pub has : List ℕ → ℕ → Bool
@@ -68,15 +55,11 @@ has-nil s = refl
 pub has-snoc : (w : List ℕ) (s : ℕ) → has (w ++ (s ∷ [])) s ≡ true
 unfolding has
 has-snoc [] s = rw eqb-same
-has-snoc (t ∷ w) s = rw (has-snoc w s) (go (eqb s t))
-  where
-    go : (b : Bool) → (b || true) ≡ true
-    go true = refl
-    go false = refl
+has-snoc (t ∷ w) s = rw (has-snoc w s) (or-true (eqb s t))
 
 pub has-snoc-other : (w : List ℕ) (s t : ℕ) → t ≢ s → has (w ++ (s ∷ [])) t ≡ has w t
 unfolding has
-has-snoc-other [] s t h = rw eqb-other
+has-snoc-other [] s t h = rw ne-eqb
 has-snoc-other (u ∷ w) s t h = rw (has-snoc-other w s t h)
 
 pub has-keep-in : (f : ℕ → Bool) (w : List ℕ) (s : ℕ) → f s ≡ true → has (keep f w) s ≡ has w s
@@ -86,7 +69,7 @@ has-keep-in f (t ∷ w) s h = go (f t) refl (has-keep-in f w s h)
   where
     go : (b : Bool) → f t ≡ b → has (keep f w) s ≡ has w s → has (cond b (t ∷ keep f w) (keep f w)) s ≡ (eqb s t || has w s)
     go true e k = rw k
-    go false e k = rw (k, eqb-other s t (λ (q : s ≡ t). clash h (rw q e)))
+    go false e k = rw (k, ne-eqb s t (λ (q : s ≡ t). clash h (rw q e)))
 
 pub has-keep-out : (f : ℕ → Bool) (w : List ℕ) (s : ℕ) → f s ≡ false → has (keep f w) s ≡ false
 unfolding has keep
@@ -94,7 +77,7 @@ has-keep-out f [] s h = refl
 has-keep-out f (t ∷ w) s h = go (f t) refl (has-keep-out f w s h)
   where
     go : (b : Bool) → f t ≡ b → has (keep f w) s ≡ false → has (cond b (t ∷ keep f w) (keep f w)) s ≡ false
-    go true e k = rw (k, eqb-other s t (λ (q : s ≡ t). clash e (rw (← q) h)))
+    go true e k = rw (k, ne-eqb s t (λ (q : s ≡ t). clash e (rw (← q) h)))
     go false e k = k
 
 pub length-keep : (f : ℕ → Bool) (w : List ℕ) → length (keep f w) ≤ length w
@@ -113,7 +96,7 @@ length-keep-lt f (t ∷ w) s h g = go (told (eqb s t)) (told (f t)) (λ (k : has
   where
     go : Told (eqb s t) → Told (f t) → (has w s ≡ true → length (keep f w) < length w)
         → length (cond (f t) (t ∷ keep f w) (keep f w)) < suc (length w)
-    go (told-true e) (told-true d) r = clash (rw (eqb-is s t e) d) g
+    go (told-true e) (told-true d) r = clash (rw (eqb-true s t e) d) g
     go (told-false e) (told-true d) r = let k : length (keep f w) < length w = r (rw e at h) in rw d (omega arith)
     go x (told-false d) r = rw d (omega (arith, length-keep f w))
 
@@ -121,7 +104,7 @@ pub not-same : (s : ℕ) → not (eqb s s) ≡ false
 not-same s = rw eqb-same
 
 pub not-other : (s t : ℕ) → s ≢ t → not (eqb s t) ≡ true
-not-other s t h = rw eqb-other
+not-other s t h = rw ne-eqb
 
 -- a window's rule: no slot twice, each slot in range, at most 63
 unfoldable pub distinct : List ℕ → Bool
@@ -137,25 +120,6 @@ pub record Window (n : ℕ) (w : List ℕ) : Type 0 where
   pub apart : distinct w ≡ true
   pub in-slots : below n w ≡ true
 
-pub and-left : (a b : Bool) → (a && b) ≡ true → a ≡ true
-and-left true b e = refl
-and-left false b e = clash e refl
-
-pub and-right : (a b : Bool) → (a && b) ≡ true → b ≡ true
-and-right true b e = e
-and-right false b e = clash e refl
-
-pub not-true : (b : Bool) → not b ≡ true → b ≡ false
-not-true true e = sym e
-not-true false e = refl
-
-pub ltb-yes : (m n : ℕ) → m < n → ltb m n ≡ true
-ltb-yes m n h = go (ltb m n) (lt→ltb m n h)
-  where
-    go : (b : Bool) → T b → b ≡ true
-    go true t = refl
-    go false t = absurd t
-
 has-keep-no : (f : ℕ → Bool) (w : List ℕ) (s : ℕ) → has w s ≡ false → has (keep f w) s ≡ false
 has-keep-no f w s h = go (told (f s))
   where
@@ -166,19 +130,19 @@ has-keep-no f w s h = go (told (f s))
 keep-apart : (f : ℕ → Bool) (w : List ℕ) → distinct w ≡ true → distinct (keep f w) ≡ true
 unfolding distinct keep
 keep-apart f [] h = refl
-keep-apart f (s ∷ w) h = go (f s) (keep-apart f w (and-right (not (has w s)) (distinct w) h))
+keep-apart f (s ∷ w) h = go (f s) (keep-apart f w (and-parts (not (has w s)) (distinct w) h .1))
   where
     go : (b : Bool) → distinct (keep f w) ≡ true → distinct (cond b (s ∷ keep f w) (keep f w)) ≡ true
-    go true k = rw (has-keep-no f w s (not-true (has w s) (and-left (not (has w s)) (distinct w) h)), k)
+    go true k = rw (has-keep-no f w s (not-true (has w s) (and-parts (not (has w s)) (distinct w) h .0)), k)
     go false k = k
 
 keep-below : (f : ℕ → Bool) (n : ℕ) (w : List ℕ) → below n w ≡ true → below n (keep f w) ≡ true
 unfolding below keep
 keep-below f n [] h = refl
-keep-below f n (s ∷ w) h = go (f s) (keep-below f n w (and-right (ltb s n) (below n w) h))
+keep-below f n (s ∷ w) h = go (f s) (keep-below f n w (and-parts (ltb s n) (below n w) h .1))
   where
     go : (b : Bool) → below n (keep f w) ≡ true → below n (cond b (s ∷ keep f w) (keep f w)) ≡ true
-    go true k = rw (and-left (ltb s n) (below n w) h, k)
+    go true k = rw (and-parts (ltb s n) (below n w) h .0, k)
     go false k = k
 
 pub keep-window : (f : ℕ → Bool) (n : ℕ) (w : List ℕ) → Window n w → Window n (keep f w)
@@ -193,23 +157,15 @@ snoc-apart : (w : List ℕ) (s : ℕ) → has w s ≡ false → distinct w ≡ t
 unfolding distinct has
 snoc-apart [] s h d = refl
 snoc-apart (t ∷ w) s h d = rw (
-  has-snoc-other w s t (λ e. clash (rw e (eqb-same s)) (or-left (eqb s t) (has w s) h)),
-  and-left (not (has w t)) (distinct w) d,
-  snoc-apart w s (or-right (eqb s t) (has w s) h) (and-right (not (has w t)) (distinct w) d),
+  has-snoc-other w s t (λ e. clash (rw e (eqb-same s)) (or-neither (eqb s t) (has w s) h .0)),
+  and-parts (not (has w t)) (distinct w) d .0,
+  snoc-apart w s (or-neither (eqb s t) (has w s) h .1) (and-parts (not (has w t)) (distinct w) d .1),
 )
-  where
-    or-left : (a b : Bool) → (a || b) ≡ false → a ≡ false
-    or-left true b e = e
-    or-left false b e = refl
-
-    or-right : (a b : Bool) → (a || b) ≡ false → b ≡ false
-    or-right true b e = clash refl e
-    or-right false b e = e
 
 snoc-below : (n : ℕ) (w : List ℕ) (s : ℕ) → s < n → below n w ≡ true → below n (w ++ (s ∷ [])) ≡ true
 unfolding below
-snoc-below n [] s l h = rw (ltb-yes s n l)
-snoc-below n (t ∷ w) s l h = rw (and-left (ltb t n) (below n w) h, snoc-below n w s l (and-right (ltb t n) (below n w) h))
+snoc-below n [] s l h = rw (lt-ltb s n l)
+snoc-below n (t ∷ w) s l h = rw (and-parts (ltb t n) (below n w) h .0, snoc-below n w s l (and-parts (ltb t n) (below n w) h .1))
 
 pub snoc-window : (n : ℕ) (w : List ℕ) (s : ℕ) → s < n → has w s ≡ false → length w < 63 → Window n w → Window n (w ++ (s ∷ []))
 snoc-window n w s l h r W = record {

@@ -1,17 +1,13 @@
 -- A dirty slot's page is copied to its block, and the row becomes clean.
-use Prim.Native.Nat.{ℕ, zero, suc, _+_, _≤_, _<_}
-use mathlib.Core.Path.{_≡_, refl, sym, ap, subst, _∙_}
+use Prim.Native.Nat.{ℕ}
+use mathlib.Core.Path.{_≡_, sym, _∙_}
 use mathlib.Core.Logic.{_≢_}
-use mathlib.Core.Bool.{Bool, true, false, cond, not, _&&_, _||_}
-use mathlib.Core.List.{List, [], _∷_, _++_, List·Memᴰ, List·Memᴰ·head, Memᴰ·cast}
-use native.Mathlib.Omega.{arith}
+use mathlib.Core.Bool.{true, false}
+use mathlib.Core.List.{List·Memᴰ, Memᴰ·cast}
 use native.Mathlib.Decide.{ℕ-discrete}
-use lib.ListN.{length, length-append}
-use lib.Dec.{eqb}
-use Rattle.layout.proofs.Booleans.{Told, told, told-true, told-false, clash}
 use Rattle.protocol.proofs.model.Base.{upd, has, upd-same, upd-other}
 use Rattle.protocol.proofs.model.Model.{Row, valid, dty, opn, blk, cleaned, Model, Plain, copied, Ready}
-use Rattle.protocol.proofs.model.Rows.{cleaned-valid, cleaned-blk, cleaned-opn, cleaned-dty, dty-valid}
+use Rattle.protocol.proofs.model.Rows.{cleaned-valid, cleaned-blk, cleaned-opn, dty-valid}
 
 module _ (x : Model) (p : Plain) (R : Ready x p) (s : ℕ) (was-dirty : dty (x .row s) ≡ true) (was-shut : opn (x .row s) ≡ false) where
   keeps {ℓ} : {A : Type ℓ} (f : Row → A) → ((r : Row) → f (cleaned r) ≡ f r) → (t : ℕ)

@@ -1,18 +1,12 @@
 -- A mending box with nothing left is ready.
-use Prim.Native.Nat.{ℕ, zero, suc, _+_, _*_, _≤_, _<_}
-use mathlib.Core.Path.{_≡_, refl, sym, ap, subst, _∙_}
-use mathlib.Core.Logic.{_≢_}
-use mathlib.Core.Bool.{Bool, true, false, cond, not, _&&_, _||_}
-use mathlib.Core.List.{List, [], _∷_, _++_, List·Memᴰ}
-use mathlib.Core.Option.{Option, some, none}
-use native.Mathlib.Omega.{arith}
-use lib.ListN.{length}
-use lib.Dec.{eqb, ltb}
-use Rattle.layout.proofs.Booleans.{Told, told, told-true, told-false, clash}
-use Rattle.protocol.proofs.model.Base.{has, has-nil, metaNo, eqb-same}
-use Rattle.protocol.proofs.model.Model.{Row, valid, dty, opn, blk, shut, revived, Model, Plain, Ready, Stored, Mending, reopened, mended, empty}
-use Rattle.protocol.proofs.model.Rows.{opn-valid, shut-valid, shut-blk, shut-opn}
-use Rattle.protocol.proofs.model.View.{holds, holds-is, holds-of, find, Found, found, at, nowhere, view, viewAt}
+use Prim.Native.Nat.{ℕ}
+use mathlib.Core.Path.{_≡_, refl, sym, _∙_}
+use mathlib.Core.Bool.{false, not}
+use mathlib.Core.List.{List, [], _∷_, List·Memᴰ}
+use Rattle.layout.proofs.Booleans.{clash}
+use Rattle.protocol.proofs.model.Base.{has-nil}
+use Rattle.protocol.proofs.model.Model.{shut, Model, Plain, Ready, Mending, empty}
+use Rattle.protocol.proofs.model.View.{view}
 use Rattle.protocol.proofs.model.Reopened.{fixed, finished-allowed, finished-ready}
 
 nil-of : (l : List ℕ) → not (empty l) ≡ false → l ≡ []

@@ -1,16 +1,15 @@
 -- A flush: page 0 is stored where a landing is unsettled, and each block's contents become its page alone.
-use Prim.Native.Nat.{ℕ, zero, suc, _+_, _≤_, _<_}
-use mathlib.Core.Path.{_≡_, refl, sym, ap, subst, _∙_}
+use Prim.Native.Nat.{ℕ, _+_, _≤_}
+use mathlib.Core.Path.{_≡_, refl, sym, _∙_}
 use mathlib.Core.Logic.{_≢_}
-use mathlib.Core.Bool.{Bool, true, false, cond, not, _&&_, _||_}
-use mathlib.Core.List.{List, [], _∷_, _++_, List·Memᴰ, List·Memᴰ·head, Memᴰ·cast}
+use mathlib.Core.Bool.{Bool, true, false, cond}
+use mathlib.Core.List.{List·Memᴰ·head}
 use native.Mathlib.Omega.{arith}
-use native.Mathlib.Decide.{ℕ-discrete}
-use lib.ListN.{length, length-append}
+use lib.ListN.{length}
 use lib.Dec.{eqb}
 use Rattle.layout.proofs.Booleans.{Told, told, told-true, told-false, clash}
 use Rattle.protocol.proofs.model.Base.{has, metaNo}
-use Rattle.protocol.proofs.model.Model.{Row, valid, dty, opn, blk, Model, Plain, stored, flushed, Ready, count, settle}
+use Rattle.protocol.proofs.model.Model.{Row, valid, dty, opn, blk, Model, Plain, stored, flushed, Ready, settle}
 use Rattle.protocol.proofs.model.Rows.{dty-valid}
 
 module _ (x : Model) (p : Plain) (R : Ready x p) where

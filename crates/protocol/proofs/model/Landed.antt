@@ -1,17 +1,17 @@
 -- A slot's page is stored; an open slot leaves the window.
-use Prim.Native.Nat.{ℕ, zero, suc, _+_, _≤_, _<_}
-use mathlib.Core.Path.{_≡_, refl, sym, ap, subst, _∙_}
+use Prim.Native.Nat.{ℕ, _+_, _≤_}
+use mathlib.Core.Path.{_≡_, refl, sym, _∙_}
 use mathlib.Core.Logic.{_≢_}
-use mathlib.Core.Bool.{Bool, true, false, cond, not, _&&_, _||_, or-false}
-use mathlib.Core.List.{List, [], _∷_, _++_, List·Memᴰ, List·Memᴰ·head, Memᴰ·cast}
+use mathlib.Core.Bool.{true, false, not, _||_, or-false}
+use mathlib.Core.List.{List, List·Memᴰ}
 use native.Mathlib.Omega.{arith}
 use native.Mathlib.Decide.{ℕ-discrete}
-use lib.ListN.{length, length-append}
+use lib.ListN.{length}
 use lib.Dec.{eqb}
 use Rattle.layout.proofs.Booleans.{Told, told, told-true, told-false, clash}
-use Rattle.protocol.proofs.model.Base.{keep-window, upd, has, keep, metaNo, without, off, upd-same, upd-other, has-keep-in, has-keep-out, length-keep, length-keep-lt, not-same, not-other, eqb-same, eqb-is}
+use Rattle.protocol.proofs.model.Base.{keep-window, upd, has, without, upd-same, upd-other, has-keep-in, has-keep-out, length-keep, length-keep-lt, not-same, not-other}
 use Rattle.protocol.proofs.model.Model.{Row, valid, dty, opn, blk, shut, Model, Plain, landed, Ready, count, count-le}
-use Rattle.protocol.proofs.model.Rows.{shut-valid, shut-blk, shut-dty, shut-opn, dty-valid}
+use Rattle.protocol.proofs.model.Rows.{shut-valid, shut-blk, shut-dty, shut-opn}
 
 module _
     (x : Model)

@@ -1,18 +1,14 @@
 -- A mending step: the images keep what they promised, and the table stays what the reopening made.
-use Prim.Native.Nat.{ℕ, zero, suc, _+_, _≤_, _<_}
-use mathlib.Core.Path.{_≡_, refl, sym, ap, subst, _∙_}
-use mathlib.Core.Logic.{_≢_}
-use mathlib.Core.Bool.{Bool, true, false, cond, not, _&&_, _||_}
-use mathlib.Core.List.{List, [], _∷_, _++_, List·Memᴰ, List·Memᴰ·head, Memᴰ·cast}
-use mathlib.Core.Option.{Option, some, none}
+use Prim.Native.Nat.{ℕ}
+use mathlib.Core.Path.{_≡_, refl, sym, ap, _∙_}
+use mathlib.Core.Bool.{Bool, true, false, cond, not}
 use native.Mathlib.Omega.{arith}
-use native.Mathlib.Decide.{ℕ-discrete}
-use lib.ListN.{length, length-append}
+use lib.ListN.{length}
 use lib.Dec.{eqb}
 use Rattle.layout.proofs.Booleans.{Told, told, told-true, told-false, clash}
-use Rattle.protocol.proofs.model.Base.{keep-window, has, metaNo, off, keep, has-keep-in, has-keep-out, length-keep, length-keep-lt, eqb-same, eqb-is}
-use Rattle.protocol.proofs.model.Model.{Row, valid, dty, opn, blk, shut, revived, Model, Plain, Page, Ready, Stored, Mending, reopened, mended}
-use Rattle.protocol.proofs.model.Rows.{dty-valid, shut-valid, shut-blk, shut-dty, shut-opn, shut-shut}
+use Rattle.protocol.proofs.model.Base.{keep-window, has, metaNo, off, has-keep-in, has-keep-out, length-keep-lt, eqb-same}
+use Rattle.protocol.proofs.model.Model.{Row, valid, dty, opn, blk, shut, revived, Model, Plain, Stored, Mending, reopened, mended}
+use Rattle.protocol.proofs.model.Rows.{shut-valid, shut-blk, shut-dty, shut-shut}
 
 -- a reopening leaves a mending box (or, with nothing pending, what Reopened calls finished)
 pub reopened-mending : (x : Model) (p : Plain) → Stored x p → Mending (reopened x) p

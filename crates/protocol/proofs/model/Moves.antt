@@ -1,15 +1,14 @@
 -- What each move asks of a ready box, and that it leaves a ready box.
 use Prim.Native.Nat.{ℕ, _-_, _<_}
-use mathlib.Core.Path.{_≡_, refl, sym, subst, _∙_}
+use mathlib.Core.Path.{_≡_, refl, sym, _∙_}
 use mathlib.Core.Logic.{_≢_}
-use mathlib.Core.Bool.{Bool, true, false, cond, not}
+use mathlib.Core.Bool.{Bool, true, false, cond}
 use mathlib.Core.List.{_∷_, List·Memᴰ, List·Memᴰ·head, List·Memᴰ·tail}
 use native.Mathlib.Decide.{ℕ-discrete}
 use lib.ListN.{length}
-use lib.Dec.{T, ltb, ltb→lt}
 use Rattle.record.specs.Record.{largestStamp}
 use Rattle.protocol.proofs.model.Reopened.{fixed}
-use Rattle.layout.proofs.Booleans.{Told, told, told-true, told-false, clash}
+use Rattle.layout.proofs.Booleans.{clash}
 use Rattle.protocol.proofs.model.Base.{upd, upd-same, upd-other}
 use Rattle.protocol.proofs.model.Model.{Page, Row, valid, dty, opn, blk, Model, Plain, Ready, landed, copied, opened}
 use Rattle.protocol.proofs.model.Rows.{dty-valid}
@@ -29,16 +28,6 @@ reopening y p = cond (y .mending) p (fixed y)
 pub on-cond {ℓ} : {A : Type 0} (Q : A → Type ℓ) (b : Bool) {a c : A} → (b ≡ true → Q a) → (b ≡ false → Q c) → Q (cond b a c)
 on-cond Q true h k = h refl
 on-cond Q false h k = k refl
-
-pub ltb-lt : (m n : ℕ) → ltb m n ≡ true → m < n
-ltb-lt m n e = ltb→lt m n (subst T (sym e) tt)
-
-pub not-ltb-lt : (m n : ℕ) → not (ltb m n) ≡ false → m < n
-not-ltb-lt m n e = go (told (ltb m n))
-  where
-    go : Told (ltb m n) → m < n
-    go (told-true t) = ltb-lt m n t
-    go (told-false t) = clash (rw t) e
 
 -- What a plan's move asks of the box, for the call that made it.
 pub record Opens (x : Model) (s : ℕ) (r : Row) : Type 0 where

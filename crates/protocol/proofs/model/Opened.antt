@@ -8,9 +8,10 @@ use native.Mathlib.Omega.{arith}
 use native.Mathlib.Decide.{ℕ-discrete}
 use lib.ListN.{length, length-append}
 use lib.Dec.{eqb}
+use borrow.Author.Tests.{eqb-true}
 use Rattle.record.specs.Record.{largestStamp}
 use Rattle.layout.proofs.Booleans.{Told, told, told-true, told-false, clash}
-use Rattle.protocol.proofs.model.Base.{upd, has, metaNo, upd-same, upd-other, has-snoc, has-snoc-other, eqb-same, eqb-is, Window, snoc-window}
+use Rattle.protocol.proofs.model.Base.{upd, has, metaNo, upd-same, upd-other, has-snoc, has-snoc-other, eqb-same, Window, snoc-window}
 use Rattle.protocol.proofs.model.Rows.{dty-valid}
 use Rattle.protocol.proofs.model.Model.{Row, valid, dty, opn, blk, Model, Plain, stored, opened, Ready}
 
@@ -46,7 +47,7 @@ module _
     on-entry Q t h k = go (told (eqb (metaNo t) (metaNo s)))
       where
         go : Told (eqb (metaNo t) (metaNo s)) → Q ((opened s r x) .ent t)
-        go (told-true e) = rw (ent-here t (eqb-is _ _ e)) h
+        go (told-true e) = rw (ent-here t (eqb-true _ _ e)) h
         go (told-false e) = rw (ent-else t e) (k (off-page t e))
 
     opened-in-range : (t : ℕ) → valid (upd (x .row) s r t) ≡ true → t < x .slots

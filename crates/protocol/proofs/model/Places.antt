@@ -1,19 +1,14 @@
 -- Where a block is: kept through reopenings and mending steps.
-use Prim.Native.Nat.{ℕ, zero, suc, _+_, _*_, _≤_, _<_}
-use mathlib.Core.Path.{_≡_, refl, sym, ap, subst, _∙_}
+use Prim.Native.Nat.{ℕ, zero, suc}
+use mathlib.Core.Path.{_≡_, refl, sym, ap, _∙_}
 use mathlib.Core.Logic.{_≢_}
-use mathlib.Core.Bool.{Bool, true, false, cond, not, _&&_, _||_}
-use mathlib.Core.List.{List, [], _∷_, _++_, List·Memᴰ}
+use mathlib.Core.Bool.{Bool, true, false, cond}
 use mathlib.Core.Option.{Option, some, none}
-use native.Mathlib.Omega.{arith}
-use lib.ListN.{length}
-use lib.Dec.{eqb, ltb}
 use Rattle.layout.proofs.Booleans.{Told, told, told-true, told-false, clash}
-use Rattle.protocol.proofs.model.Base.{has, has-nil, metaNo, eqb-same}
-use Rattle.protocol.proofs.model.Model.{Row, valid, dty, opn, blk, shut, revived, Model, Plain, Ready, Stored, Mending, reopened, mended, empty}
+use Rattle.protocol.proofs.model.Base.{has}
+use Rattle.protocol.proofs.model.Model.{Row, valid, opn, blk, shut, revived, Model, Plain, Ready, Mending, reopened, mended}
 use Rattle.protocol.proofs.model.Rows.{opn-valid, shut-valid, shut-blk, shut-opn}
-use Rattle.protocol.proofs.model.View.{holds, holds-is, holds-of, find, Found, found, at, nowhere, view, viewAt}
-use Rattle.protocol.proofs.model.Reopened.{fixed, finished-allowed, finished-ready}
+use Rattle.protocol.proofs.model.View.{holds, holds-is, find, Found, found, at, nowhere, view, viewAt}
 
 -- the slot that a look-up names: of a block that is cached and not open
 abbrev pub shutAt : Model → Option ℕ → Option ℕ

@@ -1,19 +1,16 @@
 -- What the images alone keep, and a reopening that finds nothing pending, or has mended all of it.
-use Prim.Native.Nat.{ℕ, zero, suc, _+_, _≤_, _<_}
-use mathlib.Core.Path.{_≡_, refl, sym, ap, subst, _∙_}
+use Prim.Native.Nat.{ℕ}
+use mathlib.Core.Path.{_≡_, refl, sym, ap, _∙_}
 use mathlib.Core.Logic.{_≢_}
-use mathlib.Core.Bool.{Bool, true, false, cond, not, _&&_, _||_}
-use mathlib.Core.List.{List, [], _∷_, _++_, List·Memᴰ, List·Memᴰ·head, Memᴰ·cast}
-use mathlib.Core.Option.{Option, some, none}
+use mathlib.Core.Bool.{true, false}
+use mathlib.Core.List.{[], _∷_, List·Memᴰ, List·Memᴰ·head, Memᴰ·cast}
+use mathlib.Core.Option.{Option}
 use native.Mathlib.Omega.{arith}
-use native.Mathlib.Decide.{ℕ-discrete}
-use lib.ListN.{length, length-append}
-use lib.Dec.{eqb}
 use Rattle.layout.proofs.Booleans.{Told, told, told-true, told-false, clash}
-use Rattle.protocol.proofs.model.Base.{nil-window, has, has-nil, eqb-same, eqb-is}
-use Rattle.protocol.proofs.model.Model.{Row, valid, dty, opn, blk, shut, revived, Model, Plain, Page, Ready, Stored, Mending, reopened}
+use Rattle.protocol.proofs.model.Base.{nil-window, has, has-nil}
+use Rattle.protocol.proofs.model.Model.{valid, dty, opn, blk, shut, Model, Plain, Ready, Stored}
 use Rattle.protocol.proofs.model.Rows.{dty-valid, shut-valid, shut-blk, shut-dty, shut-opn}
-use Rattle.protocol.proofs.model.View.{find, Found, found, at, nowhere, view, viewAt}
+use Rattle.protocol.proofs.model.View.{Found, found, at, nowhere, view, viewAt}
 
 -- a ready box may be cut at any time
 pub ready-stored : (x : Model) (p : Plain) → Ready x p → Stored x p

@@ -1,7 +1,7 @@
 -- What a row keeps as it is shut or cleaned.
 use Prim.Native.Nat.{ℕ}
 use mathlib.Core.Path.{_≡_, refl}
-use mathlib.Core.Bool.{Bool, true, false}
+use mathlib.Core.Bool.{true, false}
 use Rattle.protocol.proofs.model.Model.{Row, valid, dty, opn, blk, shut, cleaned}
 
 -- a row is one of five

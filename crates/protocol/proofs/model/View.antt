@@ -1,17 +1,16 @@
 -- Where a block is found, and what it reads as.
-use Prim.Native.Nat.{ℕ, zero, suc, _+_, _≤_, _<_}
-use mathlib.Core.Path.{_≡_, refl, sym, ap, subst, _∙_}
+use Prim.Native.Nat.{ℕ, zero, suc, _<_}
+use mathlib.Core.Path.{_≡_, sym, _∙_}
 use mathlib.Core.Logic.{_≢_}
-use mathlib.Core.Bool.{Bool, true, false, cond, not, _&&_, _||_}
-use mathlib.Core.List.{List, [], _∷_, _++_, List·Memᴰ, List·Memᴰ·head, Memᴰ·cast}
+use mathlib.Core.Bool.{Bool, true, false, cond, _&&_}
 use mathlib.Core.Option.{Option, some, none}
 use native.Mathlib.Omega.{arith}
 use native.Mathlib.Decide.{ℕ-discrete}
-use lib.ListN.{length, length-append}
 use lib.Dec.{eqb}
+use borrow.Author.Tests.{eqb-true}
 use Rattle.layout.proofs.Booleans.{Told, told, told-true, told-false, clash}
-use Rattle.protocol.proofs.model.Base.{has, eqb-same, eqb-is}
-use Rattle.protocol.proofs.model.Model.{Row, valid, dty, opn, blk, Model, Plain, Page, Ready}
+use Rattle.protocol.proofs.model.Base.{eqb-same}
+use Rattle.protocol.proofs.model.Model.{Row, valid, opn, blk, Model, Plain, Page, Ready}
 use Rattle.protocol.proofs.model.Rows.{dty-valid}
 
 abbrev pub holds : Row → ℕ → Bool
@@ -31,7 +30,7 @@ pub holds-is : (r : Row) (b : ℕ) → holds r b ≡ true → (valid r ≡ true)
 holds-is r b h = go (told (valid r))
   where
     go : Told (valid r) → (valid r ≡ true) × (blk r ≡ b)
-    go (told-true v) = (v, eqb-is (blk r) b (rw v at h))
+    go (told-true v) = (v, eqb-true (blk r) b (rw v at h))
     go (told-false v) = clash h (rw v)
 
 pub holds-of : (r : Row) (b : ℕ) → valid r ≡ true → blk r ≡ b → holds r b ≡ true

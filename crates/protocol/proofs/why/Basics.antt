@@ -1,5 +1,5 @@
 -- Tests and propositions that say the same, put together.
-use mathlib.Core.Bool.{Bool, true, false, not, _&&_, _||_}
+use mathlib.Core.Bool.{Bool, true, not, _&&_, _||_}
 use mathlib.Core.Path.{_≡_, refl}
 use borrow.Author.Tests.{not-true}
 use Rattle.layout.proofs.Booleans.{Told, told, told-true, told-false, clash, and-of, and-parts, if-of, if-use, not-of}
@@ -27,7 +27,3 @@ via e f g = (λ h. f (e .0 h), λ q. e .1 (g q))
 
 pub unit-same : true ⇔ Unit {0}
 unit-same = (λ h. tt, λ h. refl)
-
-pub or-neither : (a b : Bool) → (a || b) ≡ false → (a ≡ false) × (b ≡ false)
-or-neither true b e = clash refl e
-or-neither false b e = (refl, e)

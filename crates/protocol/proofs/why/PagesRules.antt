@@ -10,19 +10,20 @@ use native.Mathlib.Decide.{decLt}
 use lib.ListN.{length, getD}
 use lib.Dec.{eqb}
 use borrow.Author.Tests.{eqb-false, not-true, eq-eqb, ne-eqb, lt-ltb, le-ltb}
+use Rattle.protocol.proofs.Tables.{at-suc}
+use Rattle.layout.proofs.JudgeLaws.{length-firsts, get-firsts}
 use Rattle.layout.specs.declared.Slot.{Slot}
 use Rattle.layout.specs.declared.Label.{Label}
 use Rattle.layout.specs.MetaPage.{stampOf, countOf, slotAt, windowOf, firsts}
 use Rattle.layout.specs.PageRule.{pageTest, PageRule}
-use Rattle.layout.proofs.Booleans.{clash, and-of, and-parts, or-use}
+use Rattle.layout.proofs.Booleans.{clash, and-of, and-parts, or-use, or-neither}
 use Rattle.layout.proofs.RuleLaws.{_⇔_, page-rule}
 use Rattle.protocol.specs.Rows.{valid, writing}
 use Rattle.protocol.specs.Recovery.{entryIn, Newest, newer, newestFrom, newestOf, eachLegal, stampIn, stampsDiffer, blockIn, noneTwice, allOpenIn, storedRows, pagesTest}
 use Rattle.record.specs.Window.{eachSlot}
 use Rattle.protocol.specs.Why.{PagesRule}
-use Rattle.protocol.proofs.Metas.{length-firsts, firsts-at, stamp-most}
+use Rattle.protocol.proofs.Metas.{stamp-most}
 use Rattle.protocol.proofs.Entries.{length-rows, rows-block, rows-flags, each-legal, stamps-differ, none-twice}
-use Rattle.protocol.proofs.why.Basics.{or-neither}
 use Rattle.record.proofs.Each.{at, place-get, place-of}
 
 -- each page
@@ -56,9 +57,6 @@ stamps-get (page ∷ pages) e (suc p) (suc q) h k n =
     (omega arith) n
 
 -- blocks
-at-suc : (s : ℕ) → (2 * suc s ≡ suc (suc (2 * s))) × (2 * suc s + 1 ≡ suc (suc (2 * s + 1)))
-at-suc s = (omega arith, omega arith)
-
 block-not : (b : ℕ) (t : List ℕ) → blockIn b t ≡ false → (s : ℕ) → 2 * s + 1 < length t → valid (getD t (2 * s + 1) 0) ≡ true
     → getD t (2 * s) 0 ≢ b
 unfolding blockIn
@@ -181,7 +179,7 @@ window-same pages p = (
 
     is-at : (k : ℕ) → k < countOf (getD pages p [])
         → at (firsts (countOf (getD pages p [])) (slotAt (getD pages p []))) k ≡ slotAt (getD pages p []) k
-    is-at k h = firsts-at _ _ k (record { 0 = 0 }) h
+    is-at k h = get-firsts _ _ k (record { 0 = 0 }) h
 
 -- the rule of the newest window, of legal pages whose stamps differ
 module _ (pages : List (List ℕ))

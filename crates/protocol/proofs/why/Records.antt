@@ -19,7 +19,7 @@ use Rattle.layout.proofs.LabelLaws.{label-back, label-only}
 use Rattle.layout.proofs.Booleans.{clash, and-of, and-parts}
 use Rattle.layout.proofs.RuleLaws.{_⇔_}
 use Rattle.protocol.specs.Box.{Images}
-use Rattle.protocol.specs.Plan.{Call, format, step, flush, reopen, offer, fetch, landFetch, lookUp, view, writeBack, land}
+use Rattle.protocol.specs.Kinds.{Purpose, toServe, toSettle, toWrite, toFetch, toLandFetch, toLand}
 use Rattle.protocol.specs.Judge.{isLabel, labelTest, pageLengthTest, lengthsTest, lengthTest}
 use Rattle.protocol.specs.Why.{HasLabel, PageLength, Lengths}
 use Rattle.protocol.proofs.why.Basics.{unit-same}
@@ -40,32 +40,27 @@ label-same ssd = (
         record { label = l; limits = within l .0 (q .1); whole = w; page = q .0 }
     to w Illegal e h = clash h refl
 
-page-same : (c : Call) → pageLengthTest c ⇔ PageLength c
-page-same (format slots blocks) = unit-same
-page-same reopen = unit-same
-page-same step = unit-same
-page-same flush = unit-same
-page-same (offer b) = unit-same
-page-same (fetch b) = unit-same
-page-same (landFetch b) = unit-same
-page-same (lookUp b) = unit-same
-page-same (view b) = unit-same
-page-same (writeBack b) = unit-same
-page-same (land b page) = (eqb-true _ _, eq-eqb _ _)
+page-same : (p : Purpose) → pageLengthTest p ⇔ PageLength p
+page-same toServe = unit-same
+page-same toSettle = unit-same
+page-same toWrite = unit-same
+page-same toFetch = unit-same
+page-same toLandFetch = unit-same
+page-same (toLand page) = (eqb-true _ _, eq-eqb _ _)
 
-pub lengths-same : (l : Label) (c : Call) (im : Images) (table : List ℕ)
-    → (lengthTest l im table && pageLengthTest c) ⇔ Lengths l c im table
+pub lengths-same : (l : Label) (u : Purpose) (im : Images) (table : List ℕ)
+    → (lengthTest l im table && pageLengthTest u) ⇔ Lengths l u im table
 unfolding lengthTest lengthsTest
-lengths-same l c im table = (
+lengths-same l u im table = (
   λ h.
-      let p = and-parts (lengthTest l im table) (pageLengthTest c) h in
-      let a = and-parts (eqb (length (im .ssd)) (ssdLength l)) _ (p .0) in
-      let b = and-parts (eqb (length (im .hdd)) (hddLength l)) _ (a .1) in
+      let p = and-parts (lengthTest l im table) (pageLengthTest u) h in
+      let q = and-parts (eqb (length (im .ssd)) (ssdLength l)) _ (p .0) in
+      let r = and-parts (eqb (length (im .hdd)) (hddLength l)) _ (q .1) in
       record {
-        ssd-length = eqb-true _ _ (a .0);
-        hdd-length = eqb-true _ _ (b .0);
-        table-length = eqb-true _ _ (b .1);
-        page-length = page-same c .0 (p .1);
+        ssd-length = eqb-true _ _ (q .0);
+        hdd-length = eqb-true _ _ (r .0);
+        table-length = eqb-true _ _ (r .1);
+        page-length = page-same u .0 (p .1);
       },
-  λ h. rw (eq-eqb _ _ (h .ssd-length), eq-eqb _ _ (h .hdd-length), eq-eqb _ _ (h .table-length), page-same c .1 (h .page-length)),
+  λ h. rw (eq-eqb _ _ (h .ssd-length), eq-eqb _ _ (h .hdd-length), eq-eqb _ _ (h .table-length), page-same u .1 (h .page-length)),
 )

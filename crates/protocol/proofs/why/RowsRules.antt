@@ -14,9 +14,9 @@ use Rattle.layout.proofs.RuleLaws.{_⇔_, pair-rule}
 use Rattle.record.specs.declared.Record.{Record}
 use Rattle.record.specs.declared.Phase.{Phase}
 use Rattle.record.specs.declared.Phase.the-variants.{Formatting, Recovering, Ready}
-use Rattle.protocol.specs.Rows.{rowBlock, rowFlags, valid, writing, used}
+use Rattle.protocol.specs.Rows.{rowBlock, rowFlags, valid, writing, used, eachRow}
 use Rattle.record.specs.Record.{labelIn, windowIn}
-use Rattle.protocol.specs.Judge.{rowTest, eachRow, isEmpty, agreeTest, rowsTest}
+use Rattle.protocol.specs.Judge.{rowTest, isEmpty, agreeTest, rowsTest}
 use Rattle.record.specs.Window.{eachSlot}
 use Rattle.protocol.specs.Why.{IsRow, RowRule, Agree, RowsRule}
 use Rattle.protocol.proofs.Tables.{each-get, each-of}
@@ -55,7 +55,7 @@ empty-same : (w : List Slot) → isEmpty w ⇔ (w ≡ [])
 empty-same [] = (λ h. refl, λ h. refl)
 empty-same (s ∷ w) = (λ h. clash h refl, λ h. ap isEmpty h)
 
-agree-same : (p : Phase) (table : List ℕ) (w : List Slot) → agreeTest p table w ⇔ Agree p table w
+pub agree-same : (p : Phase) (table : List ℕ) (w : List Slot) → agreeTest p table w ⇔ Agree p table w
 agree-same Ready table w =
     via
     (and-same

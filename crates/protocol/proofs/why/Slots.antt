@@ -15,8 +15,7 @@ use Rattle.layout.proofs.RuleLaws.{_⇔_}
 use Rattle.protocol.specs.declared.Condition.{Condition}
 use Rattle.protocol.specs.declared.Condition.the-variants.{NotCached}
 use Rattle.protocol.specs.Rows.{rowFlags, dirty, writing}
-use Rattle.protocol.specs.Condition.{openAs, closedAs, conditionAt, conditionOf}
-use Rattle.protocol.specs.Judge.{isOpen, isCached, takesWrite, takesFetch}
+use Rattle.protocol.specs.Condition.{openAs, closedAs, conditionAt, conditionOf, isOpen, isCached, takesWrite, takesFetch}
 use Rattle.protocol.specs.Why.{SlotOf}
 use Rattle.protocol.proofs.Conditions.{Located, at, nowhere, located}
 use Rattle.protocol.proofs.why.Basics.{none-same, via}

@@ -3,7 +3,7 @@ use mathlib.Core.Bool.{true}
 use Rattle.protocol.specs.declared.Condition.{Condition}
 use Rattle.protocol.specs.Box.{left, refusing}
 use Rattle.protocol.specs.Plan.{fetch}
-use Rattle.protocol.specs.Judge.{isOpen}
+use Rattle.protocol.specs.Condition.{isOpen}
 use Rattle.protocol.specs.Calls.{boxOf, fetchOf}
 use Rattle.serving.proofs.JudgingLaws.{found}
 use Rattle.serving.proofs.ServeLaws.{refused-by, fetch-judges}

@@ -5,7 +5,7 @@ use Rattle.protocol.specs.declared.Condition.{Condition}
 use Rattle.protocol.specs.Box.{left, refusing}
 use Rattle.protocol.specs.Plan.{land, landing}
 use Rattle.protocol.specs.Perform.{perform}
-use Rattle.protocol.specs.Judge.{takesWrite}
+use Rattle.protocol.specs.Condition.{takesWrite}
 use Rattle.protocol.specs.Calls.{boxOf, landOf}
 use Rattle.serving.proofs.JudgingLaws.{found}
 use Rattle.serving.proofs.ServeLaws.{refused-by, land-judges}

@@ -4,7 +4,7 @@ use Rattle.protocol.specs.declared.Condition.{Condition}
 use Rattle.protocol.specs.Box.{left, refusing}
 use Rattle.protocol.specs.Plan.{landFetch, landingFetch}
 use Rattle.protocol.specs.Perform.{perform}
-use Rattle.protocol.specs.Judge.{takesFetch}
+use Rattle.protocol.specs.Condition.{takesFetch}
 use Rattle.protocol.specs.Calls.{boxOf, landFetchOf}
 use Rattle.serving.proofs.JudgingLaws.{found}
 use Rattle.serving.proofs.ServeLaws.{refused-by, land-fetch-judges}

@@ -6,11 +6,11 @@ use lib.Dec.{leb}
 use borrow.Author.Tests.{leb-false}
 use Rattle.protocol.specs.declared.Condition.{Condition}
 use Rattle.protocol.specs.declared.Condition.the-variants.{Clean}
-use Rattle.protocol.specs.Condition.{conditionOf}
+use Rattle.protocol.specs.Condition.{conditionOf, isOpen}
 use Rattle.protocol.specs.Box.{left, refusing}
 use Rattle.protocol.specs.Plan.{offer}
 use Rattle.protocol.specs.Perform.{confirmed, perform}
-use Rattle.protocol.specs.Judge.{isOpen, openRows}
+use Rattle.protocol.specs.Rows.{openRows}
 use Rattle.protocol.specs.Calls.{boxOf, offerOf}
 use Rattle.serving.specs.Moves.{openingNumber}
 use Rattle.serving.proofs.JudgingLaws.{found}

@@ -4,7 +4,7 @@ use Rattle.protocol.specs.declared.Condition.{Condition}
 use Rattle.protocol.specs.Box.{left, refusing}
 use Rattle.protocol.specs.Plan.{writeBack, writingBack}
 use Rattle.protocol.specs.Perform.{perform}
-use Rattle.protocol.specs.Judge.{isOpen}
+use Rattle.protocol.specs.Condition.{isOpen}
 use Rattle.protocol.specs.Calls.{boxOf, writeBackOf}
 use Rattle.serving.proofs.JudgingLaws.{found}
 use Rattle.serving.proofs.ServeLaws.{refused-by, write-back-judges}

@@ -4,7 +4,7 @@ use native.Mathlib.Omega.{arith}
 use lib.Dec.{leb}
 use borrow.Author.Tests.{le-leb, lt-leb, leb-false}
 use Rattle.record.specs.Record.{labelIn}
-use Rattle.protocol.specs.Judge.{openRows}
+use Rattle.protocol.specs.Rows.{openRows}
 use Rattle.protocol.specs.Calls.{boxOf}
 use Rattle.table.specs.Sweeps.{sweptOf}
 use Rattle.serving.proofs.SweepingLaws.{swept-is, not-all, stuck-all}

@@ -2,7 +2,8 @@ use mathlib.Core.Path.{sym, _∙_}
 use native.Mathlib.Omega.{arith}
 use borrow.Author.Tests.{eq-eqb, ne-eqb}
 use borrow.Author.Needs.{needs}
-use Rattle.stored.proofs.TwiceLaws.{and-false, out-of-span, in-span}
+use mathlib.Core.Bool.{and-false}
+use Rattle.stored.proofs.TwiceLaws.{out-of-span, in-span}
 use Rattle.stored.proofs.twice.visit.Statement.{statement}
 use Rattle.stored.proofs.twice.visit.Tie as tie
 

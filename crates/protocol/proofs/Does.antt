@@ -1,0 +1,297 @@
+-- What a service that no reason refuses does, and what is known of the box as it does it: all that is shown of services rests on this.
+use Prim.Native.Nat.{ℕ, _+_, _-_, _*_, _%_, _<_}
+use mathlib.Core.Path.{_≡_, refl, sym, ap, subst, _∙_}
+use mathlib.Core.Logic.{_≢_, _⊎_, inl, inr}
+use mathlib.Core.Bool.{Bool, true, false, not, _&&_}
+use mathlib.Core.List.{List, [], _∷_, _++_}
+use mathlib.Core.Option.{Option, none}
+use lib.ListN.{length, getD}
+use lib.Dec.{leb}
+use borrow.Author.Tests.{leb-false, eqb-true, not-false}
+use Rattle.pages.specs.Pages.{pageAt}
+use Rattle.layout.specs.declared.Slot.{Slot}
+use Rattle.layout.specs.declared.Block.{Block}
+use Rattle.layout.specs.declared.Label.{Label}
+use Rattle.layout.specs.Places.{blockPlace}
+use Rattle.protocol.specs.declared.Condition.{Condition}
+use Rattle.protocol.specs.Paper.{Paper, refused}
+use Rattle.protocol.specs.Rows.{rowFlags, setRow, valid, dirty, writing, withWriting, openRows}
+use Rattle.record.specs.Record.{labelIn, windowIn, largestStamp}
+use Rattle.protocol.specs.Box.{Box}
+use Rattle.protocol.specs.Condition.{conditionOf, isOpen, takesWrite, takesFetch}
+use Rattle.protocol.specs.Sweep.{Victim, sweep}
+use Rattle.protocol.specs.Plan.{flush, offer, fetch, landFetch, lookUp, view, writeBack, land, Move, stay, uses, opens, lands, copies, confirms, takesAs, takes, offering, fetching, landing, landingFetch, lookingUp, writingBack, flushing, plan, storesMeta}
+use Rattle.protocol.specs.Perform.{confirmed, landedAs, perform}
+use Rattle.protocol.specs.Kinds.{toServe, toSettle, toWrite, toFetch, toLandFetch, toLand, Aim, aims, noBlock}
+use Rattle.protocol.specs.Judge.{wrongLength, blockTooHigh, slotOpen, wrongState, windowFull, stampsSpent, lengthTest, test, judged}
+use Rattle.protocol.specs.ReferenceDisk.{Disk, fedCall}
+use Rattle.layout.proofs.Booleans.{clash, and-parts}
+use Rattle.protocol.proofs.model.Model.{dty, opn, blk}
+use Rattle.protocol.proofs.Flags.{rowOf, Flags, f5, f7, LegalRow, changed-open, changed-row}
+use Rattle.protocol.proofs.Tables.{rowAt, at-open, at-dirty}
+use Rattle.protocol.proofs.Conditions.{Held, Stands, absent, is-clean, is-dirty, is-writing, is-fetching, stands}
+use Rattle.protocol.proofs.Sweeps.{Alike, alike-same, next-low, Swept, took, stuck, swept}
+use Rattle.record.proofs.WindowLaws.{take-array}
+use Rattle.protocol.proofs.Sound.{Sound, room, sound-alike, sound-uses, sound-copies, sound-opens, sound-closes}
+use Rattle.protocol.proofs.Judged.{passed}
+use Rattle.protocol.proofs.Accepted.{Legal, service-legal}
+
+-- no row holds a block
+abbrev pub Absent : Label → List ℕ → ℕ → Type 0
+Absent l t b = (s : ℕ) → s < l .slots → valid (getD t (2 * s + 1) 0) ≡ true → getD t (2 * s) 0 ≢ b
+
+-- a slot is opened for a block with these flags, in the table v that a sweep left: it is closed and clean, and holds the block if any
+-- slot does
+pub record Opening (x : Box) (s : Slot) (b : Block) (f : ℕ) (v : List ℕ) (hand : Slot) : Type 0 where
+  pub low : s .0 < x .state .label .slots
+  pub alike : Alike (labelIn (x .state)) (x .table) v
+  pub hand-low : hand .0 < x .state .label .slots
+  pub row : LegalRow (labelIn (x .state)) (b .0) f
+  pub is-open : opn (rowOf (b .0) (f % 8)) ≡ true
+  pub block-is : blk (rowOf (b .0) (f % 8)) ≡ b .0
+  pub block-low : b .0 < x .state .label .blocks
+  pub was-shut : opn (rowAt (x .table) (s .0)) ≡ false
+  pub was-clean : dty (rowAt (x .table) (s .0)) ≡ false
+  pub fresh : Absent (labelIn (x .state)) (x .table) (b .0) ⊎ Held (labelIn (x .state)) (x .table) (b .0) (s .0)
+  pub few : openRows (x .table) < 63
+  pub stamps : x .state .newest < largestStamp - 63
+
+-- a closed, dirty slot is copied out, in such a table
+pub record Copying (x : Box) (s : Slot) (v : List ℕ) (hand : Slot) : Type 0 where
+  pub low : s .0 < x .state .label .slots
+  pub alike : Alike (labelIn (x .state)) (x .table) v
+  pub hand-low : hand .0 < x .state .label .slots
+  pub is-shut : writing (rowFlags v s) ≡ false
+  pub is-dirty : dirty (rowFlags v s) ≡ true
+
+-- what a call asks for feeds the reference disk nothing
+abbrev pub Quiet : Aim → Type 0
+Quiet a = (d : Disk) → fedCall (a .purpose) (a .block) d ≡ d
+
+pub data Does (x : Box) : Aim → Move → Type 0 where
+  does-nothing : {a : Aim} {said : Paper} → Quiet a → refused said ≡ false → Does x a (stay said)
+  does-use : {a : Aim} {b : ℕ} {s : Slot} → Quiet a → Held (labelIn (x .state)) (x .table) b (s .0) → Does x a (uses s)
+  does-open : {a : Aim} {s : Slot} {b : Block} {f : ℕ} {v : List ℕ} {hand : Slot} → Quiet a → Opening x s b f v hand
+      → Does x a (opens s b f v hand)
+  does-copy : {a : Aim} {s : Slot} {said : Paper} {v : List ℕ} {hand : Slot} → Quiet a → refused said ≡ false → Copying x s v hand
+      → Does x a (copies s said v hand)
+  -- a write lands in its block's slot, open or dirty; a fetch in one that is open
+  does-land : {b : Block} {s : Slot} {page : List ℕ} → Held (labelIn (x .state)) (x .table) (b .0) (s .0) → b .0 < x .state .label .blocks
+      → dirty (rowFlags (x .table) s) ≡ true → length page ≡ 4096 → Does x (aims b (toLand page)) (lands s page)
+  does-fetch : {a : Aim} {b : Block} {s : Slot} → Quiet a → Held (labelIn (x .state)) (x .table) (b .0) (s .0) → b .0 < x .state .label .blocks
+      → writing (rowFlags (x .table) s) ≡ true → Does x a (lands s (pageAt (x .images .hdd) (blockPlace (labelIn (x .state)) b)))
+  -- a flush with nothing to confirm, and with something
+  does-rest : {b : Block} {said : Paper} → refused said ≡ false → x .state .unconfirmed ≡ false → Does x (aims b toSettle) (stay said)
+  does-confirm : {b : Block} → x .state .unconfirmed ≡ true → x .state .newest < largestStamp → Does x (aims b toSettle) confirms
+
+-- it is no refusal
+pub lands-said : (x : Box) (s : Slot) (page : List ℕ) → refused (perform (lands s page) x .said) ≡ false
+unfolding perform
+lands-said x s page = go (writing (rowFlags (x .table) s))
+  where
+    go : (w : Bool) → refused (landedAs w s page x .said) ≡ false
+    go true = refl
+    go false = refl
+
+pub does-said : {x : Box} {a : Aim} {m : Move} → Does x a m → refused (perform m x .said) ≡ false
+unfolding perform confirmed
+does-said (does-nothing z n) = n
+does-said (does-use z H) = refl
+does-said (does-open z O) = refl
+does-said (does-copy z n C) = n
+does-said {x} (does-land {s = s} {page = page} H bl y size) = lands-said x s page
+does-said {x} (does-fetch {s = s} z H bl w) = lands-said x s _
+does-said (does-rest n u) = n
+does-said (does-confirm u n) = refl
+
+-- and table and window stay sound, of any box
+pub opening-sound : {x : Box} {s : Slot} {b : Block} {f : ℕ} {v : List ℕ} {hand : Slot} → Opening x s b f v hand
+    → {w : List Slot} → Sound (labelIn (x .state)) (x .table) w → Sound (labelIn (x .state)) (setRow v s b f) (w ++ (s ∷ []))
+opening-sound {s = s} {b = b} {f = f} O S =
+    sound-opens (sound-alike S (O .alike)) (s .0) (b .0) f (O .low) (O .row) (O .is-open) (ap opn (O .alike .row (s .0)) ∙ O .was-shut)
+    (room S (O .few))
+
+abbrev Kept : Box → Move → Type 0
+Kept x m = Sound (labelIn (x .state)) (perform m x .table) (windowIn (perform m x .state))
+
+module _ (x : Box) (S : Sound (labelIn (x .state)) (x .table) (windowIn (x .state))) where
+  lands-sound : {b : ℕ} {s : Slot} → Held (labelIn (x .state)) (x .table) b (s .0) → (page : List ℕ) → Kept x (lands s page)
+  unfolding perform windowIn
+  lands-sound {b} {s} H page = go (writing (rowFlags (x .table) s))
+    where
+      go : (w : Bool) → Sound (labelIn (x .state)) (landedAs w s page x .table) (windowIn (landedAs w s page x .state))
+      go true = rw take-array (sound-closes S (s .0) (H .low))
+      go false = S
+
+  pub does-sound : {a : Aim} {m : Move} → Does x a m → Kept x m
+  unfolding perform confirmed windowIn
+  does-sound (does-nothing z n) = S
+  does-sound (does-use {s = s} z H) = sound-uses S (s .0) (H .low) (H .held)
+  does-sound (does-open z O) = rw take-array (opening-sound O S)
+  does-sound (does-copy {s = s} z n C) = sound-copies (sound-alike S (C .alike)) (s .0) (C .low) (C .is-shut)
+  does-sound (does-land {page = page} H bl y size) = lands-sound H page
+  does-sound (does-fetch z H bl w) = lands-sound H _
+  does-sound (does-rest n u) = S
+  does-sound (does-confirm u n) = S
+
+module _ (x : Box) (L : Legal x) where
+  abbrev lab : Label
+  lab = labelIn (x .state)
+
+  same : Alike lab (x .table) (x .table)
+  same = alike-same lab (x .table) (L .table-size) (L .rows)
+
+  here : (b : Block) → Stands lab (x .table) (b .0) (conditionOf (x .table) b)
+  here b = stands lab (x .table) (L .table-size) b
+
+  row-of : (b : ℕ) {f : ℕ} → Flags f → valid f ≡ true → b < x .state .label .blocks → LegalRow lab b f
+  row-of b k v h = record { flags = k; low = λ _. h; free = λ e. clash v e }
+
+  -- a slot is swept for
+  sweeping : {a : Aim} → Quiet a → (b : Block) (f : ℕ) → b .0 < x .state .label .blocks → Flags f → valid f ≡ true
+      → opn (rowOf (b .0) (f % 8)) ≡ true → blk (rowOf (b .0) (f % 8)) ≡ b .0 → Absent lab (x .table) (b .0) → openRows (x .table) < 63
+      → {o : Option Victim} → Swept lab (x .table) o
+      → (storesMeta (takes lab b f o) && leb (largestStamp - 63) (x .state .newest)) ≡ false → Does x a (takes lab b f o)
+  sweeping z b f bl k v o-row b-row none-holds few stuck = λ spent. does-nothing z refl
+  sweeping {a} z b f bl k v o-row b-row none-holds few (took u low shut unused A) = by (dirty (rowFlags (u .table) (u .slot))) refl
+    where
+      by : (d : Bool) → dirty (rowFlags (u .table) (u .slot)) ≡ d
+          → (storesMeta (takesAs d lab b f u) && leb (largestStamp - 63) (x .state .newest)) ≡ false → Does x a (takesAs d lab b f u)
+      by true e spent = does-copy z refl (record { low = low; alike = A; hand-low = low; is-shut = shut; is-dirty = e })
+      by false e spent = does-open z (record {
+        low = low;
+        alike = A;
+        hand-low = next-low lab (u .slot) low;
+        row = row-of (b .0) k v bl;
+        is-open = o-row;
+        block-is = b-row;
+        block-low = bl;
+        was-shut = ap opn (sym (A .row (u .slot .0))) ∙ at-open lab (u .table) (A .legal) (u .slot .0) low ∙ shut;
+        was-clean = ap dty (sym (A .row (u .slot .0))) ∙ at-dirty lab (u .table) (A .legal) (u .slot .0) low ∙ e;
+        fresh = inl none-holds;
+        few = few;
+        stamps = leb-false _ _ spent;
+      })
+
+  sweep-here : Swept lab (x .table) (sweep lab (x .table) (x .state .hand))
+  sweep-here = swept (2 * x .state .label .slots) lab (x .table) (x .table) same (x .state .hand) (L .hand-low)
+
+  offers : (b : Block) → b .0 < x .state .label .blocks → {z : Condition} → Stands lab (x .table) (b .0) z → isOpen z ≡ false
+      → (not (takesWrite z) && leb 63 (openRows (x .table))) ≡ false
+      → (storesMeta (offering x b z) && leb (largestStamp - 63) (x .state .newest)) ≡ false → Does x (aims b toWrite) (offering x b z)
+  unfolding rowOf
+  offers b bl (absent h) o full spent = sweeping (λ d. refl) b 7 bl f7 refl refl refl h (leb-false _ _ full) sweep-here spent
+  offers b bl (is-clean s H w d) o full spent =
+      let C = changed-open (L .rows s (H .low) .flags) (getD (x .table) (2 * s) 0) (H .held) w d in
+      let flags : ℕ = withWriting (getD (x .table) (2 * s + 1) 0) in
+      does-open (λ d. refl) (record {
+        low = H .low;
+        alike = same;
+        hand-low = L .hand-low;
+        row = subst (λ (n : ℕ). LegalRow lab n flags) (H .block) (changed-row (L .rows s (H .low)) C);
+        is-open = subst (λ (n : ℕ). opn (rowOf n (flags % 8)) ≡ true) (H .block) (ap opn (C .row));
+        block-is = subst (λ (n : ℕ). blk (rowOf n (flags % 8)) ≡ n) (H .block) (ap blk (C .row));
+        block-low = bl;
+        was-shut = at-open lab (x .table) (L .rows) s (H .low) ∙ w;
+        was-clean = at-dirty lab (x .table) (L .rows) s (H .low) ∙ d;
+        fresh = inr H;
+        few = leb-false _ _ full;
+        stamps = leb-false _ _ spent;
+      })
+  offers b bl (is-dirty s H w d) o full spent = does-nothing (λ d. refl) refl
+  offers b bl (is-writing s H w d) o full spent = clash {b = true} refl o
+  offers b bl (is-fetching s H w d) o full spent = clash {b = true} refl o
+
+  fetches : (b : Block) → b .0 < x .state .label .blocks → {z : Condition} → Stands lab (x .table) (b .0) z
+      → leb 63 (openRows (x .table)) ≡ false
+      → (storesMeta (fetching x b z) && leb (largestStamp - 63) (x .state .newest)) ≡ false → Does x (aims b toFetch) (fetching x b z)
+  unfolding rowOf
+  fetches b bl (absent h) full spent = sweeping (λ d. refl) b 5 bl f5 refl refl refl h (leb-false _ _ full) sweep-here spent
+  fetches b bl (is-clean s H w d) full spent = does-nothing (λ d. refl) refl
+  fetches b bl (is-dirty s H w d) full spent = does-nothing (λ d. refl) refl
+  fetches b bl (is-writing s H w d) full spent = does-nothing (λ d. refl) refl
+  fetches b bl (is-fetching s H w d) full spent = does-nothing (λ d. refl) refl
+
+  landings : (b : Block) (page : List ℕ) → b .0 < x .state .label .blocks → length page ≡ 4096 → {z : Condition}
+      → Stands lab (x .table) (b .0) z → takesWrite z ≡ true → Does x (aims b (toLand page)) (landing page z)
+  landings b page bl size (absent h) t = clash {b = false} t refl
+  landings b page bl size (is-clean s H w d) t = clash {b = false} t refl
+  landings b page bl size (is-dirty s H w d) t = does-land H bl d size
+  landings b page bl size (is-writing s H w d) t = does-land H bl d size
+  landings b page bl size (is-fetching s H w d) t = clash {b = false} t refl
+
+  landFetches : (b : Block) → b .0 < x .state .label .blocks → {z : Condition} → Stands lab (x .table) (b .0) z → takesFetch z ≡ true
+      → Does x (aims b toLandFetch) (landingFetch x b z)
+  landFetches b bl (absent h) t = clash {b = false} t refl
+  landFetches b bl (is-clean s H w d) t = clash {b = false} t refl
+  landFetches b bl (is-dirty s H w d) t = clash {b = false} t refl
+  landFetches b bl (is-writing s H w d) t = clash {b = false} t refl
+  landFetches b bl (is-fetching s H w d) t = does-fetch (λ d. refl) H bl w
+
+  looksUp : (b : Block) → {z : Condition} → Stands lab (x .table) (b .0) z → Does x (aims b toServe) (lookingUp z)
+  looksUp b (absent h) = does-nothing (λ d. refl) refl
+  looksUp b (is-clean s H w d) = does-use (λ d. refl) H
+  looksUp b (is-dirty s H w d) = does-use (λ d. refl) H
+  looksUp b (is-writing s H w d) = does-nothing (λ d. refl) refl
+  looksUp b (is-fetching s H w d) = does-nothing (λ d. refl) refl
+
+  writesBack : (b : Block) → {z : Condition} → Stands lab (x .table) (b .0) z → Does x (aims b toServe) (writingBack x z)
+  writesBack b (absent h) = does-nothing (λ d. refl) refl
+  writesBack b (is-clean s H w d) = does-nothing (λ d. refl) refl
+  writesBack b (is-dirty s H w d) = does-copy (λ d. refl) refl
+      (record { low = H .low; alike = same; hand-low = L .hand-low; is-shut = w; is-dirty = d })
+  writesBack b (is-writing s H w d) = does-nothing (λ d. refl) refl
+  writesBack b (is-fetching s H w d) = does-nothing (λ d. refl) refl
+
+  flushes : (u : Bool) → x .state .unconfirmed ≡ u → (storesMeta (flushing u) && leb largestStamp (x .state .newest)) ≡ false
+      → Does x (aims noBlock toSettle) (flushing u)
+  flushes true e spent = does-confirm e (leb-false _ _ spent)
+  flushes false e spent = does-rest refl e
+
+-- each service, not refused
+module _ (x : Box) where
+  pub flush-does : judged flush x ≡ none → Does x (aims noBlock toSettle) (plan flush x)
+  unfolding test plan
+  flush-does e = flushes x (service-legal flush x refl e) (x .state .unconfirmed) refl (passed flush x e stampsSpent refl)
+
+  module _ (b : Block) where
+    pub offer-does : judged (offer b) x ≡ none → Does x (aims b toWrite) (plan (offer b) x)
+    unfolding test plan
+    offer-does e =
+        let L = service-legal (offer b) x refl e in
+        let q = passed (offer b) x e in
+        offers x L b (leb-false _ _ (q blockTooHigh refl)) (here x L b) (q slotOpen refl) (q windowFull refl) (q stampsSpent refl)
+
+    pub fetch-does : judged (fetch b) x ≡ none → Does x (aims b toFetch) (plan (fetch b) x)
+    unfolding test plan
+    fetch-does e =
+        let L = service-legal (fetch b) x refl e in
+        let q = passed (fetch b) x e in
+        fetches x L b (leb-false _ _ (q blockTooHigh refl)) (here x L b) (q windowFull refl) (q stampsSpent refl)
+
+    pub landFetch-does : judged (landFetch b) x ≡ none → Does x (aims b toLandFetch) (plan (landFetch b) x)
+    unfolding test plan
+    landFetch-does e =
+        let L = service-legal (landFetch b) x refl e in
+        let q = passed (landFetch b) x e in
+        landFetches x L b (leb-false _ _ (q blockTooHigh refl)) (here x L b) (not-false _ (q wrongState refl))
+
+    pub lookUp-does : judged (lookUp b) x ≡ none → Does x (aims b toServe) (plan (lookUp b) x)
+    unfolding plan
+    lookUp-does e = let L = service-legal (lookUp b) x refl e in looksUp x L b (here x L b)
+
+    pub view-does : judged (view b) x ≡ none → Does x (aims b toServe) (plan (view b) x)
+    unfolding plan
+    view-does e = does-nothing (λ d. refl) refl
+
+    pub writeBack-does : judged (writeBack b) x ≡ none → Does x (aims b toServe) (plan (writeBack b) x)
+    unfolding plan
+    writeBack-does e = let L = service-legal (writeBack b) x refl e in writesBack x L b (here x L b)
+
+    pub land-does : (page : List ℕ) → judged (land b page) x ≡ none → Does x (aims b (toLand page)) (plan (land b page) x)
+    unfolding test plan
+    land-does page e =
+        let L = service-legal (land b page) x refl e in
+        let q = passed (land b page) x e in
+        let sizes = and-parts (lengthTest (labelIn (x .state)) (x .images) (x .table)) _ (not-false _ (q wrongLength refl)) in
+        landings x L b page (leb-false _ _ (q blockTooHigh refl)) (eqb-true _ _ (sizes .1)) (here x L b) (not-false _ (q wrongState refl))
