@@ -10,7 +10,7 @@ use Rattle.protocol.specs.declared.Outcome.{Outcome}
 use Rattle.protocol.specs.Paper.{Paper, paperOf}
 use Rattle.protocol.specs.Box.{Result}
 use Rattle.protocol.specs.Plan.{Call}
-use Rattle.protocol.specs.Calls.{resultOf, boxOf}
+use Rattle.protocol.specs.Calls.{leaves, resultOf, boxOf}
 use Rattle.c_record.specs.Words.{unpacked, isRecord}
 use Rattle.c_record.specs.Codes.{closedBy}
 use Rattle.ferjulm.specs.Calls.{kept, leftBy, cCall, cFresh}
@@ -32,7 +32,7 @@ module _ (c : Call) (ssd hdd table words : List ℕ) (slot : ℕ) where
 
   -- a call on what the words unpack to, and the closing
   module _ (r : Record) (o : Outcome) {table′ ssd′ hdd′ after : List ℕ} {next code : ℕ} (unpack : r ≡ unpacked words)
-      (call : record { said = paperOf (o .answer); state = o .state; table = table′; ssd = ssd′; hdd = hdd′ }
+      (call : leaves o ssd′ hdd′ table′
       ≡ resultOf c (boxOf ssd hdd table r))
       (close : record { code = code; words = after; slot = next } ≡ closedBy (paperOf (o .answer)) (o .state) words slot) where
     called : record { code = code; words = after; table = table′; ssd = ssd′; hdd = hdd′; slot = next }

@@ -2,10 +2,10 @@
 use c_record::RECORD_WORDS;
 use c_record::closing;
 use c_record::words;
-use cache::format;
 use layout::Block;
 use layout::LabelRead;
 use layout::places;
+use maintenance::format;
 use recovery::reopen;
 ghost use mathlib.Core.Path.{_≡_};
 ghost use mathlib.Core.Bool.{cond};
@@ -58,7 +58,7 @@ pub extern "C" fn ferjulm_offer(
         return 3;
     }
     let state = words::unpack(words);
-    let outcome = cache::offer::offer(ssd, hdd, table, state, Block(block));
+    let outcome = write_path::offer::offer(ssd, hdd, table, state, Block(block));
     closing::closed(words, slot, outcome)
 }
 
@@ -79,7 +79,7 @@ pub extern "C" fn ferjulm_land(
         return 3;
     }
     let state = words::unpack(words);
-    let outcome = cache::land::land(ssd, hdd, table, state, Block(block), page);
+    let outcome = write_path::land::land(ssd, hdd, table, state, Block(block), page);
     closing::closed(words, slot, outcome)
 }
 
@@ -99,7 +99,7 @@ pub extern "C" fn ferjulm_fetch(
         return 3;
     }
     let state = words::unpack(words);
-    let outcome = cache::fetch::fetch(ssd, hdd, table, state, Block(block));
+    let outcome = read_path::fetch::fetch(ssd, hdd, table, state, Block(block));
     closing::closed(words, slot, outcome)
 }
 
@@ -119,7 +119,7 @@ pub extern "C" fn ferjulm_land_fetch(
         return 3;
     }
     let state = words::unpack(words);
-    let outcome = cache::land_fetch::land_fetch(ssd, hdd, table, state, Block(block));
+    let outcome = read_path::land_fetch::land_fetch(ssd, hdd, table, state, Block(block));
     closing::closed(words, slot, outcome)
 }
 
@@ -139,7 +139,7 @@ pub extern "C" fn ferjulm_look_up(
         return 3;
     }
     let state = words::unpack(words);
-    let outcome = cache::look_up::look_up(ssd, hdd, table, state, Block(block));
+    let outcome = read_path::look_up::look_up(ssd, hdd, table, state, Block(block));
     closing::closed(words, slot, outcome)
 }
 
@@ -159,7 +159,7 @@ pub extern "C" fn ferjulm_write_back(
         return 3;
     }
     let state = words::unpack(words);
-    let outcome = cache::write_back::write_back(ssd, hdd, table, state, Block(block));
+    let outcome = maintenance::write_back::write_back(ssd, hdd, table, state, Block(block));
     closing::closed(words, slot, outcome)
 }
 
@@ -178,7 +178,7 @@ pub extern "C" fn ferjulm_flush(
         return 3;
     }
     let state = words::unpack(words);
-    let outcome = cache::flush::flush(ssd, hdd, table, state);
+    let outcome = maintenance::flush::flush(ssd, hdd, table, state);
     closing::closed(words, slot, outcome)
 }
 

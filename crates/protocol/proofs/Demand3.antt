@@ -9,6 +9,7 @@ use lib.ListN.{length, getD, replicate, length-replicate, List·getD-eq-default,
 use lib.Dec.{ltb}
 use native.Mathlib.Decide.{decLt}
 use Rattle.pages.specs.Pages.{pageAt}
+use Rattle.layout.proofs.PlaceLaws.{meta-of-low}
 use Rattle.layout.specs.declared.Label.{Label}
 use Rattle.layout.specs.Places.{labelOf, metaPages, tableLength}
 use Rattle.layout.specs.MetaPage.{encodeMeta, rowsOn, stampOf}
@@ -32,7 +33,6 @@ use Rattle.protocol.proofs.Flags.{rowOf, f0}
 use Rattle.protocol.proofs.Tables.{rowAt, Rows}
 use Rattle.protocol.proofs.Metas.{metas-at, length-metas, newest-none}
 use Rattle.protocol.proofs.Stores.{page-stamp, page-entry, page-legal}
-use Rattle.protocol.proofs.ReadyCalls.{slot-page}
 use Rattle.protocol.proofs.Formatting.{freeTable, Formatted, whole-format}
 use Rattle.protocol.proofs.Reachable.{run-inv}
 use Rattle.protocol.proofs.Claims.{views-of, reads-of, looks-of, allowed-of, taken-of, mends-of, flushes-of}
@@ -112,7 +112,7 @@ module _ (l : Label) (x y : Box) (F : Formatted l x y) where
   entry-is s h =
       let e = page-entry l (F .limits) (freeTable l) (free-size l) (free-rows l) 0 (omega arith) [] none-open (s / 240) (s % 240)
       (omega arith) in
-      rw (page-is (s / 240) (slot-page l s h))
+      rw (page-is (s / 240) (meta-of-low l (record { 0 = s }) h))
       (e ∙ rw (
         free-word (tableLength l) (2 * (240 * (s / 240) + s % 240)),
         free-word (tableLength l) (2 * (240 * (s / 240) + s % 240) + 1),

@@ -10,6 +10,7 @@ use lib.Dec.{eqb}
 use borrow.Author.Tests.{lt-ltb, ne-eqb}
 use Rattle.protocol.proofs.Tables.{at-suc}
 use Rattle.layout.specs.declared.Slot.{Slot}
+use Rattle.layout.proofs.PlaceLaws.{meta-of-low}
 use Rattle.layout.specs.declared.Label.{Label}
 use Rattle.layout.specs.declared.Entry.{Entry}
 use Rattle.layout.specs.MetaPage.{stampOf, rowsFrom}
@@ -23,7 +24,6 @@ use Rattle.protocol.proofs.model.Model as model
 use Rattle.protocol.proofs.model.Model.{dty, opn, blk, revived}
 use Rattle.protocol.proofs.Windows.{nums, has-nums}
 use Rattle.protocol.proofs.Flags.{rowOf, f0, f1, f3, LegalRow}
-use Rattle.protocol.proofs.ReadyCalls.{slot-page}
 use Rattle.protocol.proofs.Abstract.{entAt, Pages}
 
 -- rows made of entries
@@ -75,7 +75,7 @@ pub legal-entry : (l : Label) (pages : List (List ℕ)) → Pages l pages → (s
     → LegalEntry l (entryIn pages (record { 0 = s }))
 unfolding entryIn
 legal-entry l pages P s h =
-    let r = page-rule l (s / 240) (getD pages (s / 240) []) .0 (P .each (s / 240) (slot-page l s h)) in
+    let r = page-rule l (s / 240) (getD pages (s / 240) []) .0 (P .each (s / 240) (meta-of-low l (record { 0 = s }) h)) in
     let q = r .entries (s % 240) (omega arith) .pair in
     let k = sums-of _ (q .legal) in
     record { sums = k; low = λ v. q .below (low-of k v) }

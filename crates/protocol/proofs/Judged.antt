@@ -3,14 +3,16 @@ use mathlib.Core.Path.{_≡_, refl, sym, ap, _∙_}
 use mathlib.Core.Logic.{_⊎_, inl, inr}
 use mathlib.Core.Bool.{Bool, true, false, _||_, or-true}
 use mathlib.Core.List.{List, [], _∷_, _++_}
-use mathlib.Core.Option.{some, none, Option·some-ne-none}
+use mathlib.Core.Option.{Option, some, none, Option·some-ne-none}
 use lib.Dec.{eqb}
 use borrow.Author.Tests.{eqb-true}
 use Rattle.layout.proofs.Booleans.{clash, or-cases}
-use Rattle.protocol.specs.Box.{Box}
-use Rattle.protocol.specs.Plan.{Call}
+use Rattle.protocol.specs.Box.{Box, refusing, left}
+use Rattle.protocol.specs.Plan.{Call, Move, plan}
+use Rattle.protocol.specs.Perform.{perform}
 use Rattle.protocol.specs.Kinds.{Kind, kind}
 use Rattle.protocol.specs.Judge.{Reason, numberOf, test, askedFirst, askedThen, chain, firstOf, judged}
+use Rattle.protocol.specs.Calls.{decided, effectOf, resultOf}
 use Rattle.protocol.proofs.Reasons.{number-is, belongs}
 use Rattle.protocol.proofs.Shown as computed-first
 
@@ -79,3 +81,14 @@ pub accepted : (c : Call) (x : Box) → NoneHold (askedFirst (kind c)) (λ r. te
     → judged c x ≡ none
 unfolding judged
 accepted c x m n = first-none (chain c) (λ r. test r c x) (none-both (askedFirst (kind c)) (askedThen c) (λ r. test r c x) m n)
+
+-- a call's result, by the reason that refuses it or by the move that it makes
+module _ (c : Call) (x : Box) where
+  pub refused-as : (q : Reason) → judged c x ≡ some q → left (refusing (numberOf q) x) (x .images) ≡ resultOf c x
+  unfolding effectOf
+  refused-as q e = ap (λ (o : Option Reason). left (decided o c x) (x .images)) (sym e)
+
+  pub performs : (m : Move) → judged c x ≡ none → plan c x ≡ m → left (perform m x) (x .images) ≡ resultOf c x
+  unfolding effectOf
+  performs m e p = ap (λ (v : Move). left (perform v x) (x .images)) (sym p)
+      ∙ ap (λ (o : Option Reason). left (decided o c x) (x .images)) (sym e)

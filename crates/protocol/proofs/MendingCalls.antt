@@ -8,6 +8,7 @@ use native.Mathlib.Omega.{arith}
 use lib.ListN.{length}
 use lib.Dec.{eqb, ltb}
 use Rattle.layout.specs.declared.Slot.{Slot}
+use Rattle.layout.proofs.PlaceLaws.{meta-of-low}
 use Rattle.layout.specs.declared.Label.{Label}
 use Rattle.layout.specs.Places.{metaPages, tableLength, metaOf}
 use Rattle.layout.specs.PageRule.{listed}
@@ -31,7 +32,7 @@ use Rattle.protocol.proofs.model.Finished.{over-ready, over-allowed}
 use Rattle.protocol.proofs.Windows.{nums, length-nums, has-nums, nums-off}
 use Rattle.protocol.proofs.Performed.{after, storedCore, stored-shape, mended-abs, mends-box}
 use Rattle.record.proofs.RecordLaws.{window-in}
-use Rattle.protocol.proofs.ReadyCalls.{calledAs, called-as, worldOf, slot-page}
+use Rattle.protocol.proofs.ReadyCalls.{calledAs, called-as, worldOf}
 use Rattle.protocol.proofs.Reopens.{reopenedCore, reopen-judged, reopen-box, reopen-shape, reopen-abs}
 use Rattle.protocol.proofs.Passes.{mending-left, step-judged, pending-rule, some-pending}
 use Rattle.protocol.proofs.Views.{read-view}
@@ -148,7 +149,7 @@ module _ (l : Label) (k : Core) (S : Shape l k) (p : Plain) (M : Mending (abs l 
       (M .images .stored-open (pend .slot .0) (ap (λ (w : List ℕ). has w (pend .slot .0)) (sym (M .window)) ∙ pend-has)))
 
   on-page : lowestPage (k .window) < metaPages l
-  on-page = rw (← pend .onto) (slot-page l (pend .slot .0) slot-low)
+  on-page = rw (← pend .onto) (meta-of-low l (pend .slot) slot-low)
 
   newest-is : newestOf (metasOf l (k .ssd)) .stamp ≡ k .newest
   newest-is = unfold abs in M .stamps

@@ -12,6 +12,7 @@ use borrow.Author.Tests.{eqb-true}
 use Rattle.pages.specs.Pages.{pageAt}
 use Rattle.pages.proofs.PageLaws.{length-page}
 use Rattle.layout.specs.declared.Slot.{Slot}
+use Rattle.layout.proofs.PlaceLaws.{meta-of-low}
 use Rattle.layout.specs.declared.Block.{Block}
 use Rattle.layout.specs.declared.Label.{Label}
 use Rattle.layout.specs.Places.{metaPages}
@@ -60,11 +61,6 @@ called-as c w = refl
 pub refused-same : (c : Call) (w : World) (r : Reason) → judged c (w .box) ≡ some r → called c w ≡ w
 unfolding calledAs
 refused-same c w r e = called-as c w ∙ ap (λ (o : Option Reason). calledAs c (decided o c (w .box)) w) e
-
--- the metadata page of a slot
-pub slot-page : (l : Label) (s : ℕ) → s < l .slots → s / 240 < metaPages l
-unfolding metaPages
-slot-page l s h = omega arith
 
 -- the world of a reachable box
 abbrev pub worldOf : Label → Core → Disk → World
@@ -154,13 +150,13 @@ module _ (l : Label) (k : Core) (S : Shape l k) (d : Disk) (p : Plain) (A : Agre
       shape′ : Shape l core′
       unfolding core′
       shape′ = stored-shape l k S (newest-is l k S p R) left-over v′ (T .size) (T .legal) hand (O .hand-low) w′ (T .rule) (s .0 / 240)
-          (slot-page l (s .0) (O .low)) (k .recovering)
+          (meta-of-low l s (O .low)) (k .recovering)
 
       abs′ : abs l core′ ≡ opened (s .0) (rowOf (b .0) (f % 8)) (abs l k)
       unfolding core′ abs metaNo
       abs′ =
           stored-abs l k S (newest-is l k S p R) left-over v′ (T .size) (T .legal) hand (O .hand-low) w′ (T .rule) (s .0 / 240)
-          (slot-page l (s .0) (O .low)) (k .recovering) refl
+          (meta-of-low l s (O .low)) (k .recovering) refl
           ∙ (λ i. stored (s .0 / 240) (λ u. row′ u i) (win′ i) (abs l k))
 
       asks : Opens (abs l k) (s .0) (rowOf (b .0) (f % 8))
@@ -241,7 +237,7 @@ module _ (l : Label) (k : Core) (S : Shape l k) (d : Disk) (p : Plain) (A : Agre
     unfolding perform confirmed
     confirms-next u h A′ =
         let T = ready-sound l k S p R in
-        let first : 0 < metaPages l = omega (arith, slot-page l 0 (S .images .limits .some-slot)) in
+        let first : 0 < metaPages l = omega (arith, meta-of-low l (record { 0 = 0 }) (S .images .limits .some-slot)) in
         let e : abs l (storedCore k (k .table) (k .hand) (k .window) 0 (k .recovering)) ≡ flushed (abs l k) =
         stored-abs l k S (newest-is l k S p R) h (k .table) (T .size) (T .legal) (k .hand) (S .hand-ok) (k .window) (T .rule) 0 first
         (k .recovering) refl ∙ (unfold abs in refl)

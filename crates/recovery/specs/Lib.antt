@@ -1,3 +1,2 @@
 pub mod Pending
 pub mod Fill
-pub mod Dispatch

@@ -9,11 +9,10 @@ use serving::judge;
 use stored::image;
 use stored::rules;
 ghost use mathlib.Core.Path.{_≡_};
-ghost use Rattle.protocol.specs.Paper.{paperOf};
-ghost use Rattle.protocol.specs.Calls.{reopenOf};
+ghost use Rattle.protocol.specs.Calls.{leaves, reopenOf};
 
 pub fn reopen(ssd: &[u8], hdd: &[u8], table: &mut [u32], state: Record) -> Outcome
-    ensures { λ q. ⌜ record { said = paperOf (q .answer); state = q .state; table = now (table .exit); ssd = now (ssd .entry); hdd = now (hdd .entry) } ≡ reopenOf (now (ssd .entry)) (now (hdd .entry)) (now (table .entry)) state ⌝ }
+    ensures { λ q. ⌜ leaves q (now (ssd .entry)) (now (hdd .entry)) (now (table .exit)) ≡ reopenOf (now (ssd .entry)) (now (hdd .entry)) (now (table .entry)) state ⌝ }
 {
     let LabelRead::Legal(l) = image::label_of(ssd) else {
         return answers::refused(2, state);

@@ -1,10 +1,10 @@
 // A step: of a format, or of mending.
-use cache::format;
 use layout::Block;
 use layout::Slot;
 use layout::Window;
 use layout::numbers::least;
 use layout::places;
+use maintenance::format;
 use protocol::Answer;
 use protocol::Outcome;
 use record::LARGEST_STAMP;
@@ -22,13 +22,12 @@ ghost use lib.ListN.{length};
 ghost use Rattle.pages.specs.Pages.{putPage};
 ghost use Rattle.layout.specs.Places.{metaPlace};
 ghost use Rattle.layout.specs.MetaPage.{encodeMeta, rowsOn};
-ghost use Rattle.protocol.specs.Paper.{paperOf};
 ghost use Rattle.record.specs.Record.{largestStamp, labelIn, windowIn, withStamp};
 ghost use Rattle.protocol.specs.Recovery.{offPage};
 ghost use Rattle.protocol.specs.Plan.{lowestPage};
 ghost use Rattle.protocol.specs.Perform.{mendedAt};
 ghost use Rattle.record.specs.Rule.{recordTest};
-ghost use Rattle.protocol.specs.Calls.{stepOf};
+ghost use Rattle.protocol.specs.Calls.{leaves, stepOf};
 ghost use Rattle.serving.specs.Moves.{Fits};
 ghost use Rattle.layout.specs.Window.{windowMost, slotsIn, windowFrom, ZeroPast};
 ghost use Rattle.recovery.specs.Pending.{moreOff, phaseAt};
@@ -114,7 +113,7 @@ fn mend(ssd: &mut [u8], table: &[u32], state: Record) -> Record
 }
 
 pub fn step(ssd: &mut [u8], hdd: &[u8], table: &[u32], state: Record) -> Outcome
-    ensures { λ q. ⌜ record { said = paperOf (q .answer); state = q .state; table = now (table .entry); ssd = now (ssd .exit); hdd = now (hdd .entry) } ≡ stepOf (now (ssd .entry)) (now (hdd .entry)) (now (table .entry)) state ⌝ }
+    ensures { λ q. ⌜ leaves q (now (ssd .exit)) (now (hdd .entry)) (now (table .entry)) ≡ stepOf (now (ssd .entry)) (now (hdd .entry)) (now (table .entry)) state ⌝ }
 {
     let judged = judge::sound(ssd.len(), hdd.len(), 4096, table, state, Block(0));
     let number = judged.number;

@@ -6,3 +6,4 @@ pub mod ServedLaws
 pub mod MoveLaws
 pub mod SweepingLaws
 pub mod TakeLaws
+pub mod CallLaws

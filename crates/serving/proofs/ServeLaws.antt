@@ -5,19 +5,18 @@ use mathlib.Core.Path.{_≡_, refl, sym, ap, _∙_}
 use mathlib.Core.Logic.{_≢_}
 use mathlib.Core.Bool.{Bool, true, false}
 use mathlib.Core.List.{List, [], _∷_, _++_}
-use mathlib.Core.Option.{Option, some, none}
+use mathlib.Core.Option.{some}
 use lib.ListN.{length}
 use lib.Dec.{eqb}
 use borrow.Author.Tests.{eq-eqb, ne-eqb}
 use Rattle.layout.specs.declared.Block.{Block}
 use Rattle.record.specs.declared.Record.{Record}
 use Rattle.protocol.specs.Box.{Box, refusing, left}
-use Rattle.protocol.specs.Plan.{Call, Move, flush, offer, fetch, landFetch, lookUp, view, writeBack, land, plan}
-use Rattle.protocol.specs.Perform.{perform}
+use Rattle.protocol.specs.Plan.{Call, flush, offer, fetch, landFetch, lookUp, view, writeBack, land}
 use Rattle.protocol.specs.Judge.{lengthsTest, Reason, badRecord, wrongLength, badRows, wrongPhase, blockTooHigh, slotOpen, wrongState, hasSlot, windowFull, allOpen, stampsSpent, numberOf, lengthTest, test, chain, firstOf, judged}
-use Rattle.protocol.specs.Calls.{decided, effectOf, resultOf, boxOf}
+use Rattle.protocol.specs.Calls.{resultOf, boxOf}
 use Rattle.layout.proofs.Booleans.{Told, told, told-true, told-false, clash}
-pub use Rattle.protocol.proofs.Judged.{first-yes, first-no}
+use Rattle.protocol.proofs.Judged.{first-yes, first-no, refused-as}
 use Rattle.protocol.proofs.Reasons.{number-some}
 use Rattle.serving.specs.Judging.{refuseIf, soundThen, readyThen, servesThen}
 
@@ -78,15 +77,6 @@ pub record Judges (c : Call) (x : Box) (n : ℕ) (more : List Reason) : Type 0 w
   pub number-is : n ≡ numbers (λ q. test q c x) begins
 
 module _ (c : Call) (x : Box) where
-  pub refused-as : (q : Reason) → judged c x ≡ some q → left (refusing (numberOf q) x) (x .images) ≡ resultOf c x
-  unfolding effectOf
-  refused-as q e = ap (λ (o : Option Reason). left (decided o c x) (x .images)) (sym e)
-
-  pub performs : (m : Move) → judged c x ≡ none → plan c x ≡ m → left (perform m x) (x .images) ≡ resultOf c x
-  unfolding effectOf
-  performs m e p = ap (λ (v : Move). left (perform v x) (x .images)) (sym p)
-      ∙ ap (λ (o : Option Reason). left (decided o c x) (x .images)) (sym e)
-
   -- judged by numbers: refused by n where n is not 0
   pub first-judged : (n : ℕ) (more : List Reason) → Judges c x n more → n ≢ 0 → (q : Reason) × (judged c x ≡ some q) × (numberOf q ≡ n)
   unfolding judged
@@ -98,7 +88,7 @@ module _ (c : Call) (x : Box) where
       → left (refusing m x) (x .images) ≡ resultOf c x
   refused-by n more J m e z =
       let f = first-judged n more J (λ q. z (e ∙ q)) in
-      ap (λ (k : ℕ). left (refusing k x) (x .images)) (e ∙ sym (f .2)) ∙ refused-as (f .0) (f .1)
+      ap (λ (k : ℕ). left (refusing k x) (x .images)) (e ∙ sym (f .2)) ∙ refused-as c x (f .0) (f .1)
 
   -- and the rest of the chain is asked where it is 0
   pub judged-on : (n : ℕ) (more : List Reason) → Judges c x n more → n ≡ 0 → judged c x ≡ firstOf more (λ q. test q c x)

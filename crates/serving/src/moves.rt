@@ -10,7 +10,7 @@ ghost use mathlib.Core.Bool.{true};
 ghost use Prim.Native.Nat.{_+_, _-_, _*_, _%_, _≤_, _<_};
 ghost use lib.ListN.{length};
 ghost use Rattle.pages.specs.Pages.{pageAt, putPage};
-ghost use Rattle.layout.specs.Places.{metaPages, metaPlace, dataPlace, blockPlace, metaOf, hddLength};
+ghost use Rattle.layout.specs.Places.{metaPages, metaPlace, dataPlace, blockPlace, metaOf, hddLength, ssdLength};
 ghost use Rattle.layout.specs.MetaPage.{encodeMeta, rowsOn};
 ghost use Rattle.layout.specs.PageRule.{listed};
 ghost use Rattle.protocol.specs.Rows.{rowBlock, rowFlags, setFlags, setRow, dirty, writing, withUsed, withoutWriting, withoutDirty};
@@ -111,6 +111,34 @@ pub fn close_slot(table: &mut [u32], state: Record, s: Slot) -> Record
     let flags = table[k];
     table[k] = flags - 4;
     state::left(state, s)
+}
+
+// Stores a slot's page.
+pub fn store_page(ssd: &mut [u8], state: Record, s: Slot, page: &[u8])
+    requires { ⌜ length (now ssd) ≡ ssdLength (labelIn state) ⌝ }
+    requires { ⌜ length (now page) ≡ 4096 ⌝ }
+    requires { ⌜ s .0 < state .label .slots ⌝ }
+    ensures { λ _. ⌜ now (ssd .exit) ≡ putPage (now (ssd .entry)) (dataPlace (labelIn state) s) (now (page .entry)) ⌝ }
+{
+    let l = state.label;
+    pages::store(ssd, places::data_place(l, s), page);
+}
+
+// Copies a block's page into a slot.
+pub fn copy_in(ssd: &mut [u8], hdd: &[u8], state: Record, s: Slot, b: Block)
+    requires { ⌜ length (now ssd) ≡ ssdLength (labelIn state) ⌝ }
+    requires { ⌜ length (now hdd) ≡ hddLength (labelIn state) ⌝ }
+    requires { ⌜ s .0 < state .label .slots ⌝ }
+    requires { ⌜ b .0 < state .label .blocks ⌝ }
+    ensures { λ _. ⌜ now (ssd .exit) ≡ putPage (now (ssd .entry)) (dataPlace (labelIn state) s) (pageAt (now (hdd .entry)) (blockPlace (labelIn state) b)) ⌝ }
+{
+    let l = state.label;
+    pages::copy_page(
+        ssd,
+        places::data_place(l, s),
+        hdd,
+        places::block_place(l, b),
+    );
 }
 
 // Copies a dirty slot's page to its block, and marks the slot clean.

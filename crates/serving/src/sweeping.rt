@@ -15,14 +15,13 @@ ghost use mathlib.Core.Path.{_≡_};
 ghost use mathlib.Core.Bool.{true};
 ghost use Prim.Native.Nat.{_+_, _*_, _<_};
 ghost use lib.ListN.{length};
-ghost use Rattle.protocol.specs.Paper.{paperOf};
 ghost use Rattle.layout.specs.Places.{hddLength};
 ghost use Rattle.layout.specs.Window.{windowMost};
-ghost use Rattle.record.specs.Record.{labelIn, withHand};
+ghost use Rattle.record.specs.Record.{labelIn};
 ghost use Rattle.protocol.specs.Rows.{openRows};
 ghost use Rattle.protocol.specs.Box.{left};
 ghost use Rattle.record.specs.Rule.{recordTest};
-ghost use Rattle.protocol.specs.Calls.{boxOf};
+ghost use Rattle.protocol.specs.Calls.{leaves, boxOf};
 ghost use Rattle.table.specs.Scan.{legalRows};
 ghost use Rattle.table.specs.Sweeps.{sweptOf};
 ghost use Rattle.table.specs.declared.Swept.the-variants.{Took};
@@ -65,7 +64,7 @@ fn take(
     requires { ⌜ legalRows (labelIn state) (now table) ≡ true ⌝ }
     requires { ⌜ state .count < windowMost ⌝ }
     requires { ⌜ Took s passed ≡ sweptOf (labelIn state) (now table) (state .hand) ⌝ }
-    ensures { λ q. ⌜ record { said = paperOf (q .answer); state = q .state; table = now (table .exit); ssd = now (ssd .exit); hdd = now (hdd .exit) } ≡ left (takenBy s passed (boxOf (now (ssd .entry)) (now (hdd .entry)) (now (table .entry)) state) b flags) (record { ssd = now (ssd .entry); hdd = now (hdd .entry) }) ⌝ }
+    ensures { λ q. ⌜ leaves q (now (ssd .exit)) (now (hdd .exit)) (now (table .exit)) ≡ left (takenBy s passed (boxOf (now (ssd .entry)) (now (hdd .entry)) (now (table .entry)) state) b flags) (record { ssd = now (ssd .entry); hdd = now (hdd .entry) }) ⌝ }
 {
     let l = state.label;
     let hand = state.hand;
@@ -102,7 +101,7 @@ pub fn sweep_for(
     requires { ⌜ legalRows (labelIn state) (now table) ≡ true ⌝ }
     requires { ⌜ state .count ≡ openRows (now table) ⌝ }
     requires { ⌜ writing ≡ openRows (now table) ⌝ }
-    ensures { λ q. ⌜ record { said = paperOf (q .answer); state = q .state; table = now (table .exit); ssd = now (ssd .exit); hdd = now (hdd .exit) } ≡ left (sweptFor (boxOf (now (ssd .entry)) (now (hdd .entry)) (now (table .entry)) state) b flags) (record { ssd = now (ssd .entry); hdd = now (hdd .entry) }) ⌝ }
+    ensures { λ q. ⌜ leaves q (now (ssd .exit)) (now (hdd .exit)) (now (table .exit)) ≡ left (sweptFor (boxOf (now (ssd .entry)) (now (hdd .entry)) (now (table .entry)) state) b flags) (record { ssd = now (ssd .entry); hdd = now (hdd .entry) }) ⌝ }
 {
     if (WINDOW as u32) <= writing {
         return answers::refused(11, state);

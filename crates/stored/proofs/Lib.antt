@@ -3,3 +3,4 @@ pub mod StoredLaws
 pub mod RuleLaws
 pub mod BitLaws
 pub mod TwiceLaws
+pub mod ReopenLaws

@@ -3,7 +3,7 @@ use borrow.Author.Needs.{needs}
 use Rattle.layout.specs.Places.{labelOf, withinLimits}
 use Rattle.protocol.specs.Paper.{refusal, done}
 use Rattle.protocol.specs.Plan.{format}
-use Rattle.cache.proofs.FormatLaws.{format-refused, format-begins}
+use Rattle.maintenance.proofs.FormatLaws.{format-refused, format-begins}
 use Rattle.c_record.specs.Words.{unpacked}
 use Rattle.ferjulm.proofs.CodeLaws.{fresh-words, other-length}
 use Rattle.ferjulm.proofs.calls.ferjulm_format.Statement.{statement}

@@ -1,7 +1,7 @@
 use mathlib.Core.Path.{sym, _∙_}
 use borrow.Author.Tests.{not-true, not-false}
 use Rattle.stored.proofs.ReadLaws.{limits}
-use Rattle.recovery.proofs.ReopenLaws.{unlabelled, wrong-length, sizes, bad-pages, taken}
+use Rattle.stored.proofs.ReopenLaws.{unlabelled, wrong-length, sizes, bad-pages, taken}
 use borrow.Author.Needs.{needs}
 use Rattle.recovery.proofs.reopen.reopen.Statement.{statement}
 use Rattle.recovery.proofs.reopen.reopen.Tie as tie

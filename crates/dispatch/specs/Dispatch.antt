@@ -1,0 +1,40 @@
+-- A call made through its value, as demand 3's lists see it.
+use Prim.Native.Nat.{ℕ}
+use mathlib.Core.List.{List}
+use Rattle.protocol.specs.Paper.{Paper, refused}
+use Rattle.protocol.specs.Box.{Result, boxAfter}
+use Rattle.protocol.specs.Plan.{Call, format, step, flush, reopen, offer, fetch, landFetch, lookUp, writeBack, land}
+use Rattle.protocol.specs.Calls.{resultOf}
+use Rattle.protocol.specs.ReferenceDisk.{Disk, fed}
+use Rattle.protocol.specs.Events.{World, call, readsIf, finished, apply}
+use Rattle.dispatch.specs.declared.Request.{Request}
+use Rattle.dispatch.specs.declared.Request.the-variants.{Format, Step, Offer, Land, Fetch, LandFetch, LookUp, WriteBack, Flush, Reopen}
+
+-- the call that a request is, with the page beside it
+abbrev pub callOf : Request → List ℕ → Call
+callOf (Format slots blocks) page = format slots blocks
+callOf Step page = step
+callOf (Offer b) page = offer b
+callOf (Land b) page = land b page
+callOf (Fetch b) page = fetch b
+callOf (LandFetch b) page = landFetch b
+callOf (LookUp b) page = lookUp b
+callOf (WriteBack b) page = writeBack b
+callOf Flush page = flush
+callOf Reopen page = reopen
+
+-- a call's answer, and box and reference disk after it
+pub record Made : Type 0 where
+  pub said : Paper
+  pub world : World
+
+-- as the lists of demand 3 have it
+abbrev pub madeBy : Call → World → Made
+madeBy c w = record { said = resultOf c (w .box) .said; world = apply (call c) w }
+
+-- as its caller has it: the box is what the call left, and the reference disk is fed from that alone
+abbrev pub madeOf : Call → Result → Disk → Made
+madeOf c r disk = record {
+  said = r .said;
+  world = record { box = boxAfter r; disk = fed c (refused (r .said)) (readsIf (finished c r) (boxAfter r)) disk };
+}

@@ -1,0 +1,42 @@
+// Any call, by its value: what it does is what the lists of demand 3 make of it.
+use crate::Request;
+use maintenance::flush;
+use maintenance::format;
+use maintenance::write_back;
+use protocol::Outcome;
+use read_path::fetch;
+use read_path::land_fetch;
+use read_path::look_up;
+use record::Record;
+use recovery::reopen;
+use recovery::step;
+use write_path::land;
+use write_path::offer;
+ghost use mathlib.Core.Path.{_≡_};
+ghost use Rattle.protocol.specs.ReferenceDisk.{Disk};
+ghost use Rattle.protocol.specs.Calls.{leaves, boxOf};
+ghost use Rattle.dispatch.specs.Dispatch.{callOf, madeOf, madeBy};
+
+pub fn dispatch(
+    request: Request,
+    ssd: &mut [u8],
+    hdd: &mut [u8],
+    table: &mut [u32],
+    state: Record,
+    page: &[u8],
+) -> Outcome
+    ensures { λ q. ⌜ ((disk : Disk) → madeOf (callOf request (now (page .entry))) (leaves q (now (ssd .exit)) (now (hdd .exit)) (now (table .exit))) disk ≡ madeBy (callOf request (now (page .entry))) (record { box = boxOf (now (ssd .entry)) (now (hdd .entry)) (now (table .entry)) state; disk = disk })) ⌝ }
+{
+    match request {
+        Request::Format(slots, blocks) => format::format(ssd, hdd, table, state, slots, blocks),
+        Request::Step => step::step(ssd, hdd, table, state),
+        Request::Offer(block) => offer::offer(ssd, hdd, table, state, block),
+        Request::Land(block) => land::land(ssd, hdd, table, state, block, page),
+        Request::Fetch(block) => fetch::fetch(ssd, hdd, table, state, block),
+        Request::LandFetch(block) => land_fetch::land_fetch(ssd, hdd, table, state, block),
+        Request::LookUp(block) => look_up::look_up(ssd, hdd, table, state, block),
+        Request::WriteBack(block) => write_back::write_back(ssd, hdd, table, state, block),
+        Request::Flush => flush::flush(ssd, hdd, table, state),
+        Request::Reopen => reopen::reopen(ssd, hdd, table, state),
+    }
+}

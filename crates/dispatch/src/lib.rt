@@ -1,0 +1,17 @@
+// Any call, by its value.
+pub mod dispatch;
+
+// A call as a value, with its numbers. The page that Land is lent stands beside it; view, which hands a page back and
+// changes nothing, is not among them.
+pub enum Request {
+    Format(u32, u32),
+    Step,
+    Offer(layout::Block),
+    Land(layout::Block),
+    Fetch(layout::Block),
+    LandFetch(layout::Block),
+    LookUp(layout::Block),
+    WriteBack(layout::Block),
+    Flush,
+    Reopen,
+}

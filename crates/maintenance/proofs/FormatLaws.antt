@@ -1,0 +1,133 @@
+-- Format: the table cleared word by word, the store and the record of a step, and a format refused or begun.
+use Prim.Native.Nat.{ℕ, zero, suc, _+_, _-_, _≤_, _<_}
+use mathlib.Core.Path.{_≡_, refl, sym, ap, _∙_}
+use mathlib.Core.Logic.{_≢_}
+use mathlib.Core.Bool.{true, false}
+use mathlib.Core.List.{List, [], _∷_, _++_}
+use mathlib.Core.Option.{some, none}
+use native.Mathlib.Omega.{arith}
+use native.Mathlib.Numerals.{add-one}
+use lib.ListN.{length, set, take, replicate, replicate-append-replicate}
+use lib.Seq.{take-suc-set, take-all}
+use lib.Dec.{eqb}
+use borrow.Author.Tests.{le-leb, lt-leb, eqb-true}
+use Rattle.pages.specs.Pages.{putPage}
+use Rattle.layout.specs.declared.Label.{Label}
+use Rattle.layout.specs.Places.{labelOf, withinLimits, metaPages, metaPlace, ssdLength, hddLength, tableLength}
+use Rattle.layout.specs.LabelPage.{encodeLabel}
+use Rattle.layout.specs.MetaPage.{encodeMeta, rowsOn}
+use Rattle.record.specs.declared.Record.{Record}
+use Rattle.record.specs.declared.Phase.the-variants.{Formatting}
+use Rattle.protocol.specs.Paper.{Paper, refusal, done}
+use Rattle.record.specs.Record.{labelIn, windowIn, recordOf}
+use Rattle.protocol.specs.Plan.{format, plan}
+use Rattle.protocol.specs.Perform.{formatStore, perform}
+use Rattle.protocol.specs.Judge.{lengthsTest, badLimits, wrongLength, lengthTest, test, firstOf, judged}
+use Rattle.protocol.specs.Calls.{boxOf, effectOf, formatOf}
+use Rattle.layout.proofs.Booleans.{Told, told, told-true, told-false, and-parts}
+use Rattle.maintenance.specs.Format.{formatNumber, tableAfter}
+
+-- one word more is zero
+pub cleared-more : (table : List ℕ) (i : ℕ) → i < length table → take i table ≡ replicate i 0
+    → take (i + 1) (set table i 0) ≡ replicate (i + 1) 0
+cleared-more table i h e =
+    ap (λ (n : ℕ). take n (set table i 0)) (add-one i) ∙ take-suc-set table i 0 h ∙ ap (λ (l : List ℕ). l ++ (0 ∷ [])) e
+    ∙ replicate-append-replicate i 1 0
+
+-- every word is zero
+pub cleared-all : (table : List ℕ) (i n : ℕ) → length table ≤ i → i ≤ length table → length table ≡ n → take i table ≡ replicate i 0
+    → table ≡ replicate n 0
+cleared-all table i n h k e f =
+    let q : i ≡ n = omega arith in
+    sym (take-all i table h) ∙ f ∙ ap (λ (m : ℕ). replicate m 0) q
+
+-- the label page is the store of the last step
+pub label-stored : (ssd table after page : List ℕ) (state : Record) (pages d : ℕ) → d ≢ 0
+    → pages ≡ metaPages (labelIn state) → pages ≤ d - 1 → page ≡ encodeLabel (labelIn state) → after ≡ putPage ssd 0 page
+    → after ≡ putPage ssd (formatStore (labelIn state) table (windowIn state) d .place)
+    (formatStore (labelIn state) table (windowIn state) d .bytes)
+label-stored ssd table after page state pages zero n f h g k = absurd (n refl)
+label-stored ssd table after page state pages (suc p) n f h g k =
+    let m : metaPages (labelIn state) ≤ p = rw (← f) (omega arith) in
+    rw (k, g, formatStore, le-leb _ _ m)
+
+-- a metadata page is the store of a step before it
+pub meta-step-stored : (ssd table after : List ℕ) (state : Record) (d : ℕ) → d ≢ 0 → d - 1 < metaPages (labelIn state)
+    → after ≡ putPage ssd (metaPlace (labelIn state) (d - 1)) (encodeMeta 0 (windowIn state) (rowsOn (d - 1) table))
+    → after ≡ putPage ssd (formatStore (labelIn state) table (windowIn state) d .place)
+    (formatStore (labelIn state) table (windowIn state) d .bytes)
+meta-step-stored ssd table after state zero n h k = absurd (n refl)
+meta-step-stored ssd table after state (suc p) n h k =
+    let q : suc p - 1 ≡ p = omega arith in
+    let m : p < metaPages (labelIn state) = omega arith in
+    rw (k, q, formatStore, lt-leb _ _ m)
+
+-- a format: refused by 1, refused by 4, begun
+module _ (ssd hdd table : List ℕ) (state : Record) (slots blocks : ℕ) (l : Label) (L : l ≡ labelOf slots blocks) where
+  limits-judged : withinLimits l ≡ false → judged (format slots blocks) (boxOf ssd hdd table state) ≡ some badLimits
+  unfolding judged firstOf test
+  limits-judged e = rw (firstOf, ← L, e)
+
+  limits-refused : (said : Paper) (next : Record) → withinLimits l ≡ false → said ≡ refusal 1 → next ≡ state
+      → record { said = said; state = next; table = table; ssd = ssd; hdd = hdd } ≡ formatOf ssd hdd table state slots blocks
+  unfolding effectOf
+  limits-refused said next e f g = rw (f, g, limits-judged e)
+
+  module _ (e : withinLimits l ≡ true) where
+    length-judged : lengthsTest l (length ssd) (length hdd) (length table) ≡ false
+        → judged (format slots blocks) (boxOf ssd hdd table state) ≡ some wrongLength
+    unfolding judged firstOf test lengthTest lengthsTest
+    length-judged t = rw (firstOf, ← L, e) (rw (firstOf, rw L at t))
+
+    length-refused : (said : Paper) (next : Record) → lengthsTest l (length ssd) (length hdd) (length table) ≡ false
+        → said ≡ refusal 4 → next ≡ state
+        → record { said = said; state = next; table = table; ssd = ssd; hdd = hdd } ≡ formatOf ssd hdd table state slots blocks
+    unfolding effectOf
+    length-refused said next t f g = rw (f, g, length-judged t)
+
+    begun-judged : lengthsTest l (length ssd) (length hdd) (length table) ≡ true
+        → judged (format slots blocks) (boxOf ssd hdd table state) ≡ none
+    unfolding judged firstOf test lengthTest lengthsTest
+    begun-judged t = rw (firstOf, ← L, e) (rw (firstOf, rw L at t))
+
+    table-size : lengthsTest l (length ssd) (length hdd) (length table) ≡ true → length table ≡ tableLength (labelOf slots blocks)
+    unfolding lengthsTest
+    table-size t =
+        let h = and-parts (eqb (length ssd) (ssdLength l)) _ t .1 in
+        rw L at (eqb-true (length table) (tableLength l) (and-parts (eqb (length hdd) (hddLength l)) _ h .1))
+
+    format-begun : (said : Paper) (next : Record) (after : List ℕ) → lengthsTest l (length ssd) (length hdd) (length table) ≡ true
+        → said ≡ done → next ≡ recordOf l (record { 0 = 0 }) 0 (Formatting 0) false [] → after ≡ replicate (length table) 0
+        → record { said = said; state = next; table = after; ssd = ssd; hdd = hdd } ≡ formatOf ssd hdd table state slots blocks
+    unfolding effectOf plan perform
+    format-begun said next after t f g h = rw (f, g, h, table-size t, begun-judged t, L)
+
+  -- by its number
+  module _ (n : ℕ) (e : n ≡ formatNumber l (length ssd) (length hdd) (length table)) (said : Paper) (next : Record) (after : List ℕ)
+      (h : after ≡ tableAfter n table) where
+    pub format-refused : n ≢ 0 → said ≡ refusal n → next ≡ state
+        → record { said = said; state = next; table = after; ssd = ssd; hdd = hdd } ≡ formatOf ssd hdd table state slots blocks
+    format-refused z f g = go (told (withinLimits l)) (told (lengthsTest l (length ssd) (length hdd) (length table)))
+      where
+        kept : (m : ℕ) → n ≡ suc m → after ≡ table
+        kept m q = h ∙ ap (λ (k : ℕ). tableAfter k table) q
+
+        go : Told (withinLimits l) → Told (lengthsTest l (length ssd) (length hdd) (length table))
+            → record { said = said; state = next; table = after; ssd = ssd; hdd = hdd } ≡ formatOf ssd hdd table state slots blocks
+        go (told-false a) t =
+            let q : n ≡ 1 = e ∙ rw a in
+            rw (kept 0 q) (limits-refused said next a (f ∙ ap refusal q) g)
+        go (told-true a) (told-false t) =
+            let q : n ≡ 4 = e ∙ rw (a, t) in
+            rw (kept 3 q) (length-refused a said next t (f ∙ ap refusal q) g)
+        go (told-true a) (told-true t) = absurd (z (e ∙ rw (a, t)))
+
+    pub format-begins : n ≡ 0 → said ≡ done → next ≡ recordOf l (record { 0 = 0 }) 0 (Formatting 0) false []
+        → record { said = said; state = next; table = after; ssd = ssd; hdd = hdd } ≡ formatOf ssd hdd table state slots blocks
+    format-begins z f g = go (told (withinLimits l)) (told (lengthsTest l (length ssd) (length hdd) (length table)))
+      where
+        go : Told (withinLimits l) → Told (lengthsTest l (length ssd) (length hdd) (length table))
+            → record { said = said; state = next; table = after; ssd = ssd; hdd = hdd } ≡ formatOf ssd hdd table state slots blocks
+        go (told-false a) t = let q : n ≡ 1 = e ∙ rw a in absurd (omega (arith, q, z))
+        go (told-true a) (told-false t) = let q : n ≡ 4 = e ∙ rw (a, t) in absurd (omega (arith, q, z))
+        go (told-true a) (told-true t) = format-begun a said next after t f g (h ∙ ap (λ (k : ℕ). tableAfter k table) z)

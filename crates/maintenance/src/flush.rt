@@ -1,0 +1,29 @@
+// "Flush: if unsettled, store metadata page 0; else "nothing to do"."
+use layout::Block;
+use protocol::Answer;
+use protocol::Outcome;
+use record::LARGEST_STAMP;
+use record::Record;
+use serving::answers;
+use serving::judge;
+use serving::moves;
+ghost use mathlib.Core.Path.{_≡_};
+ghost use Rattle.protocol.specs.Calls.{leaves, flushOf};
+
+pub fn flush(ssd: &mut [u8], hdd: &[u8], table: &[u32], state: Record) -> Outcome
+    ensures { λ q. ⌜ leaves q (now (ssd .exit)) (now (hdd .entry)) (now (table .entry)) ≡ flushOf (now (ssd .entry)) (now (hdd .entry)) (now (table .entry)) state ⌝ }
+{
+    let seen = judge::ready(ssd.len(), hdd.len(), 4096, table, state, Block(0));
+    let number = seen.number;
+    if number != 0 {
+        return answers::refused(number, state);
+    }
+    if !state.unconfirmed {
+        return answers::answered(Answer::NothingToDo, state);
+    }
+    if LARGEST_STAMP <= state.newest {
+        return answers::refused(13, state);
+    }
+    let next = moves::confirm(ssd, table, state, 0);
+    answers::answered(Answer::Done, next)
+}

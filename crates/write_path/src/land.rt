@@ -1,0 +1,45 @@
+// "Land 4,096 bytes for a block open for writing, or dirty and not open: store its slot's page."
+use layout::Block;
+use layout::Slot;
+use layout::places;
+use protocol::Answer;
+use protocol::Condition;
+use protocol::Outcome;
+use record::Record;
+use serving::answers;
+use serving::judge;
+use serving::moves;
+ghost use mathlib.Core.Path.{_≡_};
+ghost use Rattle.protocol.specs.Calls.{leaves, landOf};
+
+pub fn land(
+    ssd: &mut [u8],
+    hdd: &[u8],
+    table: &mut [u32],
+    state: Record,
+    block: Block,
+    page: &[u8],
+) -> Outcome
+    ensures { λ q. ⌜ leaves q (now (ssd .exit)) (now (hdd .entry)) (now (table .exit)) ≡ landOf (now (ssd .entry)) (now (hdd .entry)) (now (table .entry)) state block (now (page .entry)) ⌝ }
+{
+    let seen = judge::serves(ssd.len(), hdd.len(), page.len(), table, state, block);
+    let number = seen.number;
+    if number != 0 {
+        return answers::refused(number, state);
+    }
+    let condition = seen.condition;
+    match condition {
+        Condition::NotCached => answers::refused(9, state),
+        Condition::Clean(_) => answers::refused(9, state),
+        Condition::Dirty(s) => {
+            moves::store_page(ssd, state, s, page);
+            answers::answered(Answer::Done, state)
+        }
+        Condition::Writing(s) => {
+            moves::store_page(ssd, state, s, page);
+            let next = moves::close_slot(table, state, s);
+            answers::answered(Answer::Done, next)
+        }
+        Condition::Fetching(_) => answers::refused(9, state),
+    }
+}
