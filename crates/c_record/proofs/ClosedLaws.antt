@@ -7,19 +7,19 @@ use lib.ListN.{length}
 use lib.Dec.{eqb}
 use borrow.Author.Tests.{eqb-true}
 use Rattle.record.specs.declared.Record.{Record}
-use Rattle.protocol.specs.Paper.{Paper, refusal, answer, refused}
+use Rattle.protocol.specs.Reply.{Reply, refusal, answer, refused}
 use Rattle.layout.proofs.Booleans.{clash, and-parts}
 use Rattle.c_record.specs.Words.{wordsOf, isRecord}
 use Rattle.c_record.specs.Codes.{codeOf, slotAfter, closedBy}
 
 -- a refusal leaves words and slot
-pub refused-closed : (said : Paper) (r : Record) (words : List ℕ) (slot code : ℕ) → code ≡ codeOf said → refused said ≡ true
+pub refused-closed : (said : Reply) (r : Record) (words : List ℕ) (slot code : ℕ) → code ≡ codeOf said → refused said ≡ true
     → record { code = code; words = words; slot = slot } ≡ closedBy said r words slot
 refused-closed (refusal n) r words slot code e h = rw e
 refused-closed (answer n s) r words slot code e h = clash h refl
 
 -- any other answer packs the record, and sets the slot that it carries
-pub answered-closed : (said : Paper) (r : Record) (words after : List ℕ) (slot next code : ℕ) → code ≡ codeOf said → refused said ≡ false
+pub answered-closed : (said : Reply) (r : Record) (words after : List ℕ) (slot next code : ℕ) → code ≡ codeOf said → refused said ≡ false
     → after ≡ wordsOf r → next ≡ slotAfter said slot
     → record { code = code; words = after; slot = next } ≡ closedBy said r words slot
 answered-closed (refusal n) r words after slot next code e h p q = clash refl h

@@ -1,12 +1,12 @@
 // What an answer becomes for C.
 use protocol::Answer;
 ghost use mathlib.Core.Path.{_≡_};
-ghost use Rattle.protocol.specs.Paper.{paperOf, refused};
+ghost use Rattle.protocol.specs.Reply.{replyOf, refused};
 ghost use Rattle.c_record.specs.Codes.{codeOf, slotAfter};
 
 // Whether it is a refusal.
 pub fn is_refused(answer: Answer) -> bool
-    ensures { λ r. ⌜ r ≡ refused (paperOf answer) ⌝ }
+    ensures { λ r. ⌜ r ≡ refused (replyOf answer) ⌝ }
 {
     match answer {
         Answer::Refused(_) => true,
@@ -22,7 +22,7 @@ pub fn is_refused(answer: Answer) -> bool
 
 // Its result code.
 pub fn code_of(answer: Answer) -> u32
-    ensures { λ r. ⌜ r ≡ codeOf (paperOf answer) ⌝ }
+    ensures { λ r. ⌜ r ≡ codeOf (replyOf answer) ⌝ }
 {
     match answer {
         Answer::Refused(number) => number,
@@ -38,7 +38,7 @@ pub fn code_of(answer: Answer) -> u32
 
 // The slot that it carries, or what was there before.
 pub fn slot_of(answer: Answer, before: u32) -> u32
-    ensures { λ r. ⌜ r ≡ slotAfter (paperOf answer) before ⌝ }
+    ensures { λ r. ⌜ r ≡ slotAfter (replyOf answer) before ⌝ }
 {
     match answer {
         Answer::Refused(_) => before,

@@ -1,7 +1,7 @@
 -- A call made through its value, as demand 3's lists see it.
 use Prim.Native.Nat.{ℕ}
 use mathlib.Core.List.{List}
-use Rattle.protocol.specs.Paper.{Paper, refused}
+use Rattle.protocol.specs.Reply.{Reply, refused}
 use Rattle.protocol.specs.Box.{Result, boxAfter}
 use Rattle.protocol.specs.Plan.{Call, format, step, flush, reopen, offer, fetch, landFetch, lookUp, writeBack, land}
 use Rattle.protocol.specs.Calls.{resultOf}
@@ -25,7 +25,7 @@ callOf Reopen page = reopen
 
 -- a call's answer, and box and reference disk after it
 pub record Made : Type 0 where
-  pub said : Paper
+  pub said : Reply
   pub world : World
 
 -- as the lists of demand 3 have it

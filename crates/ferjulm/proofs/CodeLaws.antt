@@ -7,7 +7,7 @@ use lib.ListN.{length}
 use borrow.Author.Tests.{eq-eqb, ne-eqb}
 use Rattle.record.specs.declared.Record.{Record}
 use Rattle.protocol.specs.declared.Outcome.{Outcome}
-use Rattle.protocol.specs.Paper.{Paper, paperOf}
+use Rattle.protocol.specs.Reply.{Reply, replyOf}
 use Rattle.protocol.specs.Box.{Result}
 use Rattle.protocol.specs.Plan.{Call}
 use Rattle.protocol.specs.Calls.{leaves, resultOf, boxOf}
@@ -16,7 +16,7 @@ use Rattle.c_record.specs.Codes.{closedBy}
 use Rattle.ferjulm.specs.Calls.{kept, leftBy, cCall, cFresh}
 
 -- what a call and the closing after it leave is what the call's result leaves
-left-is : (R : Result) (said : Paper) (state : Record) (table ssd hdd words after : List ℕ) (slot next code : ℕ)
+left-is : (R : Result) (said : Reply) (state : Record) (table ssd hdd words after : List ℕ) (slot next code : ℕ)
     → record { said = said; state = state; table = table; ssd = ssd; hdd = hdd } ≡ R
     → record { code = code; words = after; slot = next } ≡ closedBy said state words slot
     → record { code = code; words = after; table = table; ssd = ssd; hdd = hdd; slot = next } ≡ leftBy R words slot
@@ -34,11 +34,11 @@ module _ (c : Call) (ssd hdd table words : List ℕ) (slot : ℕ) where
   module _ (r : Record) (o : Outcome) {table′ ssd′ hdd′ after : List ℕ} {next code : ℕ} (unpack : r ≡ unpacked words)
       (call : leaves o ssd′ hdd′ table′
       ≡ resultOf c (boxOf ssd hdd table r))
-      (close : record { code = code; words = after; slot = next } ≡ closedBy (paperOf (o .answer)) (o .state) words slot) where
+      (close : record { code = code; words = after; slot = next } ≡ closedBy (replyOf (o .answer)) (o .state) words slot) where
     called : record { code = code; words = after; table = table′; ssd = ssd′; hdd = hdd′; slot = next }
         ≡ leftBy (resultOf c (boxOf ssd hdd table (unpacked words))) words slot
     called =
-        left-is (resultOf c (boxOf ssd hdd table r)) (paperOf (o .answer)) (o .state) table′ ssd′ hdd′ words after slot next code call close
+        left-is (resultOf c (boxOf ssd hdd table r)) (replyOf (o .answer)) (o .state) table′ ssd′ hdd′ words after slot next code call close
         ∙ ap (λ (q : Record). leftBy (resultOf c (boxOf ssd hdd table q)) words slot) unpack
 
     -- by words that are a record
@@ -54,7 +54,7 @@ module _ (c : Call) (ssd hdd table words : List ℕ) (slot : ℕ) where
     on-words n h = rw (eq-eqb (length words) 71 h) called
 
   -- a result that is in hand, by any 71 words
-  pub fresh-words : (n : ℕ) (said : Paper) (state : Record) {table′ ssd′ hdd′ after : List ℕ} {next code : ℕ} → length words ≡ 71
+  pub fresh-words : (n : ℕ) (said : Reply) (state : Record) {table′ ssd′ hdd′ after : List ℕ} {next code : ℕ} → length words ≡ 71
       → record { said = said; state = state; table = table′; ssd = ssd′; hdd = hdd′ } ≡ resultOf c (boxOf ssd hdd table (unpacked words))
       → record { code = code; words = after; slot = next } ≡ closedBy said state words slot
       → record { code = code; words = after; table = table′; ssd = ssd′; hdd = hdd′; slot = next } ≡ cFresh n c ssd hdd table words slot

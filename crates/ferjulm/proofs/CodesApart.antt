@@ -10,7 +10,7 @@ use lib.Dec.{eqb, leb}
 use Rattle.record.specs.declared.Record.{Record}
 use Rattle.protocol.specs.declared.Answer.{Answer}
 use Rattle.protocol.specs.declared.Answer.the-variants.{Refused, Announced, Overwrite, CopiedOut, InSlot, OnDisk, NothingToDo, Done}
-use Rattle.protocol.specs.Paper.{paperOf, refused}
+use Rattle.protocol.specs.Reply.{replyOf, refused}
 use Rattle.protocol.specs.Box.{Box, left}
 use Rattle.protocol.specs.Plan.{Call}
 use Rattle.protocol.specs.Judge.{Reason, badLimits, noLabel, badRecord, wrongLength, badRows, wrongPhase, blockTooHigh, slotOpen, wrongState, hasSlot, windowFull, allOpen, stampsSpent, numberOf, judged}
@@ -64,7 +64,7 @@ refusal-keeps c ssd hdd table words slot r h = by-reason (judged c (boxOf ssd hd
     by-reason none e h = clash h (plan-answers c x e)
 
 -- any other answer has 0 or a code from 101 on
-pub answer-code : (a : Answer) → refused (paperOf a) ≡ false → (eqb (codeOf (paperOf a)) 0 || leb 101 (codeOf (paperOf a))) ≡ true
+pub answer-code : (a : Answer) → refused (replyOf a) ≡ false → (eqb (codeOf (replyOf a)) 0 || leb 101 (codeOf (replyOf a))) ≡ true
 answer-code (Refused n) h = clash refl h
 answer-code (Announced s) h = refl
 answer-code Overwrite h = refl
@@ -75,8 +75,8 @@ answer-code NothingToDo h = refl
 answer-code Done h = refl
 
 -- the slot changes with 101 and 104 alone
-pub slot-code : (a : Answer) (before : ℕ) → (eqb (codeOf (paperOf a)) 101 || eqb (codeOf (paperOf a)) 104) ≡ false
-    → slotAfter (paperOf a) before ≡ before
+pub slot-code : (a : Answer) (before : ℕ) → (eqb (codeOf (replyOf a)) 101 || eqb (codeOf (replyOf a)) 104) ≡ false
+    → slotAfter (replyOf a) before ≡ before
 slot-code (Refused n) before h = refl
 slot-code (Announced s) before h = clash refl h
 slot-code Overwrite before h = refl

@@ -61,7 +61,7 @@ pub extern "C" fn ferjulm_view(
         return 3;
     }
     let state = words::unpack(words);
-    let judged = judge::serves(ssd.len(), hdd.len(), 4096, table, state, Block(block));
+    let judged = judge::judge_block(ssd.len(), hdd.len(), 4096, table, state, Block(block));
     let number = judged.number;
     if number != 0 {
         return number;

@@ -14,7 +14,7 @@ use Rattle.layout.specs.declared.LabelRead.{LabelRead}
 use Rattle.layout.specs.declared.label_page.Scan.{Scan}
 use Rattle.layout.specs.declared.label_page.Scan.the-variants.{Number as ScanNumber, Nothing}
 use Rattle.layout.specs.LabelPage.{cacheLine, layoutLine, slotsKey, decimal, after, Number, number, thenBytes, thenNumber, decodeLabel}
-use Rattle.layout.specs.LabelScan.{found, scanOf, blocksRead}
+use Rattle.layout.specs.LabelScan.{found, scannedAs, blocksRead}
 use Rattle.layout.proofs.Booleans.{clash}
 use Rattle.layout.proofs.Decimal.{number-only}
 
@@ -81,11 +81,11 @@ module _ (bytes : List ℕ) (at : ℕ) (h : at ≤ length bytes) where
           )
 
   -- a number that was read: the bytes after its line
-  pub read : (s : Scan) (n end : ℕ) → s ≡ scanOf bytes (number (drop at bytes)) → s ≡ ScanNumber n end
+  pub read : (s : Scan) (n end : ℕ) → s ≡ scannedAs bytes (number (drop at bytes)) → s ≡ ScanNumber n end
       → (end ≤ length bytes) × (number (drop at bytes) ≡ some (record { value = n; rest = drop end bytes }))
   read s n end e f = go (number (drop at bytes)) refl (sym e ∙ f)
     where
-      go : (o : Option Number) → number (drop at bytes) ≡ o → scanOf bytes o ≡ ScanNumber n end
+      go : (o : Option Number) → number (drop at bytes) ≡ o → scannedAs bytes o ≡ ScanNumber n end
           → (end ≤ length bytes) × (o ≡ some (record { value = n; rest = drop end bytes }))
       go none q k = let z : _≡_ {A = ℕ} 0 1 = cc in absurd (omega arith)
       go (some r) q k =
@@ -101,6 +101,6 @@ module _ (bytes : List ℕ) (at : ℕ) (h : at ≤ length bytes) where
           (omega arith, λ i. some (record { value = v i; rest = sym d i }))
 
 -- a number that was not read
-pub unread : (bytes : List ℕ) (o : Option Number) (s : Scan) → s ≡ scanOf bytes o → s ≡ Nothing → o ≡ none
+pub unread : (bytes : List ℕ) (o : Option Number) (s : Scan) → s ≡ scannedAs bytes o → s ≡ Nothing → o ≡ none
 unread bytes none s e h = refl
 unread bytes (some r) s e h = let z : _≡_ {A = ℕ} 0 1 = cc in absurd (omega arith)

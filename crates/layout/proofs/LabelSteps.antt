@@ -11,7 +11,7 @@ use lib.Seq.{getD-set-same, drop-set-lt}
 use borrow.Author.Tests.{eq-eqb, ne-eqb}
 use Rattle.layout.specs.declared.label_page.Scan.the-variants.{Number as ScanNumber}
 use Rattle.layout.specs.LabelPage.{after, numberFrom, number}
-use Rattle.layout.specs.LabelScan.{scanOf}
+use Rattle.layout.specs.LabelScan.{scannedAs}
 use Rattle.layout.proofs.Loops.{left}
 use Rattle.layout.proofs.Decimal.{fits, from-line, from-digit, from-full, from-low, from-high, from-none, number-none, number-first, number-low, number-high}
 
@@ -36,10 +36,10 @@ module _ (text bytes : List ℕ) (i j : ℕ) where
 
 -- the offset of the bytes after a number's line
 pub scan-found : (bytes : List ℕ) (at n i : ℕ) → i < length bytes → number (drop at bytes) ≡ some (record { value = n; rest = drop (i + 1) bytes })
-    → scanOf bytes (number (drop at bytes)) ≡ ScanNumber n (i + 1)
+    → scannedAs bytes (number (drop at bytes)) ≡ ScanNumber n (i + 1)
 scan-found bytes at n i h e =
     let k : length bytes - length (drop (i + 1) bytes) ≡ i + 1 = simp length-drop (omega arith) in
-    ap (scanOf bytes) e ∙ ap (ScanNumber n) k
+    ap (scannedAs bytes) e ∙ ap (ScanNumber n) k
 
 -- the first byte of a number, if there is one
 pub number-empty : (bytes : List ℕ) (at : ℕ) → length bytes ≤ at → number (drop at bytes) ≡ none

@@ -16,9 +16,9 @@ found none = false
 found (some bytes) = true
 
 -- a number that was read of bytes, with the offset of those after its line
-abbrev pub scanOf : List ℕ → Option Number → Scan
-scanOf bytes none = Nothing
-scanOf bytes (some n) = ScanNumber (n .value) (length bytes - length (n .rest))
+abbrev pub scannedAs : List ℕ → Option Number → Scan
+scannedAs bytes none = Nothing
+scannedAs bytes (some n) = ScanNumber (n .value) (length bytes - length (n .rest))
 
 -- what is read after the line of the slots
 abbrev pub blocksRead : ℕ → List ℕ → LabelRead

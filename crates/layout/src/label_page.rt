@@ -12,7 +12,7 @@ ghost use lib.ListN.{length, drop};
 ghost use Rattle.pages.specs.Pages.{padded};
 ghost use Rattle.layout.specs.Places.{labelOf, withinLimits};
 ghost use Rattle.layout.specs.LabelPage.{encodeLabel, decodeLabel, after, number, allZero, legalIf};
-ghost use Rattle.layout.specs.LabelScan.{found, scanOf, blocksRead};
+ghost use Rattle.layout.specs.LabelScan.{found, scannedAs, blocksRead};
 
 // A number that was read, with the offset of the bytes after its line.
 pub enum Scan {
@@ -64,7 +64,7 @@ fn begins(bytes: &[u8], at: usize, text: &[u8]) -> bool
 // Reads a number of up to 8 digits, without leading zeros, and byte 10.
 fn scan_number(bytes: &[u8], at: usize) -> Scan
     requires { ⌜ at ≤ length (now bytes) ⌝ }
-    ensures { λ r. ⌜ r ≡ scanOf (now (bytes .entry)) (number (drop at (now (bytes .entry)))) ⌝ }
+    ensures { λ r. ⌜ r ≡ scannedAs (now (bytes .entry)) (number (drop at (now (bytes .entry)))) ⌝ }
 {
     if bytes.len() <= at {
         return Scan::Nothing;

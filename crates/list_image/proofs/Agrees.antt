@@ -18,13 +18,13 @@ use Rattle.layout.specs.LabelPage.{decimal}
 use Rattle.layout.proofs.Booleans.{Told, told, told-true, told-false, clash}
 use Rattle.layout.proofs.Decimal.{decimal-one, decimal-long}
 use Rattle.record.specs.declared.Record.{Record}
-use Rattle.protocol.specs.Paper.{refusal, refused}
+use Rattle.protocol.specs.Reply.{refusal, refused}
 use Rattle.protocol.specs.Rows.{rowBlock, rowFlags, valid}
 use Rattle.protocol.specs.Recovery.{metasOf, entryIn, newestOf, pagesTest, recovered, recover}
 use Rattle.protocol.specs.Box.{Result}
 use Rattle.protocol.specs.Judge.{lengthsTest}
 use Rattle.protocol.specs.Calls.{reopenOf}
-use Rattle.protocol.proofs.Entries.{rows-block, rows-flags}
+use Rattle.protocol.proofs.refine.Entries.{rows-block, rows-flags}
 use Rattle.stored.specs.Stored.{labelIf}
 use Rattle.stored.proofs.ReopenLaws as reopens
 use Rattle.list_image.specs.Listing.{refusedKey, field, headText, fateText, entryText, dropped, lineIf, lineOf, imageText, refusalText, listingOf}

@@ -9,7 +9,7 @@ use Rattle.layout.specs.declared.Entry.{Entry}
 use Rattle.layout.specs.declared.Label.{Label}
 use Rattle.layout.specs.declared.LabelRead.the-variants.{Legal}
 use Rattle.layout.specs.Places.{hddLength, tableLength}
-use Rattle.protocol.specs.Paper.{refusal}
+use Rattle.protocol.specs.Reply.{refusal}
 use Rattle.protocol.specs.Rows.{rowBlock, rowFlags, valid}
 use Rattle.protocol.specs.Recovery.{metasOf, entryIn, newestOf}
 use Rattle.protocol.specs.Box.{Result}

@@ -18,7 +18,7 @@ use Rattle.layout.specs.LabelPage.{encodeLabel}
 use Rattle.layout.specs.MetaPage.{encodeMeta, rowsOn}
 use Rattle.record.specs.declared.Record.{Record}
 use Rattle.record.specs.declared.Phase.the-variants.{Formatting}
-use Rattle.protocol.specs.Paper.{Paper, refusal, done}
+use Rattle.protocol.specs.Reply.{Reply, refusal, done}
 use Rattle.record.specs.Record.{labelIn, windowIn, recordOf}
 use Rattle.protocol.specs.Plan.{format, plan}
 use Rattle.protocol.specs.Perform.{formatStore, perform}
@@ -68,7 +68,7 @@ module _ (ssd hdd table : List ℕ) (state : Record) (slots blocks : ℕ) (l : L
   unfolding judged firstOf test
   limits-judged e = rw (firstOf, ← L, e)
 
-  limits-refused : (said : Paper) (next : Record) → withinLimits l ≡ false → said ≡ refusal 1 → next ≡ state
+  limits-refused : (said : Reply) (next : Record) → withinLimits l ≡ false → said ≡ refusal 1 → next ≡ state
       → record { said = said; state = next; table = table; ssd = ssd; hdd = hdd } ≡ formatOf ssd hdd table state slots blocks
   unfolding effectOf
   limits-refused said next e f g = rw (f, g, limits-judged e)
@@ -79,7 +79,7 @@ module _ (ssd hdd table : List ℕ) (state : Record) (slots blocks : ℕ) (l : L
     unfolding judged firstOf test lengthTest lengthsTest
     length-judged t = rw (firstOf, ← L, e) (rw (firstOf, rw L at t))
 
-    length-refused : (said : Paper) (next : Record) → lengthsTest l (length ssd) (length hdd) (length table) ≡ false
+    length-refused : (said : Reply) (next : Record) → lengthsTest l (length ssd) (length hdd) (length table) ≡ false
         → said ≡ refusal 4 → next ≡ state
         → record { said = said; state = next; table = table; ssd = ssd; hdd = hdd } ≡ formatOf ssd hdd table state slots blocks
     unfolding effectOf
@@ -96,14 +96,14 @@ module _ (ssd hdd table : List ℕ) (state : Record) (slots blocks : ℕ) (l : L
         let h = and-parts (eqb (length ssd) (ssdLength l)) _ t .1 in
         rw L at (eqb-true (length table) (tableLength l) (and-parts (eqb (length hdd) (hddLength l)) _ h .1))
 
-    format-begun : (said : Paper) (next : Record) (after : List ℕ) → lengthsTest l (length ssd) (length hdd) (length table) ≡ true
+    format-begun : (said : Reply) (next : Record) (after : List ℕ) → lengthsTest l (length ssd) (length hdd) (length table) ≡ true
         → said ≡ done → next ≡ recordOf l (record { 0 = 0 }) 0 (Formatting 0) false [] → after ≡ replicate (length table) 0
         → record { said = said; state = next; table = after; ssd = ssd; hdd = hdd } ≡ formatOf ssd hdd table state slots blocks
     unfolding effectOf plan perform
     format-begun said next after t f g h = rw (f, g, h, table-size t, begun-judged t, L)
 
   -- by its number
-  module _ (n : ℕ) (e : n ≡ formatNumber l (length ssd) (length hdd) (length table)) (said : Paper) (next : Record) (after : List ℕ)
+  module _ (n : ℕ) (e : n ≡ formatNumber l (length ssd) (length hdd) (length table)) (said : Reply) (next : Record) (after : List ℕ)
       (h : after ≡ tableAfter n table) where
     pub format-refused : n ≢ 0 → said ≡ refusal n → next ≡ state
         → record { said = said; state = next; table = after; ssd = ssd; hdd = hdd } ≡ formatOf ssd hdd table state slots blocks

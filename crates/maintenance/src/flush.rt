@@ -13,7 +13,7 @@ ghost use Rattle.protocol.specs.Calls.{leaves, flushOf};
 pub fn flush(ssd: &mut [u8], hdd: &[u8], table: &[u32], state: Record) -> Outcome
     ensures { λ q. ⌜ leaves q (now (ssd .exit)) (now (hdd .entry)) (now (table .entry)) ≡ flushOf (now (ssd .entry)) (now (hdd .entry)) (now (table .entry)) state ⌝ }
 {
-    let seen = judge::ready(ssd.len(), hdd.len(), 4096, table, state, Block(0));
+    let seen = judge::judge_ready(ssd.len(), hdd.len(), 4096, table, state, Block(0));
     let number = seen.number;
     if number != 0 {
         return answers::refused(number, state);

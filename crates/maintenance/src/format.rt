@@ -24,7 +24,7 @@ ghost use Rattle.record.specs.declared.Phase.the-variants.{Formatting};
 ghost use Rattle.record.specs.Record.{labelIn, windowIn, recordOf};
 ghost use Rattle.protocol.specs.Perform.{formatStore, formatState};
 ghost use Rattle.protocol.specs.Calls.{leaves, formatOf};
-ghost use Rattle.serving.specs.Moves.{Fits};
+ghost use Rattle.serving.specs.Moves.{FitsRecord};
 ghost use Rattle.maintenance.specs.Format.{formatNumber, tableAfter};
 
 // Zeroes the table.
@@ -80,7 +80,7 @@ pub fn format(
 
 // The store of a format's step, after so many of them.
 fn format_store(ssd: &mut [u8], table: &[u32], state: Record, done: u32)
-    requires { ⌜ Fits (length (now ssd)) (length (now table)) state ⌝ }
+    requires { ⌜ FitsRecord (length (now ssd)) (length (now table)) state ⌝ }
     requires { ⌜ withinLimits (labelIn state) ≡ true ⌝ }
     ensures { λ _. ⌜ now (ssd .exit) ≡ putPage (now (ssd .entry)) (formatStore (labelIn state) (now (table .entry)) (windowIn state) done .place) (formatStore (labelIn state) (now (table .entry)) (windowIn state) done .bytes) ⌝ }
 {
@@ -113,7 +113,7 @@ fn format_state(state: Record, done: u32) -> Record
 
 // A step of a format, after so many of them.
 pub fn format_step(ssd: &mut [u8], table: &[u32], state: Record, done: u32) -> Record
-    requires { ⌜ Fits (length (now ssd)) (length (now table)) state ⌝ }
+    requires { ⌜ FitsRecord (length (now ssd)) (length (now table)) state ⌝ }
     requires { ⌜ withinLimits (labelIn state) ≡ true ⌝ }
     requires { ⌜ done ≤ metaPages (labelIn state) + 1 ⌝ }
     ensures { λ r. ⌜ (r ≡ formatState (labelIn state) state done) × (now (ssd .exit) ≡ putPage (now (ssd .entry)) (formatStore (labelIn state) (now (table .entry)) (windowIn state) done .place) (formatStore (labelIn state) (now (table .entry)) (windowIn state) done .bytes)) ⌝ }

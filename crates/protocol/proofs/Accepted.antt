@@ -20,8 +20,8 @@ use Rattle.protocol.specs.Judge.{badRecord, wrongLength, badRows, wrongP
 use Rattle.record.specs.Rule.{stepsTest, recordTest}
 use Rattle.record.proofs.RecordLaws.{parts, window-length, window-array}
 use Rattle.protocol.proofs.model.Base.{Window}
-use Rattle.protocol.proofs.Windows.{nums, window-of}
-use Rattle.protocol.proofs.Tables.{Rows}
+use Rattle.protocol.proofs.refine.Windows.{nums, window-of}
+use Rattle.protocol.proofs.refine.Tables.{Rows}
 use Rattle.protocol.proofs.Judged.{passed, passed-first}
 use Rattle.protocol.proofs.Sound.{Sound, sound-of, rows-legal}
 use Rattle.protocol.proofs.why.RowsRules.{agree-same}

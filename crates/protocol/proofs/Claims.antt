@@ -12,7 +12,7 @@ use Rattle.layout.specs.declared.Slot.{Slot}
 use Rattle.layout.specs.declared.Block.{Block}
 use Rattle.layout.specs.declared.Label.{Label}
 use Rattle.layout.specs.Places.{dataPlace, tableLength}
-use Rattle.protocol.specs.Paper.{refused, inSlot}
+use Rattle.protocol.specs.Reply.{refused, inSlot}
 use Rattle.protocol.specs.Box.{Box, boxAfter}
 use Rattle.protocol.specs.Plan.{Call, format, step, flush, reopen, lookUp, flushing, plan}
 use Rattle.protocol.specs.Kinds.{kind}
@@ -20,22 +20,22 @@ use Rattle.protocol.specs.Perform.{confirmed, perform}
 use Rattle.protocol.specs.Judge.{Reason, wrongPhase, isReady, judged, test}
 use Rattle.protocol.specs.Calls.{decided, effectOf, resultOf, viewOf}
 use Rattle.protocol.specs.ReferenceDisk.{MayBe}
-use Rattle.protocol.specs.Events.{World, Junk, Event, call, reopens, cut, called, lent, readOf, mayFinish, finished, handed, takenIf, reopened, struck, steps, apply, Fits}
+use Rattle.protocol.specs.Events.{World, Memory, Event, call, reopens, cut, called, lent, readOf, mayFinish, finished, withMemory, takenIf, reopened, crashed, steps, apply, Fits}
 use Rattle.protocol.specs.Demand3.{Reopening, own, whole, broken, before, reopenedBox, finishes, Mends}
 use Rattle.layout.proofs.Booleans.{clash, and-parts}
 use Rattle.protocol.proofs.model.Model as model
 use Rattle.protocol.proofs.model.Model.{Plain, Mending}
 use Rattle.protocol.proofs.model.View as seen
-use Rattle.protocol.proofs.Windows.{length-nums}
+use Rattle.protocol.proofs.refine.Windows.{length-nums}
 use Rattle.protocol.proofs.Judged.{passed}
 use Rattle.protocol.proofs.Sorted.{Sorted, is-format, is-reopen, is-step, is-service, sorted}
-use Rattle.protocol.proofs.ReadyCalls.{worldOf}
-use Rattle.protocol.proofs.Passes.{flush-judged, step-judged, some-pending, pending-rule}
-use Rattle.protocol.proofs.Views.{view-number, read-view, look-page}
-use Rattle.protocol.proofs.Reopens.{reopenedCore, reopen-shape}
-use Rattle.protocol.proofs.MendingCalls.{finishedWorld, finish-allowed, fewer, mendedCore, mended-here, mended-core-shape, mended-core-abs, step-plan, step-world, reopened-here, reopen-world}
-use Rattle.protocol.proofs.Reachable.{at-core, inv-stored, reopen-taken, struck-inv, table-right}
-use Rattle.protocol.proofs.Abstract.{Core, phaseFor, boxOfCore, abs, Shape, Phased, is-ready, is-mending, Inv}
+use Rattle.protocol.proofs.refine.ReadyCalls.{worldOf}
+use Rattle.protocol.proofs.refine.Passes.{flush-judged, step-judged, some-pending, pending-rule}
+use Rattle.protocol.proofs.refine.Views.{view-number, read-view, look-page}
+use Rattle.protocol.proofs.refine.Reopens.{reopenedCore, reopen-shape}
+use Rattle.protocol.proofs.refine.MendingCalls.{finishedWorld, finish-allowed, fewer, mendedCore, mended-here, mended-core-shape, mended-core-abs, step-plan, step-world, reopened-here, reopen-world}
+use Rattle.protocol.proofs.Reachable.{at-core, inv-stored, reopen-taken, crashed-inv, table-right}
+use Rattle.protocol.proofs.refine.Abstract.{Core, phaseFor, boxOfCore, abs, Shape, Phased, is-ready, is-mending, Inv}
 
 pub ready-off : (r : Bool) → isReady (phaseFor r) ≡ true → r ≡ false
 ready-off true e = sym e
@@ -167,11 +167,11 @@ mends-of l w I r = at-core (λ v. isReady (v .box .state .phase) ≡ false → M
 unfoldable pub before-inv : (l : Label) (e : Event) (w : World) → Fits l e w → Inv l w → Inv l (before e w)
 before-inv l (call c) w f I = I
 before-inv l (reopens j) w f I = I
-before-inv l (cut c a j) w f I = struck-inv l c a w (f .0) I
+before-inv l (cut c a j) w f I = crashed-inv l c a w (f .0) I
 
-pub handed-taken : (l : Label) (w : World) (I : Inv l w) (x : Box) → x .images ≡ w .box .images → length (x .table) ≡ tableLength l
+pub memory-taken : (l : Label) (w : World) (I : Inv l w) (x : Box) → x .images ≡ w .box .images → length (x .table) ≡ tableLength l
     → refused (resultOf reopen x .said) ≡ false
-handed-taken l w I x im h = reopen-taken l (I .core) (I .plain) (I .shape .images) (inv-stored I) x
+memory-taken l w I x im h = reopen-taken l (I .core) (I .plain) (I .shape .images) (inv-stored I) x
     (im ∙ ap (λ (y : Box). y .images) (I .is-core)) h
 
 pub own-size : (l : Label) (w : World) (I : Inv l w) → length (w .box .table) ≡ tableLength l
@@ -179,9 +179,9 @@ own-size l w I = ap (λ (x : Box). length (x .table)) (I .is-core) ∙ I .shape 
 
 pub taken-of : (l : Label) (w : World) → Inv l w → (e : Event) → Fits l e w → Reopening l e
     → refused (resultOf reopen (reopenedBox e w) .said) ≡ false
-taken-of l w I e f own = handed-taken l w I (w .box) refl (own-size l w I)
-taken-of l w I e f (whole j h) = handed-taken l w I (handed j (w .box)) refl h
-taken-of l w I e f (broken c a j h) = handed-taken l (struck c a w) (struck-inv l c a w (f .0) I) (handed j (struck c a w .box)) refl h
+taken-of l w I e f own = memory-taken l w I (w .box) refl (own-size l w I)
+taken-of l w I e f (whole j h) = memory-taken l w I (withMemory j (w .box)) refl h
+taken-of l w I e f (broken c a j h) = memory-taken l (crashed c a w) (crashed-inv l c a w (f .0) I) (withMemory j (crashed c a w .box)) refl h
 
 -- a finished reopening: each block reads as one of its contents
 called-box : (c : Call) (w : World) → called c w .box ≡ boxAfter (resultOf c (w .box))
@@ -262,17 +262,17 @@ step-allowed l w I f b h = at-core (λ v. finished step (resultOf step (v .box))
             (rw (mended-core-abs l (I .core) (I .shape) (I .plain) M r) (mended-here l (I .core) (I .shape) (I .plain) M r)) done (b .0) h)
 
 -- a reopening that is not refused
-pub reopened-taken : (j : Junk) (w : World) → refused (resultOf reopen (handed j (w .box)) .said) ≡ false
-    → reopened j w ≡ called reopen (record { box = handed j (w .box); disk = w .disk })
+pub reopened-taken : (j : Memory) (w : World) → refused (resultOf reopen (withMemory j (w .box)) .said) ≡ false
+    → reopened j w ≡ called reopen (record { box = withMemory j (w .box); disk = w .disk })
 unfolding reopened
-reopened-taken j w e = ap (λ (r : Bool). takenIf r w (called reopen (record { box = handed j (w .box); disk = w .disk }))) e
+reopened-taken j w e = ap (λ (r : Bool). takenIf r w (called reopen (record { box = withMemory j (w .box); disk = w .disk }))) e
 
-junk-allowed : (l : Label) (j : Junk) (v : World) → Inv l v → finished reopen (resultOf reopen (handed j (v .box))) ≡ true → (b : Block)
+memory-allowed : (l : Label) (j : Memory) (v : World) → Inv l v → finished reopen (resultOf reopen (withMemory j (v .box))) ≡ true → (b : Block)
     → b .0 < l .blocks → MayBe (v .disk) b (readOf (reopened j v .box) b)
-junk-allowed l j v I f b h =
-    let r = refused (resultOf reopen (handed j (v .box)) .said) in
-    let q = isReady (resultOf reopen (handed j (v .box)) .state .phase) in
-    rw (reopened-taken j v (not-true r (and-parts (not r) (true && q) f .0))) (reopen-allowed l v I (handed j (v .box)) refl f b h)
+memory-allowed l j v I f b h =
+    let r = refused (resultOf reopen (withMemory j (v .box)) .said) in
+    let q = isReady (resultOf reopen (withMemory j (v .box)) .state .phase) in
+    rw (reopened-taken j v (not-true r (and-parts (not r) (true && q) f .0))) (reopen-allowed l v I (withMemory j (v .box)) refl f b h)
 
 -- a call that is neither a step nor a reopening finishes none
 no-finish : {A : Type 0} (c : Call) (w : World) → mayFinish (kind c) ≡ false → finished c (resultOf c (w .box)) ≡ true → A
@@ -291,5 +291,5 @@ call-allowed l w I (is-service {c} q _) g b h = no-finish c w (ap mayFinish q) g
 pub allowed-of : (l : Label) (w : World) → Inv l w → (e : Event) → Fits l e w → finishes e w ≡ true → (b : Block) → b .0 < l .blocks
     → MayBe (before e w .disk) b (readOf (apply e w .box) b)
 allowed-of l w I (call c) f g b h = call-allowed l w I (sorted c) g b h
-allowed-of l w I (reopens j) f g b h = junk-allowed l j w I g b h
-allowed-of l w I (cut c a j) f g b h = junk-allowed l j (struck c a w) (struck-inv l c a w (f .0) I) g b h
+allowed-of l w I (reopens j) f g b h = memory-allowed l j w I g b h
+allowed-of l w I (cut c a j) f g b h = memory-allowed l j (crashed c a w) (crashed-inv l c a w (f .0) I) g b h

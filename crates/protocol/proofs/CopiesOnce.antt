@@ -12,7 +12,7 @@ use Rattle.layout.specs.declared.Block.{Block}
 use Rattle.layout.specs.declared.Label.{Label}
 use Rattle.protocol.specs.declared.Condition.{Condition}
 use Rattle.protocol.specs.declared.Condition.the-variants.{NotCached, Clean, Dirty, Writing, Fetching}
-use Rattle.protocol.specs.Paper.{Paper, refusal, answer, copiedOut, overwrite, nothingToDo, announced}
+use Rattle.protocol.specs.Reply.{Reply, refusal, answer, copiedOut, overwrite, nothingToDo, announced}
 use Rattle.protocol.specs.Rows.{rowFlags, setFlags, dirty, writing, used, withoutDirty}
 use Rattle.record.specs.Record.{labelIn}
 use Rattle.protocol.specs.Box.{Box, left, boxAfter}
@@ -24,16 +24,16 @@ use Rattle.protocol.specs.Judge.{Reason, judged}
 use Rattle.protocol.specs.Calls.{decided, effectOf, resultOf}
 use Rattle.protocol.specs.Beside.{CopiesOnce}
 use Rattle.layout.proofs.Booleans.{clash}
-use Rattle.protocol.proofs.Flags.{Flags, f0, f1, f3, f5, f7, f9, f11, f13, f15}
-use Rattle.protocol.proofs.Sweeps.{Alike, alike-same, Swept, took, swept}
+use Rattle.protocol.proofs.refine.Flags.{Flags, f0, f1, f3, f5, f7, f9, f11, f13, f15}
+use Rattle.protocol.proofs.refine.Sweeps.{Alike, alike-same, Swept, took, swept}
 use Rattle.protocol.proofs.Accepted.{Legal, service-legal}
 
 -- the answers are not the same
-number : Paper → ℕ
+number : Reply → ℕ
 number (refusal n) = 0
 number (answer n s) = n
 
-isRefusal : Paper → Bool
+isRefusal : Reply → Bool
 isRefusal (refusal n) = true
 isRefusal (answer n s) = false
 
@@ -42,7 +42,7 @@ data CopyingOut (x : Box) (b : Block) : Move → Type 0 where
   swept-dirty : (v : Victim) → sweep (labelIn (x .state)) (x .table) (x .state .hand) ≡ some v
       → dirty (rowFlags (v .table) (v .slot)) ≡ true → CopyingOut x b (copies (v .slot) copiedOut (v .table) (v .slot))
 
-other : {A : Type 0} {p : Paper} (n : ℕ) → number p ≡ n → n ≢ 103 → p ≡ copiedOut → A
+other : {A : Type 0} {p : Reply} (n : ℕ) → number p ≡ n → n ≢ 103 → p ≡ copiedOut → A
 unfolding number
 other n e d q = absurd (d (sym e ∙ ap number q))
 

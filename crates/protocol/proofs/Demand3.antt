@@ -14,13 +14,13 @@ use Rattle.layout.specs.declared.Label.{Label}
 use Rattle.layout.specs.Places.{labelOf, metaPages, tableLength}
 use Rattle.layout.specs.MetaPage.{encodeMeta, rowsOn, stampOf}
 use Rattle.record.specs.declared.Phase.the-variants.{Ready}
-use Rattle.protocol.specs.Paper.{refused}
+use Rattle.protocol.specs.Reply.{refused}
 use Rattle.protocol.specs.Rows.{valid}
 use Rattle.protocol.specs.Box.{Box}
 use Rattle.protocol.specs.Recovery.{metasOf, entryIn, Newest, newestOf}
 use Rattle.protocol.specs.Plan.{format}
 use Rattle.protocol.specs.Calls.{resultOf}
-use Rattle.protocol.specs.ReferenceDisk.{settled}
+use Rattle.protocol.specs.ReferenceDisk.{durable}
 use Rattle.protocol.specs.Events.{World, Event, run, formatted, startOf, AllFit}
 use Rattle.protocol.specs.Demand3.{Safe, Demand3}
 use Rattle.protocol.specs.Beside.{UpdateBeforeData}
@@ -28,17 +28,17 @@ use Rattle.layout.proofs.Booleans.{clash}
 use Rattle.protocol.proofs.model.Base.{Window, nil-window, has-nil}
 use Rattle.protocol.proofs.model.Model as model
 use Rattle.protocol.proofs.model.Model.{Row, Plain}
-use Rattle.protocol.proofs.Windows.{nums}
-use Rattle.protocol.proofs.Flags.{rowOf, f0}
-use Rattle.protocol.proofs.Tables.{rowAt, Rows}
-use Rattle.protocol.proofs.Metas.{metas-at, length-metas, newest-none}
-use Rattle.protocol.proofs.Stores.{page-stamp, page-entry, page-legal}
-use Rattle.protocol.proofs.Formatting.{freeTable, Formatted, whole-format}
+use Rattle.protocol.proofs.refine.Windows.{nums}
+use Rattle.protocol.proofs.refine.Flags.{rowOf, f0}
+use Rattle.protocol.proofs.refine.Tables.{rowAt, Rows}
+use Rattle.protocol.proofs.refine.Metas.{metas-at, length-metas, newest-none}
+use Rattle.protocol.proofs.refine.Stores.{page-stamp, page-entry, page-legal}
+use Rattle.protocol.proofs.refine.Formatting.{freeTable, Formatted, whole-format}
 use Rattle.protocol.proofs.Reachable.{run-inv}
 use Rattle.protocol.proofs.Claims.{views-of, reads-of, looks-of, allowed-of, taken-of, mends-of, flushes-of}
 use Rattle.protocol.proofs.Keeps.{keeps-of}
 use Rattle.protocol.proofs.UpdateFirst.{update-first}
-use Rattle.protocol.proofs.Abstract.{Core, boxOfCore, entAt, abs, Pages, Shape, is-ready, Inv}
+use Rattle.protocol.proofs.refine.Abstract.{Core, boxOfCore, entryRow, abs, Pages, Shape, is-ready, Inv}
 
 -- what is safe of every reachable world
 pub safe : (l : Label) (w : World) → Inv l w → Safe l w
@@ -118,9 +118,9 @@ module _ (l : Label) (x y : Box) (F : Formatted l x y) where
         free-word (tableLength l) (2 * (240 * (s / 240) + s % 240) + 1),
       ))
 
-  ent-free : (s : ℕ) → entAt l (metasOf l (F .ssd)) s ≡ Row.free
-  unfolding entAt rowOf
-  ent-free s = go (decLt s (l .slots))
+  entry-free : (s : ℕ) → entryRow l (metasOf l (F .ssd)) s ≡ Row.free
+  unfolding entryRow rowOf
+  entry-free s = go (decLt s (l .slots))
     where
       go : Dec (s < l .slots) → cond (ltb s (l .slots))
           (rowOf (entryIn (metasOf l (F .ssd)) (record { 0 = s }) .block .0) (entryIn (metasOf l (F .ssd)) (record { 0 = s }) .flags))
@@ -139,9 +139,9 @@ module _ (l : Label) (x y : Box) (F : Formatted l x y) where
     rows = free-rows l;
   }
 
-  swin-nil : abs l core .swin ≡ []
+  stored-window-nil : abs l core .storedWindow ≡ []
   unfolding abs nums
-  swin-nil = ap (λ (n : Newest). nums (n .window)) newest-is
+  stored-window-nil = ap (λ (n : Newest). nums (n .window)) newest-is
 
   no-row : {A : Type 0} (f : Row → Bool) → f Row.free ≡ false → (s : ℕ) → f (abs l core .row s) ≡ true → A
   unfolding abs
@@ -153,15 +153,15 @@ module _ (l : Label) (x y : Box) (F : Formatted l x y) where
     phase = refl;
     in-range = λ s v. no-row model.valid refl s v;
     in-blocks = λ s v. no-row model.valid refl s v;
-    win-rule = nil-window (l .slots);
-    swin-rule = rw swin-nil (nil-window (l .slots));
-    same-valid = λ s. rw (free-row l s, ent-free s);
-    same-blk = λ s. rw (free-row l s, ent-free s);
-    dirty-below = λ s v. no-row model.dty refl s v;
-    open-row = λ s. ap model.opn (free-row l s) ∙ sym (has-nil s);
-    win-stored = λ s h. clash h (has-nil s);
-    stored-open = λ s h. clash (rw swin-nil at h) (has-nil s);
-    settled = λ _ s h. clash (rw swin-nil at h) (has-nil s);
+    window-rule = nil-window (l .slots);
+    stored-window-rule = rw stored-window-nil (nil-window (l .slots));
+    same-valid = λ s. rw (free-row l s, entry-free s);
+    same-block = λ s. rw (free-row l s, entry-free s);
+    dirty-below = λ s v. no-row model.dirtyRow refl s v;
+    open-row = λ s. ap model.openRow (free-row l s) ∙ sym (has-nil s);
+    window-stored = λ s h. clash h (has-nil s);
+    stored-open = λ s h. clash (rw stored-window-nil at h) (has-nil s);
+    settled = λ _ s h. clash (rw stored-window-nil at h) (has-nil s);
     once = λ s t v. no-row model.valid refl s v;
     cached = λ s v. no-row model.valid refl s v;
     on-disk = λ b _. refl;
@@ -169,7 +169,7 @@ module _ (l : Label) (x y : Box) (F : Formatted l x y) where
     loose = λ b _. List·Memᴰ·head refl;
     stamps = ap (λ (n : Newest). n .stamp) newest-is;
     short = omega arith;
-    budget = omega (arith, ap length swin-nil);
+    budget = omega (arith, ap length stored-window-nil);
   }
 
   start-inv : Inv l (startOf l (boxOfCore l core))

@@ -14,7 +14,7 @@ use Rattle.layout.specs.declared.Block.{Block}
 use Rattle.layout.specs.declared.Label.{Label}
 use Rattle.layout.specs.Places.{blockPlace}
 use Rattle.protocol.specs.declared.Condition.{Condition}
-use Rattle.protocol.specs.Paper.{Paper, refused}
+use Rattle.protocol.specs.Reply.{Reply, refused}
 use Rattle.protocol.specs.Rows.{rowFlags, setRow, valid, dirty, writing, withWriting, openRows}
 use Rattle.record.specs.Record.{labelIn, windowIn, largestStamp}
 use Rattle.protocol.specs.Box.{Box}
@@ -26,11 +26,11 @@ use Rattle.protocol.specs.Kinds.{toServe, toSettle, toWrite, toFetch, to
 use Rattle.protocol.specs.Judge.{wrongLength, blockTooHigh, slotOpen, wrongState, windowFull, stampsSpent, lengthTest, test, judged}
 use Rattle.protocol.specs.ReferenceDisk.{Disk, fedCall}
 use Rattle.layout.proofs.Booleans.{clash, and-parts}
-use Rattle.protocol.proofs.model.Model.{dty, opn, blk}
-use Rattle.protocol.proofs.Flags.{rowOf, Flags, f5, f7, LegalRow, changed-open, changed-row}
-use Rattle.protocol.proofs.Tables.{rowAt, at-open, at-dirty}
-use Rattle.protocol.proofs.Conditions.{Held, Stands, absent, is-clean, is-dirty, is-writing, is-fetching, stands}
-use Rattle.protocol.proofs.Sweeps.{Alike, alike-same, next-low, Swept, took, stuck, swept}
+use Rattle.protocol.proofs.model.Model.{dirtyRow, openRow, blockOf}
+use Rattle.protocol.proofs.refine.Flags.{rowOf, Flags, f5, f7, LegalRow, changed-open, changed-row}
+use Rattle.protocol.proofs.refine.Tables.{rowAt, at-open, at-dirty}
+use Rattle.protocol.proofs.refine.Conditions.{Held, Stands, absent, is-clean, is-dirty, is-writing, is-fetching, stands}
+use Rattle.protocol.proofs.refine.Sweeps.{Alike, alike-same, next-low, Swept, took, stuck, swept}
 use Rattle.record.proofs.WindowLaws.{take-array}
 use Rattle.protocol.proofs.Sound.{Sound, room, sound-alike, sound-uses, sound-copies, sound-opens, sound-closes}
 use Rattle.protocol.proofs.Judged.{passed}
@@ -47,11 +47,11 @@ pub record Opening (x : Box) (s : Slot) (b : Block) (f : ℕ) (v : List ℕ) (ha
   pub alike : Alike (labelIn (x .state)) (x .table) v
   pub hand-low : hand .0 < x .state .label .slots
   pub row : LegalRow (labelIn (x .state)) (b .0) f
-  pub is-open : opn (rowOf (b .0) (f % 8)) ≡ true
-  pub block-is : blk (rowOf (b .0) (f % 8)) ≡ b .0
+  pub is-open : openRow (rowOf (b .0) (f % 8)) ≡ true
+  pub block-is : blockOf (rowOf (b .0) (f % 8)) ≡ b .0
   pub block-low : b .0 < x .state .label .blocks
-  pub was-shut : opn (rowAt (x .table) (s .0)) ≡ false
-  pub was-clean : dty (rowAt (x .table) (s .0)) ≡ false
+  pub was-shut : openRow (rowAt (x .table) (s .0)) ≡ false
+  pub was-clean : dirtyRow (rowAt (x .table) (s .0)) ≡ false
   pub fresh : Absent (labelIn (x .state)) (x .table) (b .0) ⊎ Held (labelIn (x .state)) (x .table) (b .0) (s .0)
   pub few : openRows (x .table) < 63
   pub stamps : x .state .newest < largestStamp - 63
@@ -69,11 +69,11 @@ abbrev pub Quiet : Aim → Type 0
 Quiet a = (d : Disk) → fedCall (a .purpose) (a .block) d ≡ d
 
 pub data Does (x : Box) : Aim → Move → Type 0 where
-  does-nothing : {a : Aim} {said : Paper} → Quiet a → refused said ≡ false → Does x a (stay said)
+  does-nothing : {a : Aim} {said : Reply} → Quiet a → refused said ≡ false → Does x a (stay said)
   does-use : {a : Aim} {b : ℕ} {s : Slot} → Quiet a → Held (labelIn (x .state)) (x .table) b (s .0) → Does x a (uses s)
   does-open : {a : Aim} {s : Slot} {b : Block} {f : ℕ} {v : List ℕ} {hand : Slot} → Quiet a → Opening x s b f v hand
       → Does x a (opens s b f v hand)
-  does-copy : {a : Aim} {s : Slot} {said : Paper} {v : List ℕ} {hand : Slot} → Quiet a → refused said ≡ false → Copying x s v hand
+  does-copy : {a : Aim} {s : Slot} {said : Reply} {v : List ℕ} {hand : Slot} → Quiet a → refused said ≡ false → Copying x s v hand
       → Does x a (copies s said v hand)
   -- a write lands in its block's slot, open or dirty; a fetch in one that is open
   does-land : {b : Block} {s : Slot} {page : List ℕ} → Held (labelIn (x .state)) (x .table) (b .0) (s .0) → b .0 < x .state .label .blocks
@@ -81,7 +81,7 @@ pub data Does (x : Box) : Aim → Move → Type 0 where
   does-fetch : {a : Aim} {b : Block} {s : Slot} → Quiet a → Held (labelIn (x .state)) (x .table) (b .0) (s .0) → b .0 < x .state .label .blocks
       → writing (rowFlags (x .table) s) ≡ true → Does x a (lands s (pageAt (x .images .hdd) (blockPlace (labelIn (x .state)) b)))
   -- a flush with nothing to confirm, and with something
-  does-rest : {b : Block} {said : Paper} → refused said ≡ false → x .state .unconfirmed ≡ false → Does x (aims b toSettle) (stay said)
+  does-rest : {b : Block} {said : Reply} → refused said ≡ false → x .state .unconfirmed ≡ false → Does x (aims b toSettle) (stay said)
   does-confirm : {b : Block} → x .state .unconfirmed ≡ true → x .state .newest < largestStamp → Does x (aims b toSettle) confirms
 
 -- it is no refusal
@@ -108,7 +108,7 @@ does-said (does-confirm u n) = refl
 pub opening-sound : {x : Box} {s : Slot} {b : Block} {f : ℕ} {v : List ℕ} {hand : Slot} → Opening x s b f v hand
     → {w : List Slot} → Sound (labelIn (x .state)) (x .table) w → Sound (labelIn (x .state)) (setRow v s b f) (w ++ (s ∷ []))
 opening-sound {s = s} {b = b} {f = f} O S =
-    sound-opens (sound-alike S (O .alike)) (s .0) (b .0) f (O .low) (O .row) (O .is-open) (ap opn (O .alike .row (s .0)) ∙ O .was-shut)
+    sound-opens (sound-alike S (O .alike)) (s .0) (b .0) f (O .low) (O .row) (O .is-open) (ap openRow (O .alike .row (s .0)) ∙ O .was-shut)
     (room S (O .few))
 
 abbrev Kept : Box → Move → Type 0
@@ -149,7 +149,7 @@ module _ (x : Box) (L : Legal x) where
 
   -- a slot is swept for
   sweeping : {a : Aim} → Quiet a → (b : Block) (f : ℕ) → b .0 < x .state .label .blocks → Flags f → valid f ≡ true
-      → opn (rowOf (b .0) (f % 8)) ≡ true → blk (rowOf (b .0) (f % 8)) ≡ b .0 → Absent lab (x .table) (b .0) → openRows (x .table) < 63
+      → openRow (rowOf (b .0) (f % 8)) ≡ true → blockOf (rowOf (b .0) (f % 8)) ≡ b .0 → Absent lab (x .table) (b .0) → openRows (x .table) < 63
       → {o : Option Victim} → Swept lab (x .table) o
       → (storesMeta (takes lab b f o) && leb (largestStamp - 63) (x .state .newest)) ≡ false → Does x a (takes lab b f o)
   sweeping z b f bl k v o-row b-row none-holds few stuck = λ spent. does-nothing z refl
@@ -166,8 +166,8 @@ module _ (x : Box) (L : Legal x) where
         is-open = o-row;
         block-is = b-row;
         block-low = bl;
-        was-shut = ap opn (sym (A .row (u .slot .0))) ∙ at-open lab (u .table) (A .legal) (u .slot .0) low ∙ shut;
-        was-clean = ap dty (sym (A .row (u .slot .0))) ∙ at-dirty lab (u .table) (A .legal) (u .slot .0) low ∙ e;
+        was-shut = ap openRow (sym (A .row (u .slot .0))) ∙ at-open lab (u .table) (A .legal) (u .slot .0) low ∙ shut;
+        was-clean = ap dirtyRow (sym (A .row (u .slot .0))) ∙ at-dirty lab (u .table) (A .legal) (u .slot .0) low ∙ e;
         fresh = inl none-holds;
         few = few;
         stamps = leb-false _ _ spent;
@@ -189,8 +189,8 @@ module _ (x : Box) (L : Legal x) where
         alike = same;
         hand-low = L .hand-low;
         row = subst (λ (n : ℕ). LegalRow lab n flags) (H .block) (changed-row (L .rows s (H .low)) C);
-        is-open = subst (λ (n : ℕ). opn (rowOf n (flags % 8)) ≡ true) (H .block) (ap opn (C .row));
-        block-is = subst (λ (n : ℕ). blk (rowOf n (flags % 8)) ≡ n) (H .block) (ap blk (C .row));
+        is-open = subst (λ (n : ℕ). openRow (rowOf n (flags % 8)) ≡ true) (H .block) (ap openRow (C .row));
+        block-is = subst (λ (n : ℕ). blockOf (rowOf n (flags % 8)) ≡ n) (H .block) (ap blockOf (C .row));
         block-low = bl;
         was-shut = at-open lab (x .table) (L .rows) s (H .low) ∙ w;
         was-clean = at-dirty lab (x .table) (L .rows) s (H .low) ∙ d;

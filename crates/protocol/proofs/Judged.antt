@@ -14,7 +14,7 @@ use Rattle.protocol.specs.Kinds.{Kind, kind}
 use Rattle.protocol.specs.Judge.{Reason, numberOf, test, askedFirst, askedThen, chain, firstOf, judged}
 use Rattle.protocol.specs.Calls.{decided, effectOf, resultOf}
 use Rattle.protocol.proofs.Reasons.{number-is, belongs}
-use Rattle.protocol.proofs.Shown as computed-first
+use Rattle.protocol.proofs.cases.Shown as computed-first
 
 -- no reason of a chain holds
 abbrev pub NoneHold : List Reason → (Reason → Bool) → Type 0

@@ -11,7 +11,7 @@ use Rattle.layout.specs.declared.Slot.{Slot}
 use Rattle.layout.specs.declared.Block.{Block}
 use Rattle.layout.specs.declared.Label.{Label}
 use Rattle.layout.specs.Places.{tableLength}
-use Rattle.protocol.specs.Paper.{refused}
+use Rattle.protocol.specs.Reply.{refused}
 use Rattle.protocol.specs.Rows.{valid}
 use Rattle.protocol.specs.Box.{Box}
 use Rattle.protocol.specs.Recovery.{metasOf}
@@ -19,29 +19,29 @@ use Rattle.protocol.specs.Plan.{Call, step, reopen, lowestPage}
 use Rattle.protocol.specs.Judge.{Reason, isReady, judged}
 use Rattle.protocol.specs.Calls.{resultOf}
 use Rattle.protocol.specs.ReferenceDisk.{Disk}
-use Rattle.protocol.specs.Events.{World, Junk, Arrival, Event, call, reopens, cut, called, handed, takenIf, reopened, struck, apply, run, CallFits, Fits, AllFit}
+use Rattle.protocol.specs.Events.{World, Memory, Arrival, Event, call, reopens, cut, called, withMemory, takenIf, reopened, crashed, apply, run, CallFits, Fits, AllFit}
 use Rattle.protocol.specs.Demand3.{Outside, Place, place, Reopening, own, whole, broken, before, NotYet, Back, AllBack, Kept}
 use Rattle.layout.proofs.Booleans.{Told, told, told-true, told-false, clash}
 use Rattle.protocol.proofs.model.Base.{has}
 use Rattle.protocol.proofs.model.Model as model
-use Rattle.protocol.proofs.model.Model.{Plain, Stored, Mending, dty, opn, blk, shut, revived}
+use Rattle.protocol.proofs.model.Model.{Plain, Stored, Mending, dirtyRow, openRow, blockOf, shut, revived}
 use Rattle.protocol.proofs.model.Model as model
-use Rattle.protocol.proofs.model.Rows.{shut-dty}
+use Rattle.protocol.proofs.model.Rows.{shut-dirty}
 use Rattle.protocol.proofs.model.View as seen
 use Rattle.protocol.proofs.model.View.{Found, found}
 use Rattle.protocol.proofs.model.Reopened.{fixed}
 use Rattle.protocol.proofs.model.Finished.{over-ready}
 use Rattle.protocol.proofs.model.Places as places
 use Rattle.protocol.proofs.model.Places.{shutAt, first, again, mended-like, Alike}
-use Rattle.protocol.proofs.Tables.{rowAt, at-open, at-block, at-valid, at-dirty}
-use Rattle.protocol.proofs.ReadyCalls.{refused-same, worldOf}
-use Rattle.protocol.proofs.Reopens.{reopenedCore, reopen-shape, reopen-abs, dirty-ent}
-use Rattle.protocol.proofs.Views.{asSlot}
-use Rattle.protocol.proofs.MendingCalls.{mendedCore, mended-here, mended-core-shape, mended-core-abs, step-world, reopened-here, reopen-world}
-use Rattle.protocol.proofs.Reachable.{Mendable, steps, reopens-it, mendable, inv-stored, struck-or, struck-inv, table-right}
-use Rattle.protocol.proofs.Claims.{unready-on, reopened-taken, before-inv, handed-taken, own-size}
+use Rattle.protocol.proofs.refine.Tables.{rowAt, at-open, at-block, at-valid, at-dirty}
+use Rattle.protocol.proofs.refine.ReadyCalls.{refused-same, worldOf}
+use Rattle.protocol.proofs.refine.Reopens.{reopenedCore, reopen-shape, reopen-abs, dirty-entry}
+use Rattle.protocol.proofs.refine.Views.{asSlot}
+use Rattle.protocol.proofs.refine.MendingCalls.{mendedCore, mended-here, mended-core-shape, mended-core-abs, step-world, reopened-here, reopen-world}
+use Rattle.protocol.proofs.Reachable.{Mendable, steps, reopens-it, mendable, inv-stored, crashed-or, crashed-inv, table-right}
+use Rattle.protocol.proofs.Claims.{unready-on, reopened-taken, before-inv, memory-taken, own-size}
 use Rattle.protocol.proofs.PlaceOf.{modelPlace, model-outside, place-model}
-use Rattle.protocol.proofs.Abstract.{Core, boxOfCore, entAt, abs, Shape, Phased, is-ready, is-mending, Inv}
+use Rattle.protocol.proofs.refine.Abstract.{Core, boxOfCore, entryRow, abs, Shape, Phased, is-ready, is-mending, Inv}
 
 -- a world since a reopening began: mending, or finished
 pub record Under (l : Label) (w : World) : Type 0 where
@@ -75,8 +75,8 @@ module _ (l : Label) (k : Core) (S : Shape l k) (p : Plain) (M : Mending (abs l 
   record Named : Type 0 where
     low : s < l .slots
     held : model.valid (rowAt (k .table) s) ≡ true
-    blocked : blk (rowAt (k .table) s) ≡ b
-    shut-row : opn (rowAt (k .table) s) ≡ false
+    blocked : blockOf (rowAt (k .table) s) ≡ b
+    shut-row : openRow (rowAt (k .table) s) ≡ false
 
   none-some : {A : Type 0} {t : ℕ} → none ≡ some t → A
   none-some q = let z : _≡_ {A = ℕ} 0 1 = cc in absurd (omega arith)
@@ -91,21 +91,21 @@ module _ (l : Label) (k : Core) (S : Shape l k) (p : Plain) (M : Mending (abs l 
     where
       go : {o : Option ℕ} → Found (rowAt (k .table)) (l .slots) b o → shutAt (abs l k) o ≡ some s → Named
       go (Found.nowhere h) q = none-some q
-      go (Found.at t i v f) q = by (told (opn (rowAt (k .table) t)))
+      go (Found.at t i v f) q = by (told (openRow (rowAt (k .table) t)))
         where
-          by : Told (opn (rowAt (k .table) t)) → Named
+          by : Told (openRow (rowAt (k .table) t)) → Named
           by (told-true o) = none-some (rw o at q)
           by (told-false o) =
               let r : some t ≡ some s = rw o at q in
               let z : t ≡ s = ap number-of r in
               record { low = rw (← z) i; held = rw (← z) v; blocked = rw (← z) f; shut-row = rw (← z) o }
 
-  row-shut : rowAt (k .table) s ≡ shut (entAt l (metasOf l (k .ssd)) s)
+  row-shut : rowAt (k .table) s ≡ shut (entryRow l (metasOf l (k .ssd)) s)
   unfolding abs
-  row-shut = M .rows s ∙ go (told (has (abs l k .swin) s))
+  row-shut = M .rows s ∙ go (told (has (abs l k .storedWindow) s))
     where
-      go : Told (has (abs l k .swin) s) → revived (has (abs l k .swin) s) (abs l k .ent s) ≡ shut (abs l k .ent s)
-      go (told-true h) = clash (named .held) (ap model.valid (M .rows s ∙ ap (λ (t : Bool). revived t (abs l k .ent s)) h))
+      go : Told (has (abs l k .storedWindow) s) → revived (has (abs l k .storedWindow) s) (abs l k .entry s) ≡ shut (abs l k .entry s)
+      go (told-true h) = clash (named .held) (ap model.valid (M .rows s ∙ ap (λ (t : Bool). revived t (abs l k .entry s)) h))
       go (told-false h) = rw h
 
   pub back-of : Back l (boxOfCore l k) (record { 0 = b }) (record { 0 = s })
@@ -115,8 +115,8 @@ module _ (l : Label) (k : Core) (S : Shape l k) (p : Plain) (M : Mending (abs l 
       record {
         valid-row = v;
         block = sym (at-block l (k .table) (S .rows) s (n .low) v) ∙ n .blocked;
-        stored-dirty = sym (at-dirty l (k .table) (S .rows) s (n .low)) ∙ ap dty row-shut ∙ shut-dty (entAt l (metasOf l (k .ssd)) s)
-            ∙ dirty-ent l k p (S .images) (M .images) s (n .low);
+        stored-dirty = sym (at-dirty l (k .table) (S .rows) s (n .low)) ∙ ap dirtyRow row-shut ∙ shut-dirty (entryRow l (metasOf l (k .ssd)) s)
+            ∙ dirty-entry l k p (S .images) (M .images) s (n .low);
         closed = sym (at-open l (k .table) (S .rows) s (n .low)) ∙ n .shut-row;
       }
 
@@ -193,33 +193,33 @@ module _ (l : Label) (w : World) (U : Under l w) (b : ℕ) where
       (core-call l (U .core) (U .shape) (U .plain) (U .mending) (unready-on (U .core .recovering) q) (w .disk) b c g
       (judged c (boxOfCore l (U .core))) refl)
 
-  goes-struck : isReady (w .box .state .phase) ≡ false → (c : Call) (a : Arrival) → CallFits c w → Goes l (U .core) b (struck c a w)
-  goes-struck r c a f = go (struck-or c a w)
+  goes-crashed : isReady (w .box .state .phase) ≡ false → (c : Call) (a : Arrival) → CallFits c w → Goes l (U .core) b (crashed c a w)
+  goes-crashed r c a f = go (crashed-or c a w)
     where
-      go : (struck c a w ≡ called c w) ⊎ (struck c a w ≡ w) → Goes l (U .core) b (struck c a w)
+      go : (crashed c a w ≡ called c w) ⊎ (crashed c a w ≡ w) → Goes l (U .core) b (crashed c a w)
       go (inl e) = goes-to (sym e) (goes-call r c f)
       go (inr e) = goes-to (sym e) (goes-same U b)
 
-  images-are : (j : Junk) → handed j (w .box) .images ≡ record { ssd = U .core .ssd; hdd = U .core .hdd }
+  images-are : (j : Memory) → withMemory j (w .box) .images ≡ record { ssd = U .core .ssd; hdd = U .core .hdd }
   images-are j = ap (λ (x : Box). x .images) (U .is-core)
 
-  goes-junk : (j : Junk) → Goes l (U .core) b (reopened j w)
+  goes-memory : (j : Memory) → Goes l (U .core) b (reopened j w)
   unfolding reopened
-  goes-junk j = go (refused (resultOf reopen (handed j (w .box)) .said)) refl
+  goes-memory j = go (refused (resultOf reopen (withMemory j (w .box)) .said)) refl
     where
-      go : (r : Bool) → refused (resultOf reopen (handed j (w .box)) .said) ≡ r
-          → Goes l (U .core) b (takenIf r w (called reopen (record { box = handed j (w .box); disk = w .disk })))
+      go : (r : Bool) → refused (resultOf reopen (withMemory j (w .box)) .said) ≡ r
+          → Goes l (U .core) b (takenIf r w (called reopen (record { box = withMemory j (w .box); disk = w .disk })))
       go true e = goes-same U b
       go false e =
           goes-reopen l (U .core) (U .shape) (U .plain) (U .mending .images) b (again (abs l (U .core)) (U .plain) (U .mending) b)
-          (handed j (w .box)) (images-are j)
-          (table-right l (U .core) (U .plain) (U .shape .images) (U .mending .images) (handed j (w .box)) (images-are j) e) (w .disk)
+          (withMemory j (w .box)) (images-are j)
+          (table-right l (U .core) (U .plain) (U .shape .images) (U .mending .images) (withMemory j (w .box)) (images-are j) e) (w .disk)
 
 goes-event : (l : Label) (w : World) (U : Under l w) (b : ℕ) → isReady (w .box .state .phase) ≡ false → (e : Event) → Fits l e w
     → Goes l (U .core) b (apply e w)
 goes-event l w U b r (call c) f = goes-call l w U b r c f
-goes-event l w U b r (reopens j) f = goes-junk l w U b j
-goes-event l w U b r (cut c a j) f = let G = goes-struck l w U b r c a (f .0) in goes-on G (goes-junk l (struck c a w) (G .under) b j)
+goes-event l w U b r (reopens j) f = goes-memory l w U b j
+goes-event l w U b r (cut c a j) f = let G = goes-crashed l w U b r c a (f .0) in goes-on G (goes-memory l (crashed c a w) (G .under) b j)
 
 goes-run : (l : Label) (es : List Event) (w : World) (U : Under l w) (b : ℕ) → AllFit l es w → NotYet es w → Goes l (U .core) b (run es w)
 unfolding run
@@ -264,13 +264,13 @@ first-event : (l : Label) (w : World) (I : Inv l w) (e : Event) (f : Fits l e w)
 unfolding before-inv
 first-event l w I e f own b out = first-goes l w I b out (w .box) refl (own-size l w I) (w .disk)
 first-event l w I e f (whole j h) b out =
-    goes-to (sym (reopened-taken j w (handed-taken l w I (handed j (w .box)) refl h)))
-    (first-goes l w I b out (handed j (w .box)) refl h (w .disk))
+    goes-to (sym (reopened-taken j w (memory-taken l w I (withMemory j (w .box)) refl h)))
+    (first-goes l w I b out (withMemory j (w .box)) refl h (w .disk))
 first-event l w I e f (broken c a j h) b out =
-    let J = struck-inv l c a w (f .0) I in
-    let v = struck c a w in
-    goes-to (sym (reopened-taken j v (handed-taken l v J (handed j (v .box)) refl h)))
-    (first-goes l v J b out (handed j (v .box)) refl h (v .disk))
+    let J = crashed-inv l c a w (f .0) I in
+    let v = crashed c a w in
+    goes-to (sym (reopened-taken j v (memory-taken l v J (withMemory j (v .box)) refl h)))
+    (first-goes l v J b out (withMemory j (v .box)) refl h (v .disk))
 
 -- a slot of the model
 slot-of : (o : Option ℕ) (s : Slot) → asSlot o ≡ some s → o ≡ some (s .0)

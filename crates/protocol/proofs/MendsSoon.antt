@@ -7,11 +7,11 @@ use mathlib.Core.Option.{Option, none}
 use native.Mathlib.Omega.{arith}
 use lib.ListN.{length}
 use borrow.Author.Tests.{not-true}
-use Rattle.protocol.proofs.Formatting.{steps-more}
+use Rattle.protocol.proofs.refine.Formatting.{steps-more}
 use Rattle.layout.specs.declared.Slot.{Slot}
 use Rattle.record.specs.declared.Phase.{Phase}
 use Rattle.record.specs.declared.Phase.the-variants.{Recovering}
-use Rattle.protocol.specs.Paper.{refused}
+use Rattle.protocol.specs.Reply.{refused}
 use Rattle.record.specs.Record.{windowIn}
 use Rattle.protocol.specs.Box.{Box}
 use Rattle.protocol.specs.Recovery.{offPage}
@@ -22,9 +22,9 @@ use Rattle.protocol.specs.Calls.{decided, effectOf, resultOf}
 use Rattle.protocol.specs.Events.{steps}
 use Rattle.protocol.specs.Beside.{MendsSoon}
 use Rattle.layout.proofs.Booleans.{and-parts}
-use Rattle.protocol.proofs.Windows.{length-nums, some-length}
+use Rattle.protocol.proofs.refine.Windows.{length-nums, some-length}
 use Rattle.record.proofs.WindowLaws.{take-array}
-use Rattle.protocol.proofs.MendingCalls.{fewer}
+use Rattle.protocol.proofs.refine.MendingCalls.{fewer}
 use Rattle.protocol.proofs.UpdateFirst.{none-of}
 use Rattle.protocol.proofs.Accepted.{step-legal}
 

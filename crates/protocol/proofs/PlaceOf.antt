@@ -24,20 +24,20 @@ use Rattle.protocol.specs.Demand3.{Outside, inWindow, Place, entryPlace,
 use Rattle.layout.proofs.Booleans.{Told, told, told-true, told-false, clash}
 use Rattle.protocol.proofs.model.Base.{has, eqb-same}
 use Rattle.protocol.proofs.model.Model as model
-use Rattle.protocol.proofs.model.Model.{Plain, Stored, Mending, blk}
+use Rattle.protocol.proofs.model.Model.{Plain, Stored, Mending, blockOf}
 use Rattle.protocol.proofs.model.View as seen
 use Rattle.protocol.proofs.model.View.{Found, found, viewAt}
 use Rattle.protocol.proofs.model.Places as places
 use Rattle.protocol.proofs.model.Places.{shutAt, down-outside, down-inside}
-use Rattle.protocol.proofs.Windows.{has-nums}
-use Rattle.protocol.proofs.Tables.{rowAt}
-use Rattle.protocol.proofs.Conditions.{Located, located}
-use Rattle.protocol.proofs.Entries.{length-rows, rows-block, rows-flags}
-use Rattle.protocol.proofs.Reopens.{valid-ent, block-ent, window-block}
-use Rattle.protocol.proofs.Passes.{shut-row}
-use Rattle.protocol.proofs.Views.{asSlot, read-view, look-slot}
+use Rattle.protocol.proofs.refine.Windows.{has-nums}
+use Rattle.protocol.proofs.refine.Tables.{rowAt}
+use Rattle.protocol.proofs.refine.Conditions.{Located, located}
+use Rattle.protocol.proofs.refine.Entries.{length-rows, rows-block, rows-flags}
+use Rattle.protocol.proofs.refine.Reopens.{valid-entry, block-entry, window-block}
+use Rattle.protocol.proofs.refine.Passes.{shut-row}
+use Rattle.protocol.proofs.refine.Views.{asSlot, read-view, look-slot}
 use Rattle.protocol.proofs.Claims.{ready-of, mending-of, unready-on}
-use Rattle.protocol.proofs.Abstract.{Core, phaseFor, boxOfCore, entAt, abs, Shape, Phased}
+use Rattle.protocol.proofs.refine.Abstract.{Core, phaseFor, boxOfCore, entryRow, abs, Shape, Phased}
 
 -- the model's
 abbrev pub modelPlace : Label → Core → ℕ → Place
@@ -75,8 +75,8 @@ module _ (l : Label) (k : Core) (S : Shape l k) (p : Plain) (St : Stored (abs l 
 
   -- the lowest valid entry for the block is the model's
   pub stored-find : slotFrom 0 (storedRows l (metasOf l (k .ssd))) (record { 0 = b }) ≡ asSlot
-      (seen.find (entAt l (metasOf l (k .ssd))) (l .slots) b)
-  stored-find = go (located 0 (storedRows l (metasOf l (k .ssd))) (record { 0 = b })) (found (entAt l (metasOf l (k .ssd))) (l .slots) b)
+      (seen.find (entryRow l (metasOf l (k .ssd))) (l .slots) b)
+  stored-find = go (located 0 (storedRows l (metasOf l (k .ssd))) (record { 0 = b })) (found (entryRow l (metasOf l (k .ssd))) (l .slots) b)
     where
       entry : ℕ → Entry
       entry s = entryIn (metasOf l (k .ssd)) (record { 0 = s })
@@ -91,24 +91,24 @@ module _ (l : Label) (k : Core) (S : Shape l k) (p : Plain) (St : Stored (abs l 
       block-is s h = rows-block (l .slots) entry s h
 
       go : {o : Option Slot} {q : Option ℕ} → Located 0 (storedRows l (metasOf l (k .ssd))) b o
-          → Found (entAt l (metasOf l (k .ssd))) (l .slots) b q → o ≡ asSlot q
+          → Found (entryRow l (metasOf l (k .ssd))) (l .slots) b q → o ≡ asSlot q
       go (Located.nowhere h) (Found.nowhere g) = refl
       go (Located.nowhere h) (Found.at s i v e) =
-          let f : valid (entry s .flags) ≡ true = sym (valid-ent l k p (S .images) St s i) ∙ v in
-          absurd (h s (omega (arith, size)) (ap valid (flags-are s i) ∙ f) (block-is s i ∙ sym (block-ent l k p (S .images) St s i f) ∙ e))
+          let f : valid (entry s .flags) ≡ true = sym (valid-entry l k p (S .images) St s i) ∙ v in
+          absurd (h s (omega (arith, size)) (ap valid (flags-are s i) ∙ f) (block-is s i ∙ sym (block-entry l k p (S .images) St s i f) ∙ e))
       go (Located.at i h v e low) (Found.nowhere g) =
           let j : i < l .slots = omega (arith, size) in
           let f : valid (entry i .flags) ≡ true = sym (ap valid (flags-are i j)) ∙ v in
-          absurd (g i j (valid-ent l k p (S .images) St i j ∙ f) (block-ent l k p (S .images) St i j f ∙ sym (block-is i j) ∙ e))
+          absurd (g i j (valid-entry l k p (S .images) St i j ∙ f) (block-entry l k p (S .images) St i j f ∙ sym (block-is i j) ∙ e))
       go (Located.at i h v e low) (Found.at s m x y) =
           let j : i < l .slots = omega (arith, size) in
           let f : valid (entry i .flags) ≡ true = sym (ap valid (flags-are i j)) ∙ v in
-          let same : i ≡ s = once-of i s (valid-ent l k p (S .images) St i j ∙ f) x
-          (block-ent l k p (S .images) St i j f ∙ sym (block-is i j) ∙ e ∙ sym y) in
+          let same : i ≡ s = once-of i s (valid-entry l k p (S .images) St i j ∙ f) x
+          (block-entry l k p (S .images) St i j f ∙ sym (block-is i j) ∙ e ∙ sym y) in
           ap (λ (n : ℕ). some (record { 0 = n })) (zero-add i ∙ same)
         where
-          once-of : (s t : ℕ) → model.valid (entAt l (metasOf l (k .ssd)) s) ≡ true → model.valid (entAt l (metasOf l (k .ssd)) t) ≡ true
-              → blk (entAt l (metasOf l (k .ssd)) s) ≡ blk (entAt l (metasOf l (k .ssd)) t) → s ≡ t
+          once-of : (s t : ℕ) → model.valid (entryRow l (metasOf l (k .ssd)) s) ≡ true → model.valid (entryRow l (metasOf l (k .ssd)) t) ≡ true
+              → blockOf (entryRow l (metasOf l (k .ssd)) s) ≡ blockOf (entryRow l (metasOf l (k .ssd)) t) → s ≡ t
           once-of = unfold abs in St .once
 
   -- outside the window, as the model says it
@@ -140,7 +140,7 @@ module _ (l : Label) (k : Core) (S : Shape l k) (p : Plain) (b : ℕ) (b-low : b
         → entryPlace l (record { ssd = k .ssd; hdd = k .hdd }) (record { 0 = b }) none ≡ modelPlace l k b
     none-is e f = λ i. record { slot = ap asSlot (sym e) i; page = sym f i }
 
-    found-is : places.slotOf (abs l k) b ≡ seen.find (abs l k .ent) (abs l k .slots) b
+    found-is : places.slotOf (abs l k) b ≡ seen.find (abs l k .entry) (abs l k .slots) b
         → entryPlace l (record { ssd = k .ssd; hdd = k .hdd }) (record { 0 = b })
         (slotFrom 0 (storedRows l (metasOf l (k .ssd))) (record { 0 = b })) ≡ modelPlace l k b
     unfolding seen.view places.slotOf abs
@@ -160,12 +160,12 @@ module _ (l : Label) (k : Core) (S : Shape l k) (p : Plain) (b : ℕ) (b-low : b
             → entryPlace l (record { ssd = k .ssd; hdd = k .hdd }) (record { 0 = b })
             (storedSlot r l (record { ssd = k .ssd; hdd = k .hdd }) (record { 0 = b })) ≡ modelPlace l k b
         go (inside s h e) =
-            let in-swin : has (abs l k .swin) (s .0) ≡ true = unfold abs in (has-nums (newestOf (metasOf l (k .ssd)) .window) (s .0) ∙ h) in
-            let blocked : blk (abs l k .ent (s .0)) ≡ b = unfold abs in (window-block l k p (S .images) (M .images) (s .0) h ∙ e) in
-            let d = down-inside (abs l k) p M b (s .0) in-swin blocked in
+            let in-stored-window : has (abs l k .storedWindow) (s .0) ≡ true = unfold abs in (has-nums (newestOf (metasOf l (k .ssd)) .window) (s .0) ∙ h) in
+            let blocked : blockOf (abs l k .entry (s .0)) ≡ b = unfold abs in (window-block l k p (S .images) (M .images) (s .0) h ∙ e) in
+            let d = down-inside (abs l k) p M b (s .0) in-stored-window blocked in
             none-is (d .0) (d .1 ∙ hdd-is)
         go (outside h) =
-            let d : places.slotOf (abs l k) b ≡ seen.find (abs l k .ent) (abs l k .slots) b =
+            let d : places.slotOf (abs l k) b ≡ seen.find (abs l k .entry) (abs l k .slots) b =
             down-outside (abs l k) p M b (model-outside l k S p (M .images) b h) in
             found-is d
 

@@ -11,23 +11,23 @@ use Rattle.layout.specs.declared.Label.{Label}
 use mathlib.Core.Logic.{_⊎_, inl, inr}
 use Rattle.layout.specs.Places.{ssdLength, hddLength, tableLength}
 use Rattle.protocol.specs.Recovery.{labelAt}
-use Rattle.protocol.specs.Paper.{refused}
+use Rattle.protocol.specs.Reply.{refused}
 use Rattle.protocol.specs.Box.{Images, Box, Store, applied}
 use Rattle.protocol.specs.Plan.{Call, format, step, reopen, plan}
 use Rattle.protocol.specs.Perform.{perform}
 use Rattle.protocol.specs.Judge.{Reason, wrongLength, wrongPhase, test, lengthsTest, lengthTest, judged}
 use Rattle.protocol.specs.Calls.{decided, effectOf, resultOf}
 use Rattle.protocol.specs.ReferenceDisk.{Disk}
-use Rattle.protocol.specs.Events.{World, Junk, Arrival, old, new, Event, call, reopens, cut, called, handed, takenIf, reopened, survived, made, struck, apply, run, CallFits, Fits, AllFit}
+use Rattle.protocol.specs.Events.{World, Memory, Arrival, old, new, Event, call, reopens, cut, called, withMemory, takenIf, reopened, survived, made, crashed, apply, run, CallFits, Fits, AllFit}
 use Rattle.layout.proofs.Booleans.{clash, and-parts}
 use Rattle.protocol.proofs.model.Model as model
 use Rattle.protocol.proofs.model.Model.{Plain, Stored, Mending}
 use Rattle.protocol.proofs.Judged.{passed, passed-first}
 use Rattle.protocol.proofs.Sorted.{Sorted, is-format, is-reopen, is-step, is-service, sorted}
-use Rattle.protocol.proofs.ReadyCalls.{calledAs, called-as, refused-same, worldOf, service-next}
-use Rattle.protocol.proofs.Reopens.{label-is, reopen-judged}
-use Rattle.protocol.proofs.MendingCalls.{phased-stored, step-inv, reopen-inv}
-use Rattle.protocol.proofs.Abstract.{Core, boxOfCore, abs, ImagesKept, Shape, Agrees, Phased, is-ready, is-mending, Inv}
+use Rattle.protocol.proofs.refine.ReadyCalls.{calledAs, called-as, refused-same, worldOf, service-next}
+use Rattle.protocol.proofs.refine.Reopens.{label-is, reopen-judged}
+use Rattle.protocol.proofs.refine.MendingCalls.{phased-stored, step-inv, reopen-inv}
+use Rattle.protocol.proofs.refine.Abstract.{Core, boxOfCore, abs, ImagesKept, Shape, Agrees, Phased, is-ready, is-mending, Inv}
 
 -- a call that no reason refuses answers what its plan says
 pub said-of : (c : Call) (x : Box) → judged c x ≡ none → refused (resultOf c x .said) ≡ refused (perform (plan c x) x .said)
@@ -142,34 +142,34 @@ module _ (l : Label) (k : Core) (p : Plain) (K : ImagesKept l (k .ssd) (k .hdd))
       ∙ (unfold perform in refl)
 
 -- the box of a reachable world with another table and record
-pub handed-images : {l : Label} {w : World} (I : Inv l w) (j : Junk)
-    → handed j (w .box) .images ≡ record { ssd = I .core .ssd; hdd = I .core .hdd }
-handed-images I j = ap (λ (x : Box). x .images) (I .is-core)
+pub memory-images : {l : Label} {w : World} (I : Inv l w) (j : Memory)
+    → withMemory j (w .box) .images ≡ record { ssd = I .core .ssd; hdd = I .core .hdd }
+memory-images I j = ap (λ (x : Box). x .images) (I .is-core)
 
 pub inv-stored : {l : Label} {w : World} (I : Inv l w) → Stored (abs l (I .core)) (I .plain)
 inv-stored {l} I = phased-stored (abs l (I .core)) (I .plain) (I .phased)
 
 -- a reopening with any table and record
-pub taken-inv : (l : Label) (j : Junk) (w : World) (I : Inv l w) → length (j .table) ≡ tableLength l
-    → Inv l (called reopen (record { box = handed j (w .box); disk = w .disk }))
-taken-inv l j w I h = reopen-inv l (I .core) (I .plain) (I .shape .images) (inv-stored I) (handed j (w .box)) (handed-images I j) h
+pub taken-inv : (l : Label) (j : Memory) (w : World) (I : Inv l w) → length (j .table) ≡ tableLength l
+    → Inv l (called reopen (record { box = withMemory j (w .box); disk = w .disk }))
+taken-inv l j w I h = reopen-inv l (I .core) (I .plain) (I .shape .images) (inv-stored I) (withMemory j (w .box)) (memory-images I j) h
     (w .disk) (I .agrees)
 
-pub reopened-inv : (l : Label) (j : Junk) (w : World) → Inv l w → Inv l (reopened j w)
+pub reopened-inv : (l : Label) (j : Memory) (w : World) → Inv l w → Inv l (reopened j w)
 unfolding reopened
-reopened-inv l j w I = go (refused (resultOf reopen (handed j (w .box)) .said)) refl
+reopened-inv l j w I = go (refused (resultOf reopen (withMemory j (w .box)) .said)) refl
   where
-    go : (r : Bool) → refused (resultOf reopen (handed j (w .box)) .said) ≡ r
-        → Inv l (takenIf r w (called reopen (record { box = handed j (w .box); disk = w .disk })))
+    go : (r : Bool) → refused (resultOf reopen (withMemory j (w .box)) .said) ≡ r
+        → Inv l (takenIf r w (called reopen (record { box = withMemory j (w .box); disk = w .disk })))
     go true e = I
-    go false e = taken-inv l j w I (table-right l (I .core) (I .plain) (I .shape .images) (inv-stored I) (handed j (w .box))
-        (handed-images I j) e)
+    go false e = taken-inv l j w I (table-right l (I .core) (I .plain) (I .shape .images) (inv-stored I) (withMemory j (w .box))
+        (memory-images I j) e)
 
 -- what a cut leaves is the world before the call, or after it
-pub struck-or : (c : Call) (a : Arrival) (w : World) → (struck c a w ≡ called c w) ⊎ (struck c a w ≡ w)
-unfolding struck
-struck-or c old w = inr refl
-struck-or c new w = go (effectOf c (w .box) .store) refl
+pub crashed-or : (c : Call) (a : Arrival) (w : World) → (crashed c a w ≡ called c w) ⊎ (crashed c a w ≡ w)
+unfolding crashed
+crashed-or c old w = inr refl
+crashed-or c new w = go (effectOf c (w .box) .store) refl
   where
     at-store : Option Store → World
     at-store o = let v = takenIf (made new o) (called c w) w in
@@ -193,17 +193,17 @@ struck-or c new w = go (effectOf c (w .box) .store) refl
           disk = called c w .disk;
         }))
 
-pub struck-inv : (l : Label) (c : Call) (a : Arrival) (w : World) → CallFits c w → Inv l w → Inv l (struck c a w)
-struck-inv l c a w f I = go (struck-or c a w)
+pub crashed-inv : (l : Label) (c : Call) (a : Arrival) (w : World) → CallFits c w → Inv l w → Inv l (crashed c a w)
+crashed-inv l c a w f I = go (crashed-or c a w)
   where
-    go : (struck c a w ≡ called c w) ⊎ (struck c a w ≡ w) → Inv l (struck c a w)
+    go : (crashed c a w ≡ called c w) ⊎ (crashed c a w ≡ w) → Inv l (crashed c a w)
     go (inl e) = rw e (call-inv l c w f I)
     go (inr e) = rw e I
 
 pub apply-inv : (l : Label) (e : Event) (w : World) → Fits l e w → Inv l w → Inv l (apply e w)
 apply-inv l (call c) w f I = call-inv l c w f I
 apply-inv l (reopens j) w f I = reopened-inv l j w I
-apply-inv l (cut c a j) w f I = reopened-inv l j (struck c a w) (struck-inv l c a w (f .0) I)
+apply-inv l (cut c a j) w f I = reopened-inv l j (crashed c a w) (crashed-inv l c a w (f .0) I)
 
 pub run-inv : (l : Label) (es : List Event) (w : World) → AllFit l es w → Inv l w → Inv l (run es w)
 unfolding run

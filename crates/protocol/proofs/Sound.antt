@@ -22,13 +22,13 @@ use Rattle.protocol.specs.Judge.{rowTest, agreeTest}
 use Rattle.protocol.specs.Why.{ReadyAgree}
 use Rattle.protocol.proofs.model.Base as base
 use Rattle.protocol.proofs.model.Base.{upd, upd-same, upd-other, has, Window, snoc-window, keep-window, has-snoc, has-snoc-other, has-keep-in, has-keep-out, not-same, not-other}
-use Rattle.protocol.proofs.model.Model.{Row, opn, shut}
-use Rattle.protocol.proofs.model.Rows.{shut-opn, cleaned-opn}
-use Rattle.protocol.proofs.Windows.{nums, length-nums, nums-append, nums-one, has-nums, nums-without, distinct-nums, below-nums, window-of}
-use Rattle.protocol.proofs.Flags.{rowOf, LegalRow, legal-row, row-legal, Changed, changed-row, changed-shut, changed-clean, changed-used}
-use Rattle.protocol.proofs.Tables.{rowAt, rowAt-out, Rows, set-at, set-rows, length-row, flags-at, flags-rows, at-open, each-get, each-of}
-use Rattle.protocol.proofs.Counting.{window-count}
-use Rattle.protocol.proofs.Sweeps.{Alike}
+use Rattle.protocol.proofs.model.Model.{Row, openRow, shut}
+use Rattle.protocol.proofs.model.Rows.{shut-open, cleaned-open}
+use Rattle.protocol.proofs.refine.Windows.{nums, length-nums, nums-append, nums-one, has-nums, nums-without, distinct-nums, below-nums, window-of}
+use Rattle.protocol.proofs.refine.Flags.{rowOf, LegalRow, legal-row, row-legal, Changed, changed-row, changed-shut, changed-clean, changed-used}
+use Rattle.protocol.proofs.refine.Tables.{rowAt, rowAt-out, Rows, set-at, set-rows, length-row, flags-at, flags-rows, at-open, each-get, each-of}
+use Rattle.protocol.proofs.refine.Counting.{window-count}
+use Rattle.protocol.proofs.refine.Sweeps.{Alike}
 use Rattle.protocol.proofs.why.Basics.{and-same, via}
 use Rattle.protocol.proofs.why.RowsRules.{agree-same}
 
@@ -37,7 +37,7 @@ pub record Sound (l : Label) (t : List ℕ) (w : List Slot) : Type 0 where
   pub size : length t ≡ tableLength l
   pub legal : Rows l t
   pub rule : Window (l .slots) (nums w)
-  pub open-is : (s : ℕ) → opn (rowAt t s) ≡ has (nums w) s
+  pub open-is : (s : ℕ) → openRow (rowAt t s) ≡ has (nums w) s
 
 module _ {l : Label} {t : List ℕ} {w : List Slot} (S : Sound l t w) where
   pub listed-low : (s : ℕ) → has (nums w) s ≡ true → s < l .slots
@@ -45,7 +45,7 @@ module _ {l : Label} {t : List ℕ} {w : List Slot} (S : Sound l t w) where
     where
       go : Dec (s < l .slots) → s < l .slots
       go (yes q) = q
-      go (no q) = clash (S .open-is s ∙ h) (ap opn (rowAt-out t s (omega (arith, S .size))))
+      go (no q) = clash (S .open-is s ∙ h) (ap openRow (rowAt-out t s (omega (arith, S .size))))
 
   pub writing-is : (s : ℕ) → s < l .slots → writing (getD t (2 * s + 1) 0) ≡ has (nums w) s
   writing-is s h = sym (at-open l t (S .legal) s h) ∙ S .open-is s
@@ -65,20 +65,20 @@ module _ {l : Label} {t : List ℕ} {w : List Slot} (S : Sound l t w) where
 
   -- used flags alone are changed: a sweep's passing
   pub sound-alike : {v : List ℕ} → Alike l t v → Sound l v w
-  sound-alike A = record { size = A .size; legal = A .legal; rule = S .rule; open-is = λ s. ap opn (A .row s) ∙ S .open-is s }
+  sound-alike A = record { size = A .size; legal = A .legal; rule = S .rule; open-is = λ s. ap openRow (A .row s) ∙ S .open-is s }
 
   -- the flags of a row are changed, and it is open as it was
-  sound-flags : (s g : ℕ) {r : Row} → s < l .slots → Changed (getD t (2 * s) 0) (getD t (2 * s + 1) 0) g r → opn r ≡ opn (rowAt t s)
+  sound-flags : (s g : ℕ) {r : Row} → s < l .slots → Changed (getD t (2 * s) 0) (getD t (2 * s + 1) 0) g r → openRow r ≡ openRow (rowAt t s)
       → Sound l (set t (2 * s + 1) g) w
   sound-flags s g h C o = record {
     size = length-set t (2 * s + 1) g ∙ S .size;
     legal = flags-rows l t (S .size) s g h (S .legal) (changed-row (S .legal s h) C);
     rule = S .rule;
-    open-is = λ u. ap opn (flags-at l t (S .size) s g h u) ∙ at u (ℕ-discrete u s);
+    open-is = λ u. ap openRow (flags-at l t (S .size) s g h u) ∙ at u (ℕ-discrete u s);
   }
     where
-      at : (u : ℕ) → Dec (u ≡ s) → opn (upd (rowAt t) s (rowOf (getD t (2 * s) 0) (g % 8)) u) ≡ has (nums w) u
-      at u (yes e) = rw (e, upd-same) (ap opn (C .row) ∙ o ∙ S .open-is s)
+      at : (u : ℕ) → Dec (u ≡ s) → openRow (upd (rowAt t) s (rowOf (getD t (2 * s) 0) (g % 8)) u) ≡ has (nums w) u
+      at u (yes e) = rw (e, upd-same) (ap openRow (C .row) ∙ o ∙ S .open-is s)
       at u (no n) = rw upd-other (S .open-is u)
 
   -- used is set
@@ -89,22 +89,22 @@ module _ {l : Label} {t : List ℕ} {w : List Slot} (S : Sound l t w) where
   -- a closed slot is copied out
   pub sound-copies : (s : ℕ) → s < l .slots → writing (getD t (2 * s + 1) 0) ≡ false
       → Sound l (setFlags t (record { 0 = s }) (withoutDirty (rowFlags t (record { 0 = s })))) w
-  sound-copies s h o = sound-flags s _ h (changed-clean (S .legal s h .flags) _ o) (unfold rowAt in (cleaned-opn (rowAt t s)))
+  sound-copies s h o = sound-flags s _ h (changed-clean (S .legal s h .flags) _ o) (unfold rowAt in (cleaned-open (rowAt t s)))
 
   -- a slot is opened
-  pub sound-opens : (s b f : ℕ) → s < l .slots → LegalRow l b f → opn (rowOf b (f % 8)) ≡ true → opn (rowAt t s) ≡ false
+  pub sound-opens : (s b f : ℕ) → s < l .slots → LegalRow l b f → openRow (rowOf b (f % 8)) ≡ true → openRow (rowAt t s) ≡ false
       → length (nums w) < 63 → Sound l (setRow t (record { 0 = s }) (record { 0 = b }) f) (w ++ (record { 0 = s } ∷ []))
   sound-opens s b f h L o c few = record {
     size = length-row l t (S .size) s b f h;
     legal = set-rows l t (S .size) s b f h (S .legal) L;
     rule = rw names (snoc-window (l .slots) (nums w) s h (sym (S .open-is s) ∙ c) few (S .rule));
-    open-is = λ u. ap opn (set-at l t (S .size) s b f h u) ∙ at u (ℕ-discrete u s) ∙ ap (λ (z : List ℕ). has z u) (sym names);
+    open-is = λ u. ap openRow (set-at l t (S .size) s b f h u) ∙ at u (ℕ-discrete u s) ∙ ap (λ (z : List ℕ). has z u) (sym names);
   }
     where
       names : nums (w ++ (record { 0 = s } ∷ [])) ≡ nums w ++ (s ∷ [])
       names = nums-append w (record { 0 = s } ∷ []) ∙ ap (λ (z : List ℕ). nums w ++ z) (nums-one (record { 0 = s }))
 
-      at : (u : ℕ) → Dec (u ≡ s) → opn (upd (rowAt t) s (rowOf b (f % 8)) u) ≡ has (nums w ++ (s ∷ [])) u
+      at : (u : ℕ) → Dec (u ≡ s) → openRow (upd (rowAt t) s (rowOf b (f % 8)) u) ≡ has (nums w ++ (s ∷ [])) u
       at u (yes e) = rw (e, upd-same, has-snoc) o
       at u (no n) = rw (upd-other, has-snoc-other) (S .open-is u)
 
@@ -115,7 +115,7 @@ module _ {l : Label} {t : List ℕ} {w : List Slot} (S : Sound l t w) where
     size = length-set t (2 * s + 1) _ ∙ S .size;
     legal = flags-rows l t (S .size) s _ h (S .legal) (changed-row (S .legal s h) C);
     rule = rw names (keep-window _ (l .slots) (nums w) (S .rule));
-    open-is = λ u. ap opn (flags-at l t (S .size) s _ h u) ∙ at u (ℕ-discrete u s) ∙ ap (λ (z : List ℕ). has z u) (sym names);
+    open-is = λ u. ap openRow (flags-at l t (S .size) s _ h u) ∙ at u (ℕ-discrete u s) ∙ ap (λ (z : List ℕ). has z u) (sym names);
   }
     where
       C : Changed (getD t (2 * s) 0) (getD t (2 * s + 1) 0) (withoutWriting (getD t (2 * s + 1) 0))
@@ -126,10 +126,10 @@ module _ {l : Label} {t : List ℕ} {w : List Slot} (S : Sound l t w) where
       names = nums-without (record { 0 = s }) w (sym (distinct-nums w) ∙ S .rule .apart)
 
       at : (u : ℕ) → Dec (u ≡ s)
-          → opn (upd (rowAt t) s (rowOf (getD t (2 * s) 0) (withoutWriting (getD t (2 * s + 1) 0) % 8)) u) ≡ has (base.without (nums w) s) u
+          → openRow (upd (rowAt t) s (rowOf (getD t (2 * s) 0) (withoutWriting (getD t (2 * s + 1) 0) % 8)) u) ≡ has (base.without (nums w) s) u
       at u (yes e) =
           rw (e, upd-same, C .row, has-keep-out (λ z. not (eqb z s)) (nums w) s (not-same s))
-          (shut-opn (rowOf (getD t (2 * s) 0) (getD t (2 * s + 1) 0 % 8)))
+          (shut-open (rowOf (getD t (2 * s) 0) (getD t (2 * s + 1) 0 % 8)))
       at u (no n) = rw (upd-other, has-keep-in (λ z. not (eqb z s)) (nums w) u (not-other u s n)) (S .open-is u)
 
 -- The tests of 3 and 5.
@@ -168,11 +168,11 @@ sound-of l t w size R W A = record { size = size; legal = R; rule = W; open-is =
     closed s q h (told-true o) = clash (has-nums w s ∙ A .open-listed (record { 0 = s }) (omega arith) o) h
     closed s q h (told-false o) = o
 
-    go : (s : ℕ) → Dec (s < l .slots) → Told (has (nums w) s) → opn (rowAt t s) ≡ has (nums w) s
+    go : (s : ℕ) → Dec (s < l .slots) → Told (has (nums w) s) → openRow (rowAt t s) ≡ has (nums w) s
     go s (yes q) (told-true h) = at-open l t R s q ∙ here s h ∙ sym h
     go s (yes q) (told-false h) = at-open l t R s q ∙ closed s q h (told (writing (getD t (2 * s + 1) 0))) ∙ sym h
     go s (no q) (told-true h) = clash (here s h) (ap writing (List·getD-eq-default t 0 {n = 2 * s + 1} (omega arith)))
-    go s (no q) (told-false h) = ap opn (rowAt-out t s (omega arith)) ∙ sym h
+    go s (no q) (told-false h) = ap openRow (rowAt-out t s (omega arith)) ∙ sym h
 
 pub sound-same : (l : Label) (t : List ℕ) (w : List Slot) → length t ≡ tableLength l → asked l t w ⇔ Sound l t w
 sound-same l t w size =

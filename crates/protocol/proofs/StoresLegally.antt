@@ -19,7 +19,7 @@ use Rattle.layout.proofs.RuleLaws.{page-rule}
 use Rattle.record.specs.declared.Record.{Record}
 use Rattle.record.specs.declared.Phase.{Phase}
 use Rattle.record.specs.declared.Phase.the-variants.{Formatting, Recovering, Ready}
-use Rattle.protocol.specs.Paper.{Paper, announced, done}
+use Rattle.protocol.specs.Reply.{Reply, announced, done}
 use Rattle.protocol.specs.Rows.{rowFlags, setRow, writing}
 use Rattle.record.specs.Record.{labelIn, windowIn, withHand, withPhase, withStamp, largestStamp}
 use Rattle.protocol.specs.Box.{Box, Image, ssdImage, hddImage, Store, Effect}
@@ -31,11 +31,11 @@ use Rattle.protocol.specs.Calls.{decided, effectOf}
 use Rattle.protocol.specs.Beside.{stampStored, MetaStored, StoresLegally}
 use Rattle.layout.proofs.Booleans.{Told, told, told-true, told-false, clash, and-parts}
 use Rattle.protocol.proofs.model.Base.{Window, keep-window}
-use Rattle.protocol.proofs.Windows.{nums, nums-off}
+use Rattle.protocol.proofs.refine.Windows.{nums, nums-off}
 use Rattle.record.proofs.WindowLaws.{take-array}
-use Rattle.protocol.proofs.Tables.{Rows}
+use Rattle.protocol.proofs.refine.Tables.{Rows}
 use Rattle.protocol.specs.Kinds.{Aim}
-use Rattle.protocol.proofs.Stores.{page-stamp, page-window, page-entry, page-legal}
+use Rattle.protocol.proofs.refine.Stores.{page-stamp, page-window, page-entry, page-legal}
 use Rattle.protocol.proofs.Judged.{passed}
 use Rattle.protocol.proofs.UpdateFirst.{none-of}
 use Rattle.protocol.proofs.Sound.{Sound}
@@ -100,7 +100,7 @@ data Serving : Phase → Type 0 where
 -- a metadata store
 confirmed-stores : (l : Label) → Limits l → (r : Record) → labelIn r ≡ l → (table : List ℕ) → length table ≡ tableLength l → Rows l table
     → r .newest < largestStamp
-    → Window (l .slots) (nums (windowIn r)) → (ph : Phase) → Serving ph → (q : ℕ) (said : Paper) → Stores l ph (confirmed q said r table)
+    → Window (l .slots) (nums (windowIn r)) → (ph : Phase) → Serving ph → (q : ℕ) (said : Reply) → Stores l ph (confirmed q said r table)
 unfolding confirmed
 confirmed-stores l K r e table size R n W ph v q said =
     one-store l ph (record {

@@ -10,7 +10,7 @@ use Rattle.layout.specs.declared.Block.{Block}
 use Rattle.layout.specs.declared.Label.{Label}
 use Rattle.protocol.specs.declared.Condition.{Condition}
 use Rattle.protocol.specs.declared.Condition.the-variants.{Dirty, Writing, Fetching}
-use Rattle.protocol.specs.Paper.{refused}
+use Rattle.protocol.specs.Reply.{refused}
 use Rattle.protocol.specs.Rows.{valid, dirty, writing}
 use Rattle.protocol.specs.Box.{Box}
 use Rattle.protocol.specs.Plan.{Call, land, landFetch}
@@ -20,18 +20,18 @@ use Rattle.protocol.specs.Judge.{Reason, judged}
 use Rattle.protocol.specs.Calls.{decided, effectOf, resultOf}
 use Rattle.protocol.specs.ReferenceDisk.{Disk}
 use Rattle.protocol.specs.Events.{World, mayFinish, CallFits}
-use Rattle.protocol.specs.Beside.{Announced, StoredDirty, UpdateFirst}
+use Rattle.protocol.specs.Beside.{StoredOpen, StoredDirty, UpdateFirst}
 use Rattle.layout.proofs.Booleans.{clash}
 use Rattle.protocol.proofs.model.Base.{has}
 use Rattle.protocol.proofs.model.Model as model
-use Rattle.protocol.proofs.model.Model.{Plain, opn}
-use Rattle.protocol.proofs.Windows.{nums, has-nums}
-use Rattle.protocol.proofs.Tables.{rowAt, at-open, at-block, at-valid, at-dirty}
-use Rattle.protocol.proofs.Conditions.{Held, Stands, is-writing, is-dirty, is-fetching, stands}
-use Rattle.protocol.proofs.Reopens.{valid-ent, block-ent, dirty-ent, open-ent}
-use Rattle.protocol.proofs.ReadyCalls.{worldOf}
+use Rattle.protocol.proofs.model.Model.{Plain, openRow}
+use Rattle.protocol.proofs.refine.Windows.{nums, has-nums}
+use Rattle.protocol.proofs.refine.Tables.{rowAt, at-open, at-block, at-valid, at-dirty}
+use Rattle.protocol.proofs.refine.Conditions.{Held, Stands, is-writing, is-dirty, is-fetching, stands}
+use Rattle.protocol.proofs.refine.Reopens.{valid-entry, block-entry, dirty-entry, open-entry}
+use Rattle.protocol.proofs.refine.ReadyCalls.{worldOf}
 use Rattle.protocol.proofs.Reachable.{Mendable, steps, reopens-it, mendable}
-use Rattle.protocol.proofs.Abstract.{Core, boxOfCore, abs, Shape, Phased, is-ready, is-mending, Inv}
+use Rattle.protocol.proofs.refine.Abstract.{Core, boxOfCore, abs, Shape, Phased, is-ready, is-mending, Inv}
 
 -- a call that is neither refused nor one of mending finds a ready box
 pub none-of : (c : Call) (x : Box) → refused (resultOf c x .said) ≡ false → judged c x ≡ none
@@ -49,22 +49,22 @@ module _ (l : Label) (k : Core) (S : Shape l k) (p : Plain) (R : model.Ready (ab
   -- row and entry agree
   entry-valid : valid (entryIn (metasOf l (k .ssd)) (record { 0 = s }) .flags) ≡ true
   unfolding abs
-  entry-valid = sym (valid-ent l k p (S .images) stored s (H .low)) ∙ R .same-valid s ∙ at-valid l (k .table) (S .rows) s (H .low) ∙ H .held
+  entry-valid = sym (valid-entry l k p (S .images) stored s (H .low)) ∙ R .same-valid s ∙ at-valid l (k .table) (S .rows) s (H .low) ∙ H .held
 
   entry-block : entryIn (metasOf l (k .ssd)) (record { 0 = s }) .block .0 ≡ b
   unfolding abs
-  entry-block = sym (block-ent l k p (S .images) stored s (H .low) entry-valid) ∙ R .same-blk s
+  entry-block = sym (block-entry l k p (S .images) stored s (H .low) entry-valid) ∙ R .same-block s
       ∙ at-block l (k .table) (S .rows) s (H .low) (H .held) ∙ H .block
 
   open-announced : writing (getD (k .table) (2 * s + 1) 0) ≡ true
-      → Announced l (record { ssd = k .ssd; hdd = k .hdd }) (record { 0 = b }) (record { 0 = s })
+      → StoredOpen l (record { ssd = k .ssd; hdd = k .hdd }) (record { 0 = b }) (record { 0 = s })
   unfolding abs
   open-announced w =
-      let o : opn (rowAt (k .table) s) ≡ true = at-open l (k .table) (S .rows) s (H .low) ∙ w in
-      let h : has (nums (newestOf (metasOf l (k .ssd)) .window)) s ≡ true = R .win-stored s (sym (R .open-row s) ∙ o) in
+      let o : openRow (rowAt (k .table) s) ≡ true = at-open l (k .table) (S .rows) s (H .low) ∙ w in
+      let h : has (nums (newestOf (metasOf l (k .ssd)) .window)) s ≡ true = R .window-stored s (sym (R .open-row s) ∙ o) in
       record {
         valid-entry = entry-valid;
-        writing-entry = sym (open-ent l k p (S .images) stored s (H .low)) ∙ R .stored-open s h;
+        writing-entry = sym (open-entry l k p (S .images) stored s (H .low)) ∙ R .stored-open s h;
         block = entry-block;
         in-window = sym (has-nums (newestOf (metasOf l (k .ssd)) .window) s) ∙ h;
       }
@@ -74,7 +74,7 @@ module _ (l : Label) (k : Core) (S : Shape l k) (p : Plain) (R : model.Ready (ab
   unfolding abs
   closed-stored d = record {
     valid-entry = entry-valid;
-    dirty-entry = sym (dirty-ent l k p (S .images) stored s (H .low)) ∙ R .dirty-below s (at-dirty l (k .table) (S .rows) s (H .low) ∙ d);
+    dirty-entry = sym (dirty-entry l k p (S .images) stored s (H .low)) ∙ R .dirty-below s (at-dirty l (k .table) (S .rows) s (H .low) ∙ d);
     block = entry-block;
   }
 
@@ -107,7 +107,7 @@ module _ (l : Label) (k : Core) (S : Shape l k) (p : Plain) (P : Phased (abs l k
   }
     where
       go-open : (b : Block) (s : Slot) → model.Ready (abs l k) p → Stands l (k .table) (b .0) (Writing s)
-          → Announced l (record { ssd = k .ssd; hdd = k .hdd }) b s
+          → StoredOpen l (record { ssd = k .ssd; hdd = k .hdd }) b s
       go-open b s R (is-writing t H w d) = open-announced l k S p R (b .0) (s .0) H w
 
       go-closed : (b : Block) (s : Slot) → model.Ready (abs l k) p → Stands l (k .table) (b .0) (Dirty s)
@@ -115,7 +115,7 @@ module _ (l : Label) (k : Core) (S : Shape l k) (p : Plain) (P : Phased (abs l k
       go-closed b s R (is-dirty t H w d) = closed-stored l k S p R (b .0) (s .0) H d
 
       go-fetch : (b : Block) (s : Slot) → model.Ready (abs l k) p → Stands l (k .table) (b .0) (Fetching s)
-          → Announced l (record { ssd = k .ssd; hdd = k .hdd }) b s
+          → StoredOpen l (record { ssd = k .ssd; hdd = k .hdd }) b s
       go-fetch b s R (is-fetching t H w d) = open-announced l k S p R (b .0) (s .0) H w
 
 pub update-first : (l : Label) (w : World) → Inv l w → UpdateFirst l w

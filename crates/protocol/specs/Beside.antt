@@ -15,7 +15,7 @@ use Rattle.record.specs.declared.Record.{Record}
 use Rattle.record.specs.declared.Phase.{Phase}
 use Rattle.record.specs.declared.Phase.the-variants.{Formatting, Recovering, Ready}
 use Rattle.protocol.specs.declared.Condition.the-variants.{Dirty, Writing, Fetching}
-use Rattle.protocol.specs.Paper.{refused, copiedOut, done}
+use Rattle.protocol.specs.Reply.{refused, copiedOut, done}
 use Rattle.protocol.specs.Rows.{rowBlock, rowFlags, valid, dirty, writing}
 use Rattle.record.specs.Record.{labelIn, windowIn}
 use Rattle.protocol.specs.Box.{Images, Box, ssdImage, Store, Effect, refusing, boxAfter}
@@ -84,7 +84,7 @@ ReopensFrom x =
 -- In a list of demand 3, update before data: what is stored of a slot as bytes land in it.
 
 -- an open slot: its stored entry is valid, writing and for the block, and the newest stored window names it
-pub record Announced (l : Label) (im : Images) (b : Block) (s : Slot) : Type 0 where
+pub record StoredOpen (l : Label) (im : Images) (b : Block) (s : Slot) : Type 0 where
   pub valid-entry : valid (entryIn (metasOf l (im .ssd)) s .flags) ≡ true
   pub writing-entry : writing (entryIn (metasOf l (im .ssd)) s .flags) ≡ true
   pub block : entryIn (metasOf l (im .ssd)) s .block .0 ≡ b .0
@@ -98,11 +98,11 @@ pub record StoredDirty (l : Label) (im : Images) (b : Block) (s : Slot) : Type 0
 
 pub record UpdateFirst (l : Label) (w : World) : Type 0 where
   pub land-open : (b : Block) (page : List ℕ) → refused (resultOf (land b page) (w .box) .said) ≡ false
-      → (s : Slot) → conditionOf (w .box .table) b ≡ Writing s → Announced l (w .box .images) b s
+      → (s : Slot) → conditionOf (w .box .table) b ≡ Writing s → StoredOpen l (w .box .images) b s
   pub land-closed : (b : Block) (page : List ℕ) → refused (resultOf (land b page) (w .box) .said) ≡ false
       → (s : Slot) → conditionOf (w .box .table) b ≡ Dirty s → StoredDirty l (w .box .images) b s
   pub fetch-open : (b : Block) → refused (resultOf (landFetch b) (w .box) .said) ≡ false
-      → (s : Slot) → conditionOf (w .box .table) b ≡ Fetching s → Announced l (w .box .images) b s
+      → (s : Slot) → conditionOf (w .box .table) b ≡ Fetching s → StoredOpen l (w .box .images) b s
 
 abbrev pub UpdateBeforeData : Type 0
 UpdateBeforeData =

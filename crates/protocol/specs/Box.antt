@@ -4,7 +4,7 @@ use mathlib.Core.List.{List}
 use mathlib.Core.Option.{Option, some, none}
 use Rattle.pages.specs.Pages.{putPage}
 use Rattle.record.specs.declared.Record.{Record}
-use Rattle.protocol.specs.Paper.{Paper, refusal}
+use Rattle.protocol.specs.Reply.{Reply, refusal}
 
 pub record Images : Type 0 where
   pub ssd : List ℕ
@@ -35,7 +35,7 @@ applied (some s) im = storedOn (s .image) (s .place) (s .bytes) im
 
 -- what a call does: its answer, the record and the table after it, and its store, if any
 pub record Effect : Type 0 where
-  pub said : Paper
+  pub said : Reply
   pub state : Record
   pub table : List ℕ
   pub store : Option Store
@@ -46,7 +46,7 @@ refusing n x = record { said = refusal n; state = x .state; table = x .table; st
 
 -- everything that a call leaves, in one record
 pub record Result : Type 0 where
-  pub said : Paper
+  pub said : Reply
   pub state : Record
   pub table : List ℕ
   pub ssd : List ℕ

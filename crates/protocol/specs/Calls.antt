@@ -9,7 +9,7 @@ use Rattle.layout.specs.Places.{dataPlace, blockPlace}
 use Rattle.record.specs.declared.Record.{Record}
 use Rattle.protocol.specs.declared.Outcome.{Outcome}
 use Rattle.protocol.specs.declared.Condition.{Condition}
-use Rattle.protocol.specs.Paper.{paperOf}
+use Rattle.protocol.specs.Reply.{replyOf}
 use Rattle.protocol.specs.declared.Condition.the-variants.{NotCached, Clean, Dirty, Writing, Fetching}
 use Rattle.record.specs.Record.{labelIn}
 use Rattle.protocol.specs.Box.{Box, Effect, Result, refusing, left}
@@ -32,7 +32,7 @@ resultOf c x = left (effectOf c x) (x .images)
 
 -- what a call in code leaves: what it returned, both images and the table
 abbrev pub leaves : Outcome → List ℕ → List ℕ → List ℕ → Result
-leaves q ssd hdd table = record { said = paperOf (q .answer); state = q .state; table = table; ssd = ssd; hdd = hdd }
+leaves q ssd hdd table = record { said = replyOf (q .answer); state = q .state; table = table; ssd = ssd; hdd = hdd }
 
 abbrev pub boxOf : List ℕ → List ℕ → List ℕ → Record → Box
 boxOf ssd hdd table state = record { images = record { ssd = ssd; hdd = hdd }; table = table; state = state }

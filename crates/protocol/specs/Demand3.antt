@@ -13,7 +13,7 @@ use Rattle.layout.specs.declared.Block.{Block}
 use Rattle.layout.specs.declared.Label.{Label}
 use Rattle.layout.specs.Places.{labelOf, dataPlace, blockPlace, tableLength}
 use Rattle.layout.specs.PageRule.{listed}
-use Rattle.protocol.specs.Paper.{Paper, refusal, answer, refused, inSlot}
+use Rattle.protocol.specs.Reply.{Reply, refusal, answer, refused, inSlot}
 use Rattle.protocol.specs.Rows.{rowBlock, rowFlags, valid, dirty, writing}
 use Rattle.protocol.specs.Box.{Images, Box}
 use Rattle.protocol.specs.Condition.{slotOf}
@@ -22,7 +22,7 @@ use Rattle.protocol.specs.Recovery.{metasOf, entryIn, newestOf, storedRo
 use Rattle.protocol.specs.Judge.{isReady}
 use Rattle.protocol.specs.Calls.{resultOf, viewOf}
 use Rattle.protocol.specs.ReferenceDisk.{MayBe}
-use Rattle.protocol.specs.Events.{World, Junk, Arrival, Event, call, reopens, cut, handed, struck, lent, readOf, finished, apply, run, steps, formatted, startOf, AllFit, Fits}
+use Rattle.protocol.specs.Events.{World, Memory, Arrival, Event, call, reopens, cut, withMemory, crashed, lent, readOf, finished, apply, run, steps, formatted, startOf, AllFit, Fits}
 
 -- the newest stored window: "the largest stamp's"
 abbrev pub storedWindow : Label → Images → List Slot
@@ -43,7 +43,7 @@ pub record Place : Type 0 where
   pub page : List ℕ
 
 -- the slot that a look-up names
-abbrev pub slotSaid : Paper → Option Slot
+abbrev pub slotSaid : Reply → Option Slot
 slotSaid (refusal n) = none
 slotSaid (answer n []) = none
 slotSaid (answer n (s ∷ w)) = some s
@@ -70,20 +70,20 @@ place l x b = placeIf (isReady (x .state .phase)) l x b
 -- the events that reopen, with a table of the right length
 pub data Reopening (l : Label) : Event → Type 0 where
   own : Reopening l (call reopen)
-  whole : (j : Junk) → length (j .table) ≡ tableLength l → Reopening l (reopens j)
-  broken : (c : Call) (a : Arrival) (j : Junk) → length (j .table) ≡ tableLength l → Reopening l (cut c a j)
+  whole : (j : Memory) → length (j .table) ≡ tableLength l → Reopening l (reopens j)
+  broken : (c : Call) (a : Arrival) (j : Memory) → length (j .table) ≡ tableLength l → Reopening l (cut c a j)
 
 -- the world just before: of a cut, after the broken-off call if that counts as made
 abbrev pub before : Event → World → World
 before (call c) w = w
 before (reopens j) w = w
-before (cut c a j) w = struck c a w
+before (cut c a j) w = crashed c a w
 
 -- the box that is reopened then
 abbrev pub reopenedBox : Event → World → Box
 reopenedBox (call c) w = w .box
-reopenedBox (reopens j) w = handed j (w .box)
-reopenedBox (cut c a j) w = handed j (struck c a w .box)
+reopenedBox (reopens j) w = withMemory j (w .box)
+reopenedBox (cut c a j) w = withMemory j (crashed c a w .box)
 
 -- the events that finish a reopening
 abbrev pub finishes : Event → World → Bool

@@ -11,20 +11,20 @@ use Rattle.layout.specs.declared.Block.{Block}
 use Rattle.layout.specs.declared.Label.{Label}
 use Rattle.layout.specs.Places.{labelOf, blockPlace, formatSteps, tableLength}
 use Rattle.record.specs.declared.Record.{Record}
-use Rattle.protocol.specs.Paper.{refused}
+use Rattle.protocol.specs.Reply.{refused}
 use Rattle.protocol.specs.Box.{Images, Box, Store, applied, Result, boxAfter}
 use Rattle.protocol.specs.Plan.{Call, format, step, reopen}
 use Rattle.protocol.specs.Kinds.{Kind, aFormat, aReopening, aStep, aService, kind}
 use Rattle.protocol.specs.Judge.{isReady}
 use Rattle.protocol.specs.Calls.{effectOf, resultOf, viewOf}
-use Rattle.protocol.specs.ReferenceDisk.{Disk, settled, fed}
+use Rattle.protocol.specs.ReferenceDisk.{Disk, durable, fed}
 
 pub record World : Type 0 where
   pub box : Box
   pub disk : Disk
 
 -- a table and a record that a reopening is handed
-pub record Junk : Type 0 where
+pub record Memory : Type 0 where
   pub table : List ℕ
   pub state : Record
 
@@ -35,9 +35,9 @@ pub data Arrival : Type 0 where
 pub data Event : Type 0 where
   call : Call → Event
   -- a reopening "with any record and any table"
-  reopens : Junk → Event
+  reopens : Memory → Event
   -- a cut of a call, then such a reopening
-  cut : Call → Arrival → Junk → Event
+  cut : Call → Arrival → Memory → Event
 
 -- "A block of a ready box reads as the page that view hands back"
 abbrev pub lent : List ℕ → Part
@@ -67,17 +67,17 @@ called c w =
     record { box = boxAfter r; disk = fed c (refused (r .said)) (readsIf (finished c r) (boxAfter r)) (w .disk) }
 
 -- the images with another table and record
-abbrev pub handed : Junk → Box → Box
-handed j x = record { images = x .images; table = j .table; state = j .state }
+abbrev pub withMemory : Memory → Box → Box
+withMemory j x = record { images = x .images; table = j .table; state = j .state }
 
 -- a reopening that is refused leaves box and reference disk as they were
 abbrev pub takenIf : Bool → World → World → World
 takenIf true w v = w
 takenIf false w v = v
 
-unfoldable pub reopened : Junk → World → World
+unfoldable pub reopened : Memory → World → World
 reopened j w =
-    takenIf (refused (resultOf reopen (handed j (w .box)) .said)) w (called reopen (record { box = handed j (w .box); disk = w .disk }))
+    takenIf (refused (resultOf reopen (withMemory j (w .box)) .said)) w (called reopen (record { box = withMemory j (w .box); disk = w .disk }))
 
 -- the images that a cut leaves: "all earlier stores done, and the page of the call it breaks off old or new"
 abbrev pub survived : Arrival → Option Store → Images → Images
@@ -91,8 +91,8 @@ made new none = false
 made new (some store) = true
 
 -- box and reference disk just before the reopening that follows a cut
-unfoldable pub struck : Call → Arrival → World → World
-struck c a w =
+unfoldable pub crashed : Call → Arrival → World → World
+crashed c a w =
     let e = effectOf c (w .box) in
     let v = takenIf (made a (e .store)) (called c w) w in
     record {
@@ -103,7 +103,7 @@ struck c a w =
 abbrev pub apply : Event → World → World
 apply (call c) w = called c w
 apply (reopens j) w = reopened j w
-apply (cut c a j) w = reopened j (struck c a w)
+apply (cut c a j) w = reopened j (crashed c a w)
 
 unfoldable pub run : List Event → World → World
 run [] w = w
@@ -120,7 +120,7 @@ formatted slots blocks x = steps (formatSteps (labelOf slots blocks)) (boxAfter 
 
 -- "both at first its HDD page"
 abbrev pub startOf : Label → Box → World
-startOf l x = record { box = x; disk = settled (λ b. pageAt (x .images .hdd) (blockPlace l b)) }
+startOf l x = record { box = x; disk = durable (λ b. pageAt (x .images .hdd) (blockPlace l b)) }
 
 -- the lists of demand 3: formats are refused where they stand, and after a cut the table has the right length
 abbrev pub KindFits : Kind → Bool → Type 0

@@ -1,4 +1,4 @@
-pub mod Paper
+pub mod Reply
 pub mod Rows
 pub mod Box
 pub mod Condition

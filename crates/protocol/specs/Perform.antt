@@ -13,7 +13,7 @@ use Rattle.layout.specs.LabelPage.{encodeLabel}
 use Rattle.layout.specs.MetaPage.{encodeMeta, rowsOn}
 use Rattle.record.specs.declared.Record.{Record}
 use Rattle.record.specs.declared.Phase.the-variants.{Formatting, Ready}
-use Rattle.protocol.specs.Paper.{Paper, announced, inSlot, done}
+use Rattle.protocol.specs.Reply.{Reply, announced, inSlot, done}
 use Rattle.protocol.specs.Rows.{rowBlock, rowFlags, setFlags, setRow, writing, withUsed, withoutWriting, withoutDirty}
 use Rattle.record.specs.Record.{labelIn, windowIn, recordOf, withHand, withPhase, withStamp, withWindow}
 use Rattle.record.specs.Window.{without}
@@ -23,7 +23,7 @@ use Rattle.protocol.specs.Plan.{Move, stay, uses, opens, lands, copies, 
 
 -- "A metadata store writes from the table (without used flags) the whole metadata page .., with the window, and the newest
 -- stamp plus 1; it clears unsettled": page p, from this record and this table
-unfoldable pub confirmed : ℕ → Paper → Record → List ℕ → Effect
+unfoldable pub confirmed : ℕ → Reply → Record → List ℕ → Effect
 confirmed p said r table =
     record {
       said = said;
@@ -59,7 +59,7 @@ abbrev pub landedIn : Slot → List ℕ → Box → Effect
 landedIn s page x = landedAs (writing (rowFlags (x .table) s)) s page x
 
 -- "copy its page to its HDD block, mark it clean"
-abbrev pub copiedFrom : Slot → Paper → List ℕ → Slot → Box → Effect
+abbrev pub copiedFrom : Slot → Reply → List ℕ → Slot → Box → Effect
 copiedFrom s said table hand x =
     record {
       said = said;

@@ -14,7 +14,7 @@ use Rattle.record.specs.declared.Phase.{Phase}
 use Rattle.record.specs.declared.Phase.the-variants.{Formatting, Recovering, Ready}
 use Rattle.protocol.specs.declared.Condition.{Condition}
 use Rattle.protocol.specs.declared.Condition.the-variants.{NotCached, Clean, Dirty, Writing, Fetching}
-use Rattle.protocol.specs.Paper.{Paper, overwrite, copiedOut, onDisk, nothingToDo, done}
+use Rattle.protocol.specs.Reply.{Reply, overwrite, copiedOut, onDisk, nothingToDo, done}
 use Rattle.protocol.specs.Rows.{rowFlags, dirty, withWriting}
 use Rattle.record.specs.Record.{labelIn, windowIn}
 use Rattle.protocol.specs.Box.{Box}
@@ -30,7 +30,7 @@ pub data Call : Type 0 where
 
 pub data Move : Type 0 where
   -- nothing changes
-  stay : Paper → Move
+  stay : Reply → Move
   -- the used flag of a slot is set
   uses : Slot → Move
   -- a slot is opened for a block with these flags; the table that the sweep left, and the hand after
@@ -38,7 +38,7 @@ pub data Move : Type 0 where
   -- a page goes into a slot, and an open slot is closed
   lands : Slot → List ℕ → Move
   -- a dirty slot's page is copied to its block; the answer, the table that the sweep left, and the hand after
-  copies : Slot → Paper → List ℕ → Slot → Move
+  copies : Slot → Reply → List ℕ → Slot → Move
   -- metadata page 0 is stored
   confirms : Move
   -- a metadata page is stored with the pending slots of the others

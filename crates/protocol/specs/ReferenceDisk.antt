@@ -18,8 +18,8 @@ abbrev pub MayBe : Disk → Block → List ℕ → Type 0
 MayBe d b page = List·Memᴰ page (d .contents b)
 
 -- each block's page is its only content: "both at first its HDD page"; a flush; a finished reopening
-abbrev pub settled : (Block → List ℕ) → Disk
-settled page = record { page = page; contents = λ b. page b ∷ [] }
+abbrev pub durable : (Block → List ℕ) → Disk
+durable page = record { page = page; contents = λ b. page b ∷ [] }
 
 -- "the bytes become the block's page and join its contents"
 abbrev pub written : Block → List ℕ → Disk → Disk
@@ -31,7 +31,7 @@ written b bytes d = record {
 -- what a call that was not refused does to the disk: "Landing a write", "Flush", "Anything else .. no change"
 abbrev pub fedCall : Purpose → Block → Disk → Disk
 fedCall toServe b d = d
-fedCall toSettle b d = settled (d .page)
+fedCall toSettle b d = durable (d .page)
 fedCall toWrite b d = d
 fedCall toFetch b d = d
 fedCall toLandFetch b d = d
@@ -41,4 +41,4 @@ fedCall (toLand bytes) b d = written b bytes d
 abbrev pub fed : Call → Bool → Option (Block → List ℕ) → Disk → Disk
 fed c true reads d = d
 fed c false none d = fedCall (aim c .purpose) (aim c .block) d
-fed c false (some reads) d = settled reads
+fed c false (some reads) d = durable reads

@@ -26,7 +26,7 @@ use Rattle.protocol.specs.Perform.{mendedAt}
 use Rattle.record.specs.Rule.{recordTest}
 use Rattle.record.proofs.WindowLaws.{take-array, window-left, window-end}
 use Rattle.record.proofs.RecordLaws.{parts, window-is, window-length}
-use Rattle.serving.specs.Moves.{Fits}
+use Rattle.serving.specs.Moves.{FitsRecord}
 use Rattle.layout.proofs.PlaceLaws.{meta-of-low}
 use Rattle.layout.specs.Numbers.{choose, least}
 use Rattle.layout.specs.declared.Window.{Window}
@@ -128,8 +128,8 @@ pub mended-is : (r next q : Record) (p : ℕ) (w left : Window) (phase : Phase) 
 mended-is r next q p w left phase e f g h k = rw (k, h, g, f, e, window-is r, phase-at (offPage p (windowIn r)))
 
 -- lengths fit it too
-pub mended-fits : (ssd table : ℕ) (r next : Record) (p : ℕ) → Fits ssd table r → recordTest r ≡ true → next ≡ mendedAt p r
-    → Fits ssd table next
+pub mended-fits : (ssd table : ℕ) (r next : Record) (p : ℕ) → FitsRecord ssd table r → recordTest r ≡ true → next ≡ mendedAt p r
+    → FitsRecord ssd table next
 mended-fits ssd table r next p F t e =
     let n : length (windowIn r) ≡ r .count = window-length r (parts r t) in
     rw e (record {

@@ -13,7 +13,7 @@ use Rattle.layout.specs.Places.{metaPages}
 use Rattle.record.specs.declared.Record.{Record}
 use Rattle.record.specs.declared.Phase.{Phase}
 use Rattle.record.specs.declared.Phase.the-variants.{Formatting, Recovering, Ready}
-use Rattle.protocol.specs.Paper.{done}
+use Rattle.protocol.specs.Reply.{done}
 use Rattle.record.specs.Record.{labelIn, windowIn, largestStamp}
 use Rattle.protocol.specs.Box.{Box, Result, refusing, left}
 use Rattle.protocol.specs.Plan.{step, formats, mends, lowestPage, stepping, storesMeta, plan}

@@ -28,7 +28,7 @@ ghost use Rattle.protocol.specs.Plan.{lowestPage};
 ghost use Rattle.protocol.specs.Perform.{mendedAt};
 ghost use Rattle.record.specs.Rule.{recordTest};
 ghost use Rattle.protocol.specs.Calls.{leaves, stepOf};
-ghost use Rattle.serving.specs.Moves.{Fits};
+ghost use Rattle.serving.specs.Moves.{FitsRecord};
 ghost use Rattle.layout.specs.Window.{windowMost, slotsIn, windowFrom, ZeroPast};
 ghost use Rattle.recovery.specs.Pending.{moreOff, phaseAt};
 
@@ -101,7 +101,7 @@ fn mended(state: Record, p: u32) -> Record
 
 // Stores the lowest-numbered page with a pending slot, with the pending slots of other pages.
 fn mend(ssd: &mut [u8], table: &[u32], state: Record) -> Record
-    requires { ⌜ Fits (length (now ssd)) (length (now table)) state ⌝ }
+    requires { ⌜ FitsRecord (length (now ssd)) (length (now table)) state ⌝ }
     requires { ⌜ recordTest state ≡ true ⌝ }
     requires { ⌜ 1 ≤ state .count ⌝ }
     requires { ⌜ state .newest < largestStamp ⌝ }
@@ -115,7 +115,7 @@ fn mend(ssd: &mut [u8], table: &[u32], state: Record) -> Record
 pub fn step(ssd: &mut [u8], hdd: &[u8], table: &[u32], state: Record) -> Outcome
     ensures { λ q. ⌜ leaves q (now (ssd .exit)) (now (hdd .entry)) (now (table .entry)) ≡ stepOf (now (ssd .entry)) (now (hdd .entry)) (now (table .entry)) state ⌝ }
 {
-    let judged = judge::sound(ssd.len(), hdd.len(), 4096, table, state, Block(0));
+    let judged = judge::judge_box(ssd.len(), hdd.len(), 4096, table, state, Block(0));
     let number = judged.number;
     if number != 0 {
         return answers::refused(number, state);

@@ -14,7 +14,7 @@ use Rattle.layout.specs.declared.Block.{Block}
 use Rattle.record.specs.declared.Record.{Record}
 use Rattle.protocol.specs.declared.Condition.{Condition}
 use Rattle.protocol.specs.declared.Condition.the-variants.{NotCached, Clean, Dirty}
-use Rattle.protocol.specs.Paper.{overwrite, nothingToDo}
+use Rattle.protocol.specs.Reply.{overwrite, nothingToDo}
 use Rattle.protocol.specs.Rows.{rowFlags, withWriting, openRows, allWriting}
 use Rattle.record.specs.Record.{labelIn, largestStamp}
 use Rattle.protocol.specs.Box.{Box, Effect, refusing, left}

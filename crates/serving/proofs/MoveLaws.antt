@@ -22,7 +22,7 @@ use Rattle.record.specs.Rule.{recordTest}
 use Rattle.protocol.specs.Perform.{joined}
 use Rattle.layout.proofs.Booleans.{Told, told, told-true, told-false}
 use Rattle.record.proofs.RecordLaws.{parts, window-is, window-length}
-use Rattle.serving.specs.Moves.{Fits, rowsEnd}
+use Rattle.serving.specs.Moves.{FitsRecord, rowsEnd}
 
 -- the rows of a metadata page, the last of which may be cut short by the table's end
 rows-part : (table : List ℕ) (start : ℕ) → start ≤ length table
@@ -62,8 +62,8 @@ block-holds hdd l b place size h e = omega arith
 
 -- a row is set and its slot joins the window: the lengths still fit
 pub joined-fits : (ssd : ℕ) (table after : List ℕ) (state next : Record) (s hand : Slot) (b : Block) (flags : ℕ)
-    → Fits ssd (length table) state → recordTest state ≡ true → state .count < 63 → after ≡ setRow table s b flags
-    → next ≡ joined s hand state → Fits ssd (length after) next
+    → FitsRecord ssd (length table) state → recordTest state ≡ true → state .count < 63 → after ≡ setRow table s b flags
+    → next ≡ joined s hand state → FitsRecord ssd (length after) next
 joined-fits ssd table after state next s hand b flags F t h e f =
     let n : length (windowIn state) ≡ state .count = window-length state (parts state t) in
     rw (f, e) (record {

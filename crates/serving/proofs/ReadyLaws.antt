@@ -22,12 +22,12 @@ use Rattle.record.specs.Window.{eachSlot}
 use Rattle.protocol.specs.Calls.{boxOf}
 use Rattle.layout.proofs.Booleans.{clash, and-parts}
 use Rattle.protocol.proofs.Accepted.{Legal, legal}
-use Rattle.protocol.proofs.Tables.{each-get}
+use Rattle.protocol.proofs.refine.Tables.{each-get}
 use Rattle.table.specs.Scan.{legalRows}
 use Rattle.record.proofs.RecordLaws.{parts}
 use Rattle.table.proofs.AgreeLaws.{ready-is}
 use Rattle.serving.specs.Judging.{refuseIf, soundThen, readyThen, servesThen}
-use Rattle.serving.specs.Moves.{Fits}
+use Rattle.serving.specs.Moves.{FitsRecord}
 use Rattle.serving.proofs.JudgingLaws.{Asks, stopped, passed, sound-asks, ready-asks}
 
 pass : (a : Bool) (n rest : ℕ) → refuseIf a (suc n) rest ≡ 0 → (a ≡ false) × (rest ≡ 0)
@@ -43,7 +43,7 @@ pub record SoundBox (ssd hdd : List ℕ) (page : ℕ) (t : List ℕ) (r : Record
   pub sound : Legal (boxOf ssd hdd t r)
   pub page-size : page ≡ 4096
   pub rows : legalRows (labelIn r) t ≡ true
-  pub fits : Fits (length ssd) (length t) r
+  pub fits : FitsRecord (length ssd) (length t) r
 
 -- and 6
 pub record ReadyBox (ssd hdd : List ℕ) (page : ℕ) (t : List ℕ) (r : Record) : Type 0 where

@@ -15,7 +15,7 @@ use Rattle.layout.specs.declared.Label.{Label}
 use Rattle.layout.specs.Places.{Limits, tableLength}
 use Rattle.layout.proofs.PlaceLaws.{within}
 use Rattle.record.specs.declared.Record.{Record}
-use Rattle.protocol.specs.Paper.{copiedOut}
+use Rattle.protocol.specs.Reply.{copiedOut}
 use Rattle.protocol.specs.Rows.{rowFlags, dirty, openRows, allWriting}
 use Rattle.record.specs.Record.{labelIn, largestStamp}
 use Rattle.protocol.specs.Box.{Box, Effect, refusing, left}
@@ -25,8 +25,8 @@ use Rattle.protocol.specs.Perform.{perform}
 use Rattle.record.specs.Rule.{recordTest}
 use Rattle.protocol.specs.Judge.{rowTest}
 use Rattle.record.proofs.RecordLaws.{parts}
-use Rattle.protocol.proofs.Flags.{legal-row}
-use Rattle.protocol.proofs.Tables.{Rows, each-get}
+use Rattle.protocol.proofs.refine.Flags.{legal-row}
+use Rattle.protocol.proofs.refine.Tables.{Rows, each-get}
 use Rattle.table.specs.Scan.{legalRows}
 use Rattle.table.specs.Sweeps.{clearedFrom}
 use Rattle.serving.specs.Judging.{refuseIf}

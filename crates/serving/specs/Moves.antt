@@ -18,7 +18,7 @@ use Rattle.table.specs.Sweeps.{clearedFrom}
 use Rattle.serving.specs.Judging.{refuseIf}
 
 -- the lengths of the SSD image and of the table fit a record that keeps its rule
-pub record Fits (ssd table : ℕ) (r : Record) : Type 0 where
+pub record FitsRecord (ssd table : ℕ) (r : Record) : Type 0 where
   pub ssd-size : ssd ≡ ssdLength (labelIn r)
   pub table-size : table ≡ tableLength (labelIn r)
   pub slots-most : r .label .slots ≤ 57600

@@ -3,11 +3,11 @@ use protocol::Answer;
 use protocol::Outcome;
 use record::Record;
 ghost use mathlib.Core.Path.{_≡_};
-ghost use Rattle.protocol.specs.Paper.{paperOf, refusal};
+ghost use Rattle.protocol.specs.Reply.{replyOf, refusal};
 
 // A refusal by its number, with the record handed in.
 pub fn refused(number: u32, state: Record) -> Outcome
-    ensures { λ q. ⌜ (paperOf (q .answer) ≡ refusal number) × (q .state ≡ state) ⌝ }
+    ensures { λ q. ⌜ (replyOf (q .answer) ≡ refusal number) × (q .state ≡ state) ⌝ }
 {
     Outcome {
         answer: Answer::Refused(number),

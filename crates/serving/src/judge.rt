@@ -67,7 +67,14 @@ fn look(table: &[u32], state: Record, b: Block) -> Judged
 }
 
 // Numbers 3, 4 and 5; `page` is the length of the page that the call is lent, 4096 where it is lent none.
-pub fn sound(ssd: usize, hdd: usize, page: usize, table: &[u32], state: Record, b: Block) -> Judged
+pub fn judge_box(
+    ssd: usize,
+    hdd: usize,
+    page: usize,
+    table: &[u32],
+    state: Record,
+    b: Block,
+) -> Judged
     ensures { λ r. ⌜ r ≡ judgedBy (soundThen ssd hdd page (now (table .entry)) state 0) (now (table .entry)) b ⌝ }
 {
     if !rule::record_ok(state) {
@@ -95,10 +102,17 @@ fn is_ready(phase: Phase) -> bool
 }
 
 // Numbers 3 to 6.
-pub fn ready(ssd: usize, hdd: usize, page: usize, table: &[u32], state: Record, b: Block) -> Judged
+pub fn judge_ready(
+    ssd: usize,
+    hdd: usize,
+    page: usize,
+    table: &[u32],
+    state: Record,
+    b: Block,
+) -> Judged
     ensures { λ r. ⌜ r ≡ judgedBy (readyThen ssd hdd page (now (table .entry)) state 0) (now (table .entry)) b ⌝ }
 {
-    let judged = sound(ssd, hdd, page, table, state, b);
+    let judged = judge_box(ssd, hdd, page, table, state, b);
     if judged.number != 0 {
         return judged;
     }
@@ -110,10 +124,17 @@ pub fn ready(ssd: usize, hdd: usize, page: usize, table: &[u32], state: Record, 
 }
 
 // Numbers 3 to 7.
-pub fn serves(ssd: usize, hdd: usize, page: usize, table: &[u32], state: Record, b: Block) -> Judged
+pub fn judge_block(
+    ssd: usize,
+    hdd: usize,
+    page: usize,
+    table: &[u32],
+    state: Record,
+    b: Block,
+) -> Judged
     ensures { λ r. ⌜ r ≡ judgedBy (servesThen ssd hdd page (now (table .entry)) state b 0) (now (table .entry)) b ⌝ }
 {
-    let judged = ready(ssd, hdd, page, table, state, b);
+    let judged = judge_ready(ssd, hdd, page, table, state, b);
     if judged.number != 0 {
         return judged;
     }

@@ -19,7 +19,7 @@ ghost use Rattle.record.specs.Record.{largestStamp, labelIn, windowIn, withStam
 ghost use Rattle.record.specs.Window.{without};
 ghost use Rattle.record.specs.Rule.{recordTest};
 ghost use Rattle.protocol.specs.Perform.{joined};
-ghost use Rattle.serving.specs.Moves.{Fits, rowsEnd};
+ghost use Rattle.serving.specs.Moves.{FitsRecord, rowsEnd};
 
 // Where the rows of a metadata page end that begin at `start`.
 fn rows_end(len: usize, start: usize) -> usize
@@ -34,7 +34,7 @@ fn rows_end(len: usize, start: usize) -> usize
 
 // Stores metadata page p: a stamp, the record's window and the rows of the page's slots.
 pub fn store_meta(ssd: &mut [u8], table: &[u32], state: Record, stamp: u32, p: u32)
-    requires { ⌜ Fits (length (now ssd)) (length (now table)) state ⌝ }
+    requires { ⌜ FitsRecord (length (now ssd)) (length (now table)) state ⌝ }
     requires { ⌜ p < metaPages (labelIn state) ⌝ }
     ensures { λ _. ⌜ now (ssd .exit) ≡ putPage (now (ssd .entry)) (metaPlace (labelIn state) p) (encodeMeta stamp (windowIn state) (rowsOn p (now (table .entry)))) ⌝ }
 {
@@ -47,7 +47,7 @@ pub fn store_meta(ssd: &mut [u8], table: &[u32], state: Record, stamp: u32, p: u
 
 // Stores metadata page p with the newest stamp plus 1, and gives the record after it.
 pub fn confirm(ssd: &mut [u8], table: &[u32], state: Record, p: u32) -> Record
-    requires { ⌜ Fits (length (now ssd)) (length (now table)) state ⌝ }
+    requires { ⌜ FitsRecord (length (now ssd)) (length (now table)) state ⌝ }
     requires { ⌜ p < metaPages (labelIn state) ⌝ }
     requires { ⌜ state .newest < largestStamp ⌝ }
     ensures { λ q. ⌜ (q ≡ withStamp state (state .newest + 1)) × (now (ssd .exit) ≡ putPage (now (ssd .entry)) (metaPlace (labelIn state) p) (encodeMeta (state .newest + 1) (windowIn state) (rowsOn p (now (table .entry))))) ⌝ }
@@ -87,7 +87,7 @@ pub fn open_slot(
     flags: u32,
     hand: Slot,
 ) -> Record
-    requires { ⌜ Fits (length (now ssd)) (length (now table)) state ⌝ }
+    requires { ⌜ FitsRecord (length (now ssd)) (length (now table)) state ⌝ }
     requires { ⌜ recordTest state ≡ true ⌝ }
     requires { ⌜ state .count < windowMost ⌝ }
     requires { ⌜ state .newest < largestStamp ⌝ }
@@ -143,7 +143,7 @@ pub fn copy_in(ssd: &mut [u8], hdd: &[u8], state: Record, s: Slot, b: Block)
 
 // Copies a dirty slot's page to its block, and marks the slot clean.
 pub fn copy_out(ssd: &[u8], hdd: &mut [u8], table: &mut [u32], state: Record, s: Slot)
-    requires { ⌜ Fits (length (now ssd)) (length (now table)) state ⌝ }
+    requires { ⌜ FitsRecord (length (now ssd)) (length (now table)) state ⌝ }
     requires { ⌜ length (now hdd) ≡ hddLength (labelIn state) ⌝ }
     requires { ⌜ state .label .blocks ≤ 16777216 ⌝ }
     requires { ⌜ s .0 < state .label .slots ⌝ }

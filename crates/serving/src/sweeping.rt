@@ -25,7 +25,7 @@ ghost use Rattle.protocol.specs.Calls.{leaves, boxOf};
 ghost use Rattle.table.specs.Scan.{legalRows};
 ghost use Rattle.table.specs.Sweeps.{sweptOf};
 ghost use Rattle.table.specs.declared.Swept.the-variants.{Took};
-ghost use Rattle.serving.specs.Moves.{Fits, stampNumber, openingNumber, takenBy, sweptFor};
+ghost use Rattle.serving.specs.Moves.{FitsRecord, stampNumber, openingNumber, takenBy, sweptFor};
 
 // 13 of an offer or a fetch, or 0.
 fn stamp_number(newest: u32) -> u32
@@ -58,7 +58,7 @@ fn take(
     s: Slot,
     passed: u32,
 ) -> Outcome
-    requires { ⌜ Fits (length (now ssd)) (length (now table)) state ⌝ }
+    requires { ⌜ FitsRecord (length (now ssd)) (length (now table)) state ⌝ }
     requires { ⌜ length (now hdd) ≡ hddLength (labelIn state) ⌝ }
     requires { ⌜ recordTest state ≡ true ⌝ }
     requires { ⌜ legalRows (labelIn state) (now table) ≡ true ⌝ }
@@ -95,7 +95,7 @@ pub fn sweep_for(
     flags: u32,
     writing: u32,
 ) -> Outcome
-    requires { ⌜ Fits (length (now ssd)) (length (now table)) state ⌝ }
+    requires { ⌜ FitsRecord (length (now ssd)) (length (now table)) state ⌝ }
     requires { ⌜ length (now hdd) ≡ hddLength (labelIn state) ⌝ }
     requires { ⌜ recordTest state ≡ true ⌝ }
     requires { ⌜ legalRows (labelIn state) (now table) ≡ true ⌝ }

@@ -12,7 +12,7 @@ use Rattle.layout.specs.declared.Label.{Label}
 use Rattle.layout.specs.declared.LabelRead.the-variants.{Legal, Illegal}
 use Rattle.layout.specs.Places.{ssdLength, hddLength, tableLength}
 use Rattle.record.specs.declared.Record.{Record}
-use Rattle.protocol.specs.Paper.{done}
+use Rattle.protocol.specs.Reply.{done}
 use Rattle.protocol.specs.Box.{Box, Result, refusing, left}
 use Rattle.protocol.specs.Recovery.{labelRead, labelAt, metasOf, pagesTest, Recovered, recover}
 use Rattle.protocol.specs.Plan.{reopen, recovers, plan}

@@ -21,7 +21,7 @@ pub fn offer(
 ) -> Outcome
     ensures { λ q. ⌜ leaves q (now (ssd .exit)) (now (hdd .exit)) (now (table .exit)) ≡ offerOf (now (ssd .entry)) (now (hdd .entry)) (now (table .entry)) state block ⌝ }
 {
-    let seen = judge::serves(ssd.len(), hdd.len(), 4096, table, state, block);
+    let seen = judge::judge_block(ssd.len(), hdd.len(), 4096, table, state, block);
     let number = seen.number;
     if number != 0 {
         return answers::refused(number, state);

@@ -14,18 +14,18 @@ nil-of [] e = refl
 nil-of (s ∷ w) e = clash refl e
 
 -- a mending box with nothing left is ready
-module _ (x : Model) (p : Plain) (M : Mending x p) (over : x .mending ≡ false) where
-  win-nil : x .win ≡ []
-  win-nil = nil-of (x .win) (sym (M .phase) ∙ over)
+module _ (x : Model) (p : Plain) (M : Mending x p) (over : x .recovering ≡ false) where
+  window-nil : x .window ≡ []
+  window-nil = nil-of (x .window) (sym (M .phase) ∙ over)
 
-  swin-nil : x .swin ≡ []
-  swin-nil = sym (M .window) ∙ win-nil
+  stored-window-nil : x .storedWindow ≡ []
+  stored-window-nil = sym (M .window) ∙ window-nil
 
-  rows-shut : (s : ℕ) → x .row s ≡ shut (x .ent s)
-  rows-shut s = M .rows s ∙ rw (swin-nil, has-nil s)
+  rows-shut : (s : ℕ) → x .row s ≡ shut (x .entry s)
+  rows-shut s = M .rows s ∙ rw (stored-window-nil, has-nil s)
 
   pub over-ready : Ready x (fixed x)
-  over-ready = finished-ready x p (M .images) rows-shut swin-nil win-nil (M .stamps) (M .settled) over
+  over-ready = finished-ready x p (M .images) rows-shut stored-window-nil window-nil (M .stamps) (M .settled) over
 
   pub over-allowed : (b : ℕ) → List·Memᴰ (view x b) (p .may b)
-  over-allowed = finished-allowed x p (M .images) rows-shut swin-nil win-nil (M .stamps) (M .settled) over
+  over-allowed = finished-allowed x p (M .images) rows-shut stored-window-nil window-nil (M .stamps) (M .settled) over

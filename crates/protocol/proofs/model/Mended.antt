@@ -7,8 +7,8 @@ use lib.ListN.{length}
 use lib.Dec.{eqb}
 use Rattle.layout.proofs.Booleans.{Told, told, told-true, told-false, clash}
 use Rattle.protocol.proofs.model.Base.{keep-window, has, metaNo, off, has-keep-in, has-keep-out, length-keep-lt, eqb-same}
-use Rattle.protocol.proofs.model.Model.{Row, valid, dty, opn, blk, shut, revived, Model, Plain, Stored, Mending, reopened, mended}
-use Rattle.protocol.proofs.model.Rows.{shut-valid, shut-blk, shut-dty, shut-shut}
+use Rattle.protocol.proofs.model.Model.{Row, valid, dirtyRow, openRow, blockOf, shut, revived, Model, Plain, Stored, Mending, reopened, mended}
+use Rattle.protocol.proofs.model.Rows.{shut-valid, shut-block, shut-dirty, shut-shut}
 
 -- a reopening leaves a mending box (or, with nothing pending, what Reopened calls finished)
 pub reopened-mending : (x : Model) (p : Plain) → Stored x p → Mending (reopened x) p
@@ -18,7 +18,7 @@ reopened-mending x p S =
       images = record {
         in-range = S .in-range;
         in-blocks = S .in-blocks;
-        swin-rule = S .swin-rule;
+        stored-window-rule = S .stored-window-rule;
         once = S .once;
         stored-open = S .stored-open;
         kept = S .kept;
@@ -34,79 +34,79 @@ reopened-mending x p S =
       phase = refl;
     }
 
-module _ (x : Model) (p : Plain) (M : Mending x p) (q s₀ : ℕ) (pending : has (x .win) s₀ ≡ true) (on-page : metaNo s₀ ≡ q) where
+module _ (x : Model) (p : Plain) (M : Mending x p) (q s₀ : ℕ) (pending : has (x .window) s₀ ≡ true) (on-page : metaNo s₀ ≡ q) where
   S : Stored x p
   S = M .images
 
-  here : (t : ℕ) → eqb (metaNo t) q ≡ true → has (off q (x .win)) t ≡ false
-  here t e = has-keep-out _ (x .win) t (rw e)
+  here : (t : ℕ) → eqb (metaNo t) q ≡ true → has (off q (x .window)) t ≡ false
+  here t e = has-keep-out _ (x .window) t (rw e)
 
-  away : (t : ℕ) → eqb (metaNo t) q ≡ false → has (off q (x .win)) t ≡ has (x .swin) t
-  away t e = has-keep-in _ (x .win) t (rw e) ∙ ap (λ w. has w t) (M .window)
+  away : (t : ℕ) → eqb (metaNo t) q ≡ false → has (off q (x .window)) t ≡ has (x .storedWindow) t
+  away t e = has-keep-in _ (x .window) t (rw e) ∙ ap (λ w. has w t) (M .window)
 
   ent′ : ℕ → Row
-  ent′ t = cond (eqb (metaNo t) q) (x .row t) (x .ent t)
+  ent′ t = cond (eqb (metaNo t) q) (x .row t) (x .entry t)
 
-  ent-here : (t : ℕ) → eqb (metaNo t) q ≡ true → ent′ t ≡ revived (has (x .swin) t) (x .ent t)
+  entry-here : (t : ℕ) → eqb (metaNo t) q ≡ true → ent′ t ≡ revived (has (x .storedWindow) t) (x .entry t)
   unfolding ent′
-  ent-here t e = rw e (M .rows t)
+  entry-here t e = rw e (M .rows t)
 
-  ent-away : (t : ℕ) → eqb (metaNo t) q ≡ false → ent′ t ≡ x .ent t
+  entry-away : (t : ℕ) → eqb (metaNo t) q ≡ false → ent′ t ≡ x .entry t
   unfolding ent′
-  ent-away t e = rw e
+  entry-away t e = rw e
 
   -- an entry that is still valid
   record Was (t : ℕ) : Type 0 where
-    held : valid (x .ent t) ≡ true
-    same : blk (ent′ t) ≡ blk (x .ent t)
-    also : dty (ent′ t) ≡ dty (x .ent t)
-    left : has (off q (x .win)) t ≡ false → has (x .swin) t ≡ false
+    held : valid (x .entry t) ≡ true
+    same : blockOf (ent′ t) ≡ blockOf (x .entry t)
+    also : dirtyRow (ent′ t) ≡ dirtyRow (x .entry t)
+    left : has (off q (x .window)) t ≡ false → has (x .storedWindow) t ≡ false
 
   was : (t : ℕ) → valid (ent′ t) ≡ true → Was t
-  was t v = go (told (eqb (metaNo t) q)) (told (has (x .swin) t))
+  was t v = go (told (eqb (metaNo t) q)) (told (has (x .storedWindow) t))
     where
-      go : Told (eqb (metaNo t) q) → Told (has (x .swin) t) → Was t
-      go (told-true e) (told-true h) = clash refl (sym (rw (ent-here t e, h) at v))
+      go : Told (eqb (metaNo t) q) → Told (has (x .storedWindow) t) → Was t
+      go (told-true e) (told-true h) = clash refl (sym (rw (entry-here t e, h) at v))
       go (told-true e) (told-false h) =
-          let f : ent′ t ≡ shut (x .ent t) = rw (ent-here t e, h) in
+          let f : ent′ t ≡ shut (x .entry t) = rw (entry-here t e, h) in
           record {
-            held = sym (shut-valid (x .ent t))
+            held = sym (shut-valid (x .entry t))
                 ∙ (rw f at v);
-            same = rw f (shut-blk (x .ent t));
-            also = rw f (shut-dty (x .ent t));
+            same = rw f (shut-block (x .entry t));
+            also = rw f (shut-dirty (x .entry t));
             left = λ _. h;
           }
       go (told-false e) h =
-          record { held = rw (ent-away t e) at v; same = rw (ent-away t e); also = rw (ent-away t e); left = λ k. sym (away t e) ∙ k }
+          record { held = rw (entry-away t e) at v; same = rw (entry-away t e); also = rw (entry-away t e); left = λ k. sym (away t e) ∙ k }
 
   -- a kept entry stays
-  stays : (t : ℕ) → valid (x .ent t) ≡ true → has (x .swin) t ≡ false
-      → (valid (ent′ t) ≡ true) × (has (off q (x .win)) t ≡ false) × (blk (ent′ t) ≡ blk (x .ent t))
+  stays : (t : ℕ) → valid (x .entry t) ≡ true → has (x .storedWindow) t ≡ false
+      → (valid (ent′ t) ≡ true) × (has (off q (x .window)) t ≡ false) × (blockOf (ent′ t) ≡ blockOf (x .entry t))
   stays t v h = go (told (eqb (metaNo t) q))
     where
-      go : Told (eqb (metaNo t) q) → (valid (ent′ t) ≡ true) × (has (off q (x .win)) t ≡ false) × (blk (ent′ t) ≡ blk (x .ent t))
+      go : Told (eqb (metaNo t) q) → (valid (ent′ t) ≡ true) × (has (off q (x .window)) t ≡ false) × (blockOf (ent′ t) ≡ blockOf (x .entry t))
       go (told-true e) =
-          let f : ent′ t ≡ shut (x .ent t) = rw (ent-here t e, h) in
-          (rw f (shut-valid (x .ent t) ∙ v), here t e, rw f (shut-blk (x .ent t)))
-      go (told-false e) = (rw (ent-away t e) v, away t e ∙ h, rw (ent-away t e))
+          let f : ent′ t ≡ shut (x .entry t) = rw (entry-here t e, h) in
+          (rw f (shut-valid (x .entry t) ∙ v), here t e, rw f (shut-block (x .entry t)))
+      go (told-false e) = (rw (entry-away t e) v, away t e ∙ h, rw (entry-away t e))
 
-  mended-open : (t : ℕ) → has (off q (x .win)) t ≡ true → opn (ent′ t) ≡ true
+  mended-open : (t : ℕ) → has (off q (x .window)) t ≡ true → openRow (ent′ t) ≡ true
   mended-open t h = go (told (eqb (metaNo t) q))
     where
-      go : Told (eqb (metaNo t) q) → opn (ent′ t) ≡ true
+      go : Told (eqb (metaNo t) q) → openRow (ent′ t) ≡ true
       go (told-true e) = clash h (here t e)
-      go (told-false e) = rw (ent-away t e) (S .stored-open t (sym (away t e) ∙ h))
+      go (told-false e) = rw (entry-away t e) (S .stored-open t (sym (away t e) ∙ h))
 
-  mended-rows : (t : ℕ) → x .row t ≡ revived (has (off q (x .win)) t) (ent′ t)
+  mended-rows : (t : ℕ) → x .row t ≡ revived (has (off q (x .window)) t) (ent′ t)
   mended-rows t = go (told (eqb (metaNo t) q))
     where
-      go : Told (eqb (metaNo t) q) → x .row t ≡ revived (has (off q (x .win)) t) (ent′ t)
-      go (told-true e) = rw (here t e, ent-here t e, M .rows t) (again (has (x .swin) t))
+      go : Told (eqb (metaNo t) q) → x .row t ≡ revived (has (off q (x .window)) t) (ent′ t)
+      go (told-true e) = rw (here t e, entry-here t e, M .rows t) (again (has (x .storedWindow) t))
         where
-          again : (b : Bool) → revived b (x .ent t) ≡ shut (revived b (x .ent t))
+          again : (b : Bool) → revived b (x .entry t) ≡ shut (revived b (x .entry t))
           again true = refl
-          again false = sym (shut-shut (x .ent t))
-      go (told-false e) = rw (away t e, ent-away t e) (M .rows t)
+          again false = sym (shut-shut (x .entry t))
+      go (told-false e) = rw (away t e, entry-away t e) (M .rows t)
 
   pub mended-mending : Mending (mended q x) p
   unfolding mended ent′
@@ -115,7 +115,7 @@ module _ (x : Model) (p : Plain) (M : Mending x p) (q s₀ : ℕ) (pending : has
         images = record {
           in-range = λ t v. S .in-range t (was t v .held);
           in-blocks = λ t v. rw (was t v .same) (S .in-blocks t (was t v .held));
-          swin-rule = keep-window _ (x .slots) (x .win) (rw (M .window) (S .swin-rule));
+          stored-window-rule = keep-window _ (x .slots) (x .window) (rw (M .window) (S .stored-window-rule));
           once = λ t u v w e. S .once t u (was t v .held) (was u w .held) (sym (was t v .same) ∙ e ∙ was u w .same);
           stored-open = mended-open;
           kept = λ t v h. rw (was t v .same) (S .kept t (was t v .held) (was t v .left h));
@@ -127,7 +127,7 @@ module _ (x : Model) (p : Plain) (M : Mending x p) (q s₀ : ℕ) (pending : has
             S .budget,
             M .stamps,
             ap length (M .window),
-            length-keep-lt (λ t. not (eqb (metaNo t) q)) (x .win) s₀ pending (rw (on-page, eqb-same q)),
+            length-keep-lt (λ t. not (eqb (metaNo t) q)) (x .window) s₀ pending (rw (on-page, eqb-same q)),
           );
         };
         rows = mended-rows;

@@ -25,26 +25,26 @@ valid (dirty b) = true
 valid (fetching b) = true
 valid (writing b) = true
 
-abbrev pub dty : Row → Bool
-dty free = false
-dty (clean b) = false
-dty (dirty b) = true
-dty (fetching b) = false
-dty (writing b) = true
+abbrev pub dirtyRow : Row → Bool
+dirtyRow free = false
+dirtyRow (clean b) = false
+dirtyRow (dirty b) = true
+dirtyRow (fetching b) = false
+dirtyRow (writing b) = true
 
-abbrev pub opn : Row → Bool
-opn free = false
-opn (clean b) = false
-opn (dirty b) = false
-opn (fetching b) = true
-opn (writing b) = true
+abbrev pub openRow : Row → Bool
+openRow free = false
+openRow (clean b) = false
+openRow (dirty b) = false
+openRow (fetching b) = true
+openRow (writing b) = true
 
-abbrev pub blk : Row → ℕ
-blk free = 0
-blk (clean b) = b
-blk (dirty b) = b
-blk (fetching b) = b
-blk (writing b) = b
+abbrev pub blockOf : Row → ℕ
+blockOf free = 0
+blockOf (clean b) = b
+blockOf (dirty b) = b
+blockOf (fetching b) = b
+blockOf (writing b) = b
 
 -- a row that has landed; one that was copied out; what a reopening makes of an entry
 abbrev pub shut : Row → Row
@@ -69,15 +69,15 @@ pub record Model : Type 0 where
   pub slots : ℕ
   pub blocks : ℕ
   pub row : ℕ → Row
-  pub ent : ℕ → Row
+  pub entry : ℕ → Row
   pub hdd : ℕ → Page
-  pub dat : ℕ → Page
-  pub win : List ℕ
-  pub swin : List ℕ
+  pub slotPage : ℕ → Page
+  pub window : List ℕ
+  pub storedWindow : List ℕ
   pub newest : ℕ
   pub stamp : ℕ
-  pub unsettled : Bool
-  pub mending : Bool
+  pub unconfirmed : Bool
+  pub recovering : Bool
 
 pub record Plain : Type 0 where
   pub page : ℕ → Page
@@ -94,22 +94,22 @@ stored q r w x =
       slots = x .slots;
       blocks = x .blocks;
       row = r;
-      ent = λ t. cond (eqb (metaNo t) q) (r t) (x .ent t);
+      entry = λ t. cond (eqb (metaNo t) q) (r t) (x .entry t);
       hdd = x .hdd;
-      dat = x .dat;
-      win = w;
-      swin = w;
+      slotPage = x .slotPage;
+      window = w;
+      storedWindow = w;
       newest = suc (x .newest);
       stamp = suc (x .newest);
-      unsettled = false;
-      mending = x .mending;
+      unconfirmed = false;
+      recovering = x .recovering;
     }
 
 abbrev pub opened : ℕ → Row → Model → Model
-opened s r x = stored (metaNo s) (upd (x .row) s r) (x .win ++ (s ∷ [])) x
+opened s r x = stored (metaNo s) (upd (x .row) s r) (x .window ++ (s ∷ [])) x
 
 abbrev pub flushed : Model → Model
-flushed x = stored 0 (x .row) (x .win) x
+flushed x = stored 0 (x .row) (x .window) x
 
 unfoldable pub landed : ℕ → Page → Model → Model
 landed s d x =
@@ -117,15 +117,15 @@ landed s d x =
       slots = x .slots;
       blocks = x .blocks;
       row = upd (x .row) s (shut (x .row s));
-      ent = x .ent;
+      entry = x .entry;
       hdd = x .hdd;
-      dat = upd (x .dat) s d;
-      win = without (x .win) s;
-      swin = x .swin;
+      slotPage = upd (x .slotPage) s d;
+      window = without (x .window) s;
+      storedWindow = x .storedWindow;
       newest = x .newest;
       stamp = x .stamp;
-      unsettled = x .unsettled || opn (x .row s);
-      mending = x .mending;
+      unconfirmed = x .unconfirmed || openRow (x .row s);
+      recovering = x .recovering;
     }
 
 unfoldable pub copied : ℕ → Model → Model
@@ -134,15 +134,15 @@ copied s x =
       slots = x .slots;
       blocks = x .blocks;
       row = upd (x .row) s (cleaned (x .row s));
-      ent = x .ent;
-      hdd = upd (x .hdd) (blk (x .row s)) (x .dat s);
-      dat = x .dat;
-      win = x .win;
-      swin = x .swin;
+      entry = x .entry;
+      hdd = upd (x .hdd) (blockOf (x .row s)) (x .slotPage s);
+      slotPage = x .slotPage;
+      window = x .window;
+      storedWindow = x .storedWindow;
       newest = x .newest;
       stamp = x .stamp;
-      unsettled = x .unsettled;
-      mending = x .mending;
+      unconfirmed = x .unconfirmed;
+      recovering = x .recovering;
     }
 
 abbrev pub empty : List ℕ → Bool
@@ -154,16 +154,16 @@ reopened x =
     record {
       slots = x .slots;
       blocks = x .blocks;
-      row = λ t. revived (has (x .swin) t) (x .ent t);
-      ent = x .ent;
+      row = λ t. revived (has (x .storedWindow) t) (x .entry t);
+      entry = x .entry;
       hdd = x .hdd;
-      dat = x .dat;
-      win = x .swin;
-      swin = x .swin;
+      slotPage = x .slotPage;
+      window = x .storedWindow;
+      storedWindow = x .storedWindow;
       newest = x .stamp;
       stamp = x .stamp;
-      unsettled = false;
-      mending = not (empty (x .swin));
+      unconfirmed = false;
+      recovering = not (empty (x .storedWindow));
     }
 
 -- one mending step, at the page q
@@ -173,15 +173,15 @@ mended q x =
       slots = x .slots;
       blocks = x .blocks;
       row = x .row;
-      ent = λ t. cond (eqb (metaNo t) q) (x .row t) (x .ent t);
+      entry = λ t. cond (eqb (metaNo t) q) (x .row t) (x .entry t);
       hdd = x .hdd;
-      dat = x .dat;
-      win = off q (x .win);
-      swin = off q (x .win);
+      slotPage = x .slotPage;
+      window = off q (x .window);
+      storedWindow = off q (x .window);
       newest = suc (x .newest);
       stamp = suc (x .newest);
-      unsettled = false;
-      mending = not (empty (off q (x .win)));
+      unconfirmed = false;
+      recovering = not (empty (off q (x .window)));
     }
 
 abbrev pub count : Bool → ℕ
@@ -193,63 +193,63 @@ count-le true = omega arith
 count-le false = omega arith
 
 pub record Ready (x : Model) (p : Plain) : Type 0 where
-  pub phase : x .mending ≡ false
+  pub phase : x .recovering ≡ false
   pub in-range : (s : ℕ) → valid (x .row s) ≡ true → s < x .slots
-  pub in-blocks : (s : ℕ) → valid (x .row s) ≡ true → blk (x .row s) < x .blocks
-  pub win-rule : Window (x .slots) (x .win)
-  pub swin-rule : Window (x .slots) (x .swin)
-  pub same-valid : (s : ℕ) → valid (x .ent s) ≡ valid (x .row s)
-  pub same-blk : (s : ℕ) → blk (x .ent s) ≡ blk (x .row s)
-  pub dirty-below : (s : ℕ) → dty (x .row s) ≡ true → dty (x .ent s) ≡ true
-  pub open-row : (s : ℕ) → opn (x .row s) ≡ has (x .win) s
-  pub win-stored : (s : ℕ) → has (x .win) s ≡ true → has (x .swin) s ≡ true
-  pub stored-open : (s : ℕ) → has (x .swin) s ≡ true → opn (x .ent s) ≡ true
-  pub settled : x .unsettled ≡ false → (s : ℕ) → has (x .swin) s ≡ true → has (x .win) s ≡ true
-  pub once : (s t : ℕ) → valid (x .row s) ≡ true → valid (x .row t) ≡ true → blk (x .row s) ≡ blk (x .row t) → s ≡ t
-  pub cached : (s : ℕ) → valid (x .row s) ≡ true → opn (x .row s) ≡ false → x .dat s ≡ p .page (blk (x .row s))
-  pub on-disk : (b : ℕ) → ((s : ℕ) → dty (x .row s) ≡ true → opn (x .row s) ≡ false → blk (x .row s) ≢ b) → x .hdd b ≡ p .page b
+  pub in-blocks : (s : ℕ) → valid (x .row s) ≡ true → blockOf (x .row s) < x .blocks
+  pub window-rule : Window (x .slots) (x .window)
+  pub stored-window-rule : Window (x .slots) (x .storedWindow)
+  pub same-valid : (s : ℕ) → valid (x .entry s) ≡ valid (x .row s)
+  pub same-block : (s : ℕ) → blockOf (x .entry s) ≡ blockOf (x .row s)
+  pub dirty-below : (s : ℕ) → dirtyRow (x .row s) ≡ true → dirtyRow (x .entry s) ≡ true
+  pub open-row : (s : ℕ) → openRow (x .row s) ≡ has (x .window) s
+  pub window-stored : (s : ℕ) → has (x .window) s ≡ true → has (x .storedWindow) s ≡ true
+  pub stored-open : (s : ℕ) → has (x .storedWindow) s ≡ true → openRow (x .entry s) ≡ true
+  pub settled : x .unconfirmed ≡ false → (s : ℕ) → has (x .storedWindow) s ≡ true → has (x .window) s ≡ true
+  pub once : (s t : ℕ) → valid (x .row s) ≡ true → valid (x .row t) ≡ true → blockOf (x .row s) ≡ blockOf (x .row t) → s ≡ t
+  pub cached : (s : ℕ) → valid (x .row s) ≡ true → openRow (x .row s) ≡ false → x .slotPage s ≡ p .page (blockOf (x .row s))
+  pub on-disk : (b : ℕ) → ((s : ℕ) → dirtyRow (x .row s) ≡ true → openRow (x .row s) ≡ false → blockOf (x .row s) ≢ b) → x .hdd b ≡ p .page b
   pub may-page : (b : ℕ) → List·Memᴰ (p .page b) (p .may b)
-  pub loose : (b : ℕ) → ((s : ℕ) → valid (x .row s) ≡ true → has (x .swin) s ≡ false → blk (x .row s) ≢ b) → List·Memᴰ (x .hdd b) (p .may b)
+  pub loose : (b : ℕ) → ((s : ℕ) → valid (x .row s) ≡ true → has (x .storedWindow) s ≡ false → blockOf (x .row s) ≢ b) → List·Memᴰ (x .hdd b) (p .may b)
   pub stamps : x .stamp ≡ x .newest
-  pub short : length (x .win) + count (x .unsettled) ≤ length (x .swin)
-  pub budget : x .newest + length (x .swin) ≤ largestStamp
+  pub short : length (x .window) + count (x .unconfirmed) ≤ length (x .storedWindow)
+  pub budget : x .newest + length (x .storedWindow) ≤ largestStamp
 
 -- what holds of the images alone, whatever record and table there are
 pub record Stored (x : Model) (p : Plain) : Type 0 where
-  pub in-range : (s : ℕ) → valid (x .ent s) ≡ true → s < x .slots
-  pub in-blocks : (s : ℕ) → valid (x .ent s) ≡ true → blk (x .ent s) < x .blocks
-  pub swin-rule : Window (x .slots) (x .swin)
-  pub once : (s t : ℕ) → valid (x .ent s) ≡ true → valid (x .ent t) ≡ true → blk (x .ent s) ≡ blk (x .ent t) → s ≡ t
-  pub stored-open : (s : ℕ) → has (x .swin) s ≡ true → opn (x .ent s) ≡ true
-  pub kept : (s : ℕ) → valid (x .ent s) ≡ true → has (x .swin) s ≡ false → x .dat s ≡ p .page (blk (x .ent s))
-  pub kept-clean : (s : ℕ) → valid (x .ent s) ≡ true → has (x .swin) s ≡ false → dty (x .ent s) ≡ false → x .hdd (blk (x .ent s)) ≡ x .dat s
-  pub loose : (b : ℕ) → ((s : ℕ) → valid (x .ent s) ≡ true → has (x .swin) s ≡ false → blk (x .ent s) ≢ b) → List·Memᴰ (x .hdd b) (p .may b)
+  pub in-range : (s : ℕ) → valid (x .entry s) ≡ true → s < x .slots
+  pub in-blocks : (s : ℕ) → valid (x .entry s) ≡ true → blockOf (x .entry s) < x .blocks
+  pub stored-window-rule : Window (x .slots) (x .storedWindow)
+  pub once : (s t : ℕ) → valid (x .entry s) ≡ true → valid (x .entry t) ≡ true → blockOf (x .entry s) ≡ blockOf (x .entry t) → s ≡ t
+  pub stored-open : (s : ℕ) → has (x .storedWindow) s ≡ true → openRow (x .entry s) ≡ true
+  pub kept : (s : ℕ) → valid (x .entry s) ≡ true → has (x .storedWindow) s ≡ false → x .slotPage s ≡ p .page (blockOf (x .entry s))
+  pub kept-clean : (s : ℕ) → valid (x .entry s) ≡ true → has (x .storedWindow) s ≡ false → dirtyRow (x .entry s) ≡ false → x .hdd (blockOf (x .entry s)) ≡ x .slotPage s
+  pub loose : (b : ℕ) → ((s : ℕ) → valid (x .entry s) ≡ true → has (x .storedWindow) s ≡ false → blockOf (x .entry s) ≢ b) → List·Memᴰ (x .hdd b) (p .may b)
   pub may-page : (b : ℕ) → List·Memᴰ (p .page b) (p .may b)
-  pub budget : x .stamp + length (x .swin) ≤ largestStamp
+  pub budget : x .stamp + length (x .storedWindow) ≤ largestStamp
 
 -- a box that is mending: its table is what the reopening made of the entries, its window the pending slots
 pub record Mending (x : Model) (p : Plain) : Type 0 where
   pub images : Stored x p
-  pub rows : (s : ℕ) → x .row s ≡ revived (has (x .swin) s) (x .ent s)
-  pub window : x .win ≡ x .swin
+  pub rows : (s : ℕ) → x .row s ≡ revived (has (x .storedWindow) s) (x .entry s)
+  pub window : x .window ≡ x .storedWindow
   pub stamps : x .stamp ≡ x .newest
-  pub settled : x .unsettled ≡ false
-  pub phase : x .mending ≡ not (empty (x .win))
+  pub settled : x .unconfirmed ≡ false
+  pub phase : x .recovering ≡ not (empty (x .window))
 
 -- models that agree at every place are equal
 pub record Same (x y : Model) : Type 0 where
   pub slots : x .slots ≡ y .slots
   pub blocks : x .blocks ≡ y .blocks
   pub row : (s : ℕ) → x .row s ≡ y .row s
-  pub ent : (s : ℕ) → x .ent s ≡ y .ent s
+  pub entry : (s : ℕ) → x .entry s ≡ y .entry s
   pub hdd : (b : ℕ) → x .hdd b ≡ y .hdd b
-  pub dat : (s : ℕ) → x .dat s ≡ y .dat s
-  pub win : x .win ≡ y .win
-  pub swin : x .swin ≡ y .swin
+  pub slotPage : (s : ℕ) → x .slotPage s ≡ y .slotPage s
+  pub window : x .window ≡ y .window
+  pub storedWindow : x .storedWindow ≡ y .storedWindow
   pub newest : x .newest ≡ y .newest
   pub stamp : x .stamp ≡ y .stamp
-  pub unsettled : x .unsettled ≡ y .unsettled
-  pub mending : x .mending ≡ y .mending
+  pub unconfirmed : x .unconfirmed ≡ y .unconfirmed
+  pub recovering : x .recovering ≡ y .recovering
 
 pub same-path : (x y : Model) → Same x y → x ≡ y
 same-path x y S =
@@ -257,13 +257,13 @@ same-path x y S =
       slots = S .slots i;
       blocks = S .blocks i;
       row = λ s. S .row s i;
-      ent = λ s. S .ent s i;
+      entry = λ s. S .entry s i;
       hdd = λ b. S .hdd b i;
-      dat = λ s. S .dat s i;
-      win = S .win i;
-      swin = S .swin i;
+      slotPage = λ s. S .slotPage s i;
+      window = S .window i;
+      storedWindow = S .storedWindow i;
       newest = S .newest i;
       stamp = S .stamp i;
-      unsettled = S .unsettled i;
-      mending = S .mending i;
+      unconfirmed = S .unconfirmed i;
+      recovering = S .recovering i;
     }

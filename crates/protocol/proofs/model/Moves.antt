@@ -10,8 +10,8 @@ use Rattle.record.specs.Record.{largestStamp}
 use Rattle.protocol.proofs.model.Reopened.{fixed}
 use Rattle.layout.proofs.Booleans.{clash}
 use Rattle.protocol.proofs.model.Base.{upd, upd-same, upd-other}
-use Rattle.protocol.proofs.model.Model.{Page, Row, valid, dty, opn, blk, Model, Plain, Ready, landed, copied, opened}
-use Rattle.protocol.proofs.model.Rows.{dty-valid}
+use Rattle.protocol.proofs.model.Model.{Page, Row, valid, dirtyRow, openRow, blockOf, Model, Plain, Ready, landed, copied, opened}
+use Rattle.protocol.proofs.model.Rows.{dirty-valid}
 use Rattle.protocol.proofs.model.View.{at}
 use Rattle.protocol.proofs.model.Opened.{opened-ready}
 use Rattle.protocol.proofs.model.Landed.{landed-ready}
@@ -23,7 +23,7 @@ landing b d p = record { page = upd (p .page) b d; may = upd (p .may) b (d ∷ p
 
 -- a reopening that leaves y: finished, or still to be mended
 abbrev pub reopening : Model → Plain → Plain
-reopening y p = cond (y .mending) p (fixed y)
+reopening y p = cond (y .recovering) p (fixed y)
 
 pub on-cond {ℓ} : {A : Type 0} (Q : A → Type ℓ) (b : Bool) {a c : A} → (b ≡ true → Q a) → (b ≡ false → Q c) → Q (cond b a c)
 on-cond Q true h k = h refl
@@ -31,23 +31,23 @@ on-cond Q false h k = k refl
 
 -- What a plan's move asks of the box, for the call that made it.
 pub record Opens (x : Model) (s : ℕ) (r : Row) : Type 0 where
-  pub is-open : opn r ≡ true
-  pub in-blocks : blk r < x .blocks
-  pub was-shut : opn (x .row s) ≡ false
-  pub was-clean : dty (x .row s) ≡ false
-  pub fresh : (t : ℕ) → t ≢ s → valid (x .row t) ≡ true → blk (x .row t) ≢ blk r
+  pub is-open : openRow r ≡ true
+  pub in-blocks : blockOf r < x .blocks
+  pub was-shut : openRow (x .row s) ≡ false
+  pub was-clean : dirtyRow (x .row s) ≡ false
+  pub fresh : (t : ℕ) → t ≢ s → valid (x .row t) ≡ true → blockOf (x .row t) ≢ blockOf r
   pub slot-below : s < x .slots
-  pub room : length (x .win) < 63
+  pub room : length (x .window) < 63
   pub stamps-left : x .newest < largestStamp - 63
 
 pub record Copies (x : Model) (s : ℕ) : Type 0 where
-  pub was-dirty : dty (x .row s) ≡ true
-  pub was-shut : opn (x .row s) ≡ false
+  pub was-dirty : dirtyRow (x .row s) ≡ true
+  pub was-shut : openRow (x .row s) ≡ false
   pub slot-below : s < x .slots
 
 pub record Lands (x : Model) (s b : ℕ) (d : Page) : Type 0 where
   pub held : valid (x .row s) ≡ true
-  pub holds-b : blk (x .row s) ≡ b
+  pub holds-b : blockOf (x .row s) ≡ b
   pub slot-below : s < x .slots
   pub block-below : b < x .blocks
 
@@ -60,7 +60,7 @@ module _ (x : Model) (p : Plain) (R : Ready x p) where
   pub copies-ready : {s : ℕ} → Copies x s → Ready (copied s x) p
   copies-ready {s} o = copied-ready x p R s (o .was-dirty) (o .was-shut)
 
-  pub lands-ready : {b s : ℕ} {d : Page} → Lands x s b d → dty (x .row s) ≡ true → Ready (landed s d x) (landing b d p)
+  pub lands-ready : {b s : ℕ} {d : Page} → Lands x s b d → dirtyRow (x .row s) ≡ true → Ready (landed s d x) (landing b d p)
   unfolding landing
   lands-ready {b} {s} {d} o y =
       landed-ready x p (landing b d p) R s d (o .held) (rw (o .holds-b, upd-same))
@@ -75,10 +75,10 @@ module _ (x : Model) (p : Plain) (R : Ready x p) where
       grows c q k (yes g) = rw (g, upd-same) (List·Memᴰ·tail (rw g at k))
       grows c q k (no n) = rw upd-other k
 
-  pub fetch-ready : {b s : ℕ} → Lands x s b (x .hdd b) → opn (x .row s) ≡ true → Ready (landed s (x .hdd b) x) p
+  pub fetch-ready : {b s : ℕ} → Lands x s b (x .hdd b) → openRow (x .row s) ≡ true → Ready (landed s (x .hdd b) x) p
   fetch-ready {b} {s} o y =
       landed-ready x p p R s (x .hdd b) (o .held) (rw (o .holds-b) (sym on-page)) (λ k n. refl) (R .may-page) (λ k w z. z)
       (λ f. rw (o .holds-b))
     where
       on-page : x .hdd b ≡ p .page b
-      on-page = R .on-disk b λ t g c e. clash y (rw (← R .once t s (dty-valid (x .row t) g) (o .held) (e ∙ sym (o .holds-b))) c)
+      on-page = R .on-disk b λ t g c e. clash y (rw (← R .once t s (dirty-valid (x .row t) g) (o .held) (e ∙ sym (o .holds-b))) c)

@@ -10,14 +10,14 @@ use Rattle.record.specs.declared.Phase.{Phase}
 use Rattle.record.specs.declared.Phase.the-variants.{Formatting, Recovering, Ready}
 use Rattle.protocol.specs.declared.Answer.{Answer}
 use Rattle.protocol.specs.declared.Answer.the-variants.{Refused, Announced, Overwrite, CopiedOut, InSlot, OnDisk, NothingToDo, Done}
-use Rattle.protocol.specs.Paper.{Paper, refusal, answer, paperOf, refused}
+use Rattle.protocol.specs.Reply.{Reply, refusal, answer, replyOf, refused}
 use Rattle.protocol.specs.Box.{Box}
 use Rattle.protocol.specs.Plan.{Call, stepping, plan}
 use Rattle.protocol.specs.Perform.{confirmed, perform}
 use Rattle.protocol.specs.Judge.{judged}
 use Rattle.protocol.proofs.Does.{does-said}
 use Rattle.protocol.proofs.Sorted.{Sorted, is-format, is-reopen, is-step, is-service, sorted}
-use Rattle.protocol.proofs.Shown as computed-first
+use Rattle.protocol.proofs.cases.Shown as computed-first
 
 -- what a call does that no reason refuses is no refusal
 pub plan-answers : (c : Call) (x : Box) → judged c x ≡ none → refused (perform (plan c x) x .said) ≡ false
@@ -38,11 +38,11 @@ plan-answers c x = go (sorted c)
 answerAs : ℕ → Slot → Answer
 answerAs n s = getD (Done ∷ Announced s ∷ Overwrite ∷ CopiedOut ∷ InSlot s ∷ OnDisk ∷ NothingToDo ∷ []) (n - 100) Done
 
-answerOf : Paper → Answer
+answerOf : Reply → Answer
 answerOf (refusal n) = Refused n
 answerOf (answer n s) = answerAs n (getD s 0 (record { 0 = 0 }))
 
-answer-back : (a : Answer) → answerOf (paperOf a) ≡ a
+answer-back : (a : Answer) → answerOf (replyOf a) ≡ a
 unfolding answerOf answerAs
 answer-back (Refused n) = refl
 answer-back (Announced s) = refl
@@ -53,5 +53,5 @@ answer-back OnDisk = refl
 answer-back NothingToDo = refl
 answer-back Done = refl
 
-pub paper-injective : (a b : Answer) → paperOf a ≡ paperOf b → a ≡ b
+pub paper-injective : (a b : Answer) → replyOf a ≡ replyOf b → a ≡ b
 paper-injective a b e = sym (answer-back a) ∙ ap answerOf e ∙ answer-back b

@@ -12,7 +12,7 @@ use Rattle.layout.proofs.Booleans.{Told, told, told-true, told-false, clash}
 use Rattle.layout.proofs.RuleLaws.{_⇔_}
 use Rattle.record.specs.declared.Phase.{Phase}
 use Rattle.record.specs.declared.Phase.the-variants.{Formatting, Recovering, Ready}
-use Rattle.protocol.specs.Paper.{refusal, refused}
+use Rattle.protocol.specs.Reply.{refusal, refused}
 use Rattle.protocol.specs.Rows.{writing, openRows}
 use Rattle.record.specs.Record.{labelIn}
 use Rattle.protocol.specs.Box.{Box, left, boxAfter}

@@ -10,7 +10,7 @@ use native.Mathlib.Decide.{decLt}
 use lib.ListN.{length, getD}
 use lib.Dec.{eqb}
 use borrow.Author.Tests.{eqb-false, not-true, eq-eqb, ne-eqb, lt-ltb, le-ltb}
-use Rattle.protocol.proofs.Tables.{at-suc}
+use Rattle.protocol.proofs.refine.Tables.{at-suc}
 use Rattle.layout.proofs.JudgeLaws.{length-firsts, get-firsts}
 use Rattle.layout.specs.declared.Slot.{Slot}
 use Rattle.layout.specs.declared.Label.{Label}
@@ -22,8 +22,8 @@ use Rattle.protocol.specs.Rows.{valid, writing}
 use Rattle.protocol.specs.Recovery.{entryIn, Newest, newer, newestFrom, newestOf, eachLegal, stampIn, stampsDiffer, blockIn, noneTwice, allOpenIn, storedRows, pagesTest}
 use Rattle.record.specs.Window.{eachSlot}
 use Rattle.protocol.specs.Why.{PagesRule}
-use Rattle.protocol.proofs.Metas.{stamp-most}
-use Rattle.protocol.proofs.Entries.{length-rows, rows-block, rows-flags, each-legal, stamps-differ, none-twice}
+use Rattle.protocol.proofs.refine.Metas.{stamp-most}
+use Rattle.protocol.proofs.refine.Entries.{length-rows, rows-block, rows-flags, each-legal, stamps-differ, none-twice}
 use Rattle.record.proofs.Each.{at, place-get, place-of}
 
 -- each page

@@ -19,7 +19,7 @@ use Rattle.record.specs.Record.{labelIn, windowIn}
 use Rattle.protocol.specs.Judge.{rowTest, isEmpty, agreeTest, rowsTest}
 use Rattle.record.specs.Window.{eachSlot}
 use Rattle.protocol.specs.Why.{IsRow, RowRule, Agree, RowsRule}
-use Rattle.protocol.proofs.Tables.{each-get, each-of}
+use Rattle.protocol.proofs.refine.Tables.{each-get, each-of}
 use Rattle.protocol.proofs.why.Basics.{none-same, and-same, if-same, is-same, via}
 use Rattle.record.proofs.Each.{listed-same}
 

@@ -17,7 +17,7 @@ use Rattle.protocol.specs.declared.Condition.the-variants.{NotCached}
 use Rattle.protocol.specs.Rows.{rowFlags, dirty, writing}
 use Rattle.protocol.specs.Condition.{openAs, closedAs, conditionAt, conditionOf, isOpen, isCached, takesWrite, takesFetch}
 use Rattle.protocol.specs.Why.{SlotOf}
-use Rattle.protocol.proofs.Conditions.{Located, at, nowhere, located}
+use Rattle.protocol.proofs.refine.Conditions.{Located, at, nowhere, located}
 use Rattle.protocol.proofs.why.Basics.{none-same, via}
 
 -- a block has one slot at most: the lowest

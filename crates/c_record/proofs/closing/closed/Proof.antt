@@ -1,5 +1,5 @@
 use mathlib.Core.Path.{sym, _∙_}
-use Rattle.protocol.specs.Paper.{paperOf}
+use Rattle.protocol.specs.Reply.{replyOf}
 use Rattle.c_record.proofs.ClosedLaws.{refused-closed, answered-closed}
 use borrow.Author.Needs.{needs}
 use Rattle.c_record.proofs.closing.closed.Statement.{statement}
@@ -14,7 +14,7 @@ is-refused-requires c κs = search needs
 returns : tie.Need-returns
 returns c =
     let s = c .before .before .before .before in
-    refused-closed (paperOf (s .args .outcome .answer)) (s .args .outcome .state) (s .args .words .now) (s .args .slot .now) _
+    refused-closed (replyOf (s .args .outcome .answer)) (s .args .outcome .state) (s .args .words .now) (s .args .slot .now) _
     (c .before .before .code-of .ensures) (sym (c .before .is-refused .ensures) ∙ c .if1 .taken)
 
 pack-requires : tie.Need-pack-requires
@@ -31,7 +31,7 @@ returns-2 c =
     let p = c .before .before .before .before in
     let b = p .before .before .before .before in
     let s = b .before .before .before in
-    answered-closed (paperOf (s .args .outcome .answer)) (s .args .outcome .state) (s .args .words .now) _ (s .args .slot .now) _ _
+    answered-closed (replyOf (s .args .outcome .answer)) (s .args .outcome .state) (s .args .words .now) _ (s .args .slot .now) _ _
     (b .before .code-of .ensures) (sym (b .is-refused .ensures) ∙ p .before .before .before .if1 .left)
     (p .pack .ensures) (c .slot-of .ensures)
 

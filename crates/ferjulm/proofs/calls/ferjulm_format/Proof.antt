@@ -1,7 +1,7 @@
 use mathlib.Core.Path.{_≡_, refl, sym, ap, _∙_}
 use borrow.Author.Needs.{needs}
 use Rattle.layout.specs.Places.{labelOf, withinLimits}
-use Rattle.protocol.specs.Paper.{refusal, done}
+use Rattle.protocol.specs.Reply.{refusal, done}
 use Rattle.protocol.specs.Plan.{format}
 use Rattle.maintenance.proofs.FormatLaws.{format-refused, format-begins}
 use Rattle.c_record.specs.Words.{unpacked}

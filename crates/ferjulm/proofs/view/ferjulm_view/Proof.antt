@@ -28,12 +28,12 @@ legal c = sym (c .before .is-record .ensures) ∙ not-false _ (c .if1 .left)
 unpack-requires : tie.Need-unpack-requires
 unpack-requires c κs = record-length _ (legal c)
 
-serves-requires : tie.Need-serves-requires
-serves-requires c κs = search needs
+judge-block-requires : tie.Need-judge-block-requires
+judge-block-requires c κs = search needs
 
 returns-2 : tie.Need-returns-2
 returns-2 c =
-    let j = c .before .serves in
+    let j = c .before .judge-block in
     let u = c .before .before in
     let a = u .before .before .before .before .before .before .before .args in
     let b : Block = record { 0 = a .block } in
@@ -47,7 +47,7 @@ place-for-requires c κs = search needs
 returns-3 : tie.Need-returns-3
 returns-3 c =
     let e = c .before .before in
-    let j = e .before .serves in
+    let j = e .before .judge-block in
     let u = e .before .before in
     let a = u .before .before .before .before .before .before .before .args in
     let b : Block = record { 0 = a .block } in
@@ -63,7 +63,7 @@ ferjulm-view-spec =
     is-record-requires
     returns
     unpack-requires
-    serves-requires
+    judge-block-requires
     returns-2
     place-for-requires
     returns-3)

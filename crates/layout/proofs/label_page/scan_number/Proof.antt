@@ -3,7 +3,7 @@ use mathlib.Core.Path.{_≡_, sym, ap, subst, _∙_}
 use mathlib.Core.List.{List}
 use lib.ListN.{length, drop}
 use Rattle.layout.specs.LabelPage.{numberFrom, number}
-use Rattle.layout.specs.LabelScan.{scanOf}
+use Rattle.layout.specs.LabelScan.{scannedAs}
 use Rattle.layout.proofs.LabelSteps.{scan-found, number-empty, first-digit, first-low, first-high, next-none, next-line, next-low, next-high, next-full, none-more, times-ten, plus-digit, digit-turn}
 use borrow.Author.Needs.{needs}
 use native.Mathlib.Omega.{arith}
@@ -20,7 +20,7 @@ abbrev μ-loop : tie.MeasureT-loop
 returns : tie.Need-returns Inv-loop μ-loop
 returns c =
     let a = c .before .before .args in
-    sym (ap (scanOf (a .bytes .now)) (number-empty (a .bytes .now) (a .at) (c .if1 .taken)))
+    sym (ap (scannedAs (a .bytes .now)) (number-empty (a .bytes .now) (a .at) (c .if1 .taken)))
 
 shared-slice-read-wide : tie.Need-shared-slice-read-wide Inv-loop μ-loop
 shared-slice-read-wide c = search needs
@@ -32,13 +32,13 @@ returns-2 : tie.Need-returns-2 Inv-loop μ-loop
 returns-2 c =
     let a = c .before .before .before .before .before .args in
     let e = c .before .wide .ensures .0 in
-    sym (ap (scanOf (a .bytes .now)) (first-low (a .bytes .now) (a .at) (omega arith) (omega arith)))
+    sym (ap (scannedAs (a .bytes .now)) (first-low (a .bytes .now) (a .at) (omega arith) (omega arith)))
 
 returns-3 : tie.Need-returns-3 Inv-loop μ-loop
 returns-3 c =
     let a = c .before .before .before .before .before .before .args in
     let e = c .before .before .wide .ensures .0 in
-    sym (ap (scanOf (a .bytes .now)) (first-high (a .bytes .now) (a .at) (omega arith) (omega arith)))
+    sym (ap (scannedAs (a .bytes .now)) (first-high (a .bytes .now) (a .at) (omega arith) (omega arith)))
 
 sub-n : tie.Need-sub-n Inv-loop μ-loop
 sub-n c = search needs
@@ -86,7 +86,7 @@ returns-5 c =
     let a = c .before .before .before .before .before .before .before .before .before .before .before .before .args in
     let h = c .before .before .before .before .loop-test .taken in
     let e = c .before .before .wide2 .ensures .0 in
-    sym (ap (scanOf (a .bytes .now)) (sym (l .inv .4) ∙ next-full (a .bytes .now) (l .i) (a .at + 8 - l .i) (l .n) h (none-more (a .at + 8) (l .i) (c .if5 .taken)) (λ q. c .before .if4 .left (e ∙ q))))
+    sym (ap (scannedAs (a .bytes .now)) (sym (l .inv .4) ∙ next-full (a .bytes .now) (l .i) (a .at + 8 - l .i) (l .n) h (none-more (a .at + 8) (l .i) (c .if5 .taken)) (λ q. c .before .if4 .left (e ∙ q))))
 
 returns-6 : tie.Need-returns-6 Inv-loop μ-loop
 returns-6 c =
@@ -94,7 +94,7 @@ returns-6 c =
     let a = c .before .before .before .before .before .before .before .before .before .before .before .before .before .args in
     let h = c .before .before .before .before .before .loop-test .taken in
     let e = c .before .before .before .wide2 .ensures .0 in
-    sym (ap (scanOf (a .bytes .now)) (sym (l .inv .4) ∙ next-low (a .bytes .now) (l .i) (a .at + 8 - l .i) (l .n) h (λ q. c .before .before .if4 .left (e ∙ q)) (subst (λ (x : ℕ). x < 48) e (c .if6 .taken))))
+    sym (ap (scannedAs (a .bytes .now)) (sym (l .inv .4) ∙ next-low (a .bytes .now) (l .i) (a .at + 8 - l .i) (l .n) h (λ q. c .before .before .if4 .left (e ∙ q)) (subst (λ (x : ℕ). x < 48) e (c .if6 .taken))))
 
 returns-7 : tie.Need-returns-7 Inv-loop μ-loop
 returns-7 c =
@@ -102,7 +102,7 @@ returns-7 c =
     let a = c .before .before .before .before .before .before .before .before .before .before .before .before .before .before .args in
     let h = c .before .before .before .before .before .before .loop-test .taken in
     let e = c .before .before .before .before .wide2 .ensures .0 in
-    sym (ap (scanOf (a .bytes .now)) (sym (l .inv .4) ∙ next-high (a .bytes .now) (l .i) (a .at + 8 - l .i) (l .n) h (subst (λ (x : ℕ). 57 < x) e (c .if7 .taken))))
+    sym (ap (scannedAs (a .bytes .now)) (sym (l .inv .4) ∙ next-high (a .bytes .now) (l .i) (a .at + 8 - l .i) (l .n) h (subst (λ (x : ℕ). 57 < x) e (c .if7 .taken))))
 
 mul-n : tie.Need-mul-n Inv-loop μ-loop
 mul-n c =
@@ -134,7 +134,7 @@ returns-8 : tie.Need-returns-8 Inv-loop μ-loop
 returns-8 c =
     let l = c .before .loop in
     let a = c .before .before .before .before .before .before .before .before .args in
-    sym (ap (scanOf (a .bytes .now)) (sym (l .inv .4) ∙ next-none (a .bytes .now) (l .i) (a .at + 8 - l .i) (l .n) (omega arith)))
+    sym (ap (scannedAs (a .bytes .now)) (sym (l .inv .4) ∙ next-none (a .bytes .now) (l .i) (a .at + 8 - l .i) (l .n) (omega arith)))
 
 pub scan-number-spec : {M : Type 1} → statement M
 scan-number-spec =

@@ -22,10 +22,10 @@ start c = c .before .before .before .before .before
 passed : (c : tie.Else1) → let a = start c .args in
     readyThen (length (a .ssd .now)) (length (a .hdd .now)) 4096 (a .table .now) (a .state) 0 ≡ 0
 passed c = let a = start c .args in
-    looked _ (a .table .now) (record { 0 = 0 }) (c .before .ready .ensures) (c .if1 .left) .none
+    looked _ (a .table .now) (record { 0 = 0 }) (c .before .judge-ready .ensures) (c .if1 .left) .none
 
-ready-requires : tie.Need-ready-requires
-ready-requires c κs = search needs
+judge-ready-requires : tie.Need-judge-ready-requires
+judge-ready-requires c κs = search needs
 
 refused-requires : tie.Need-refused-requires
 refused-requires c κs = search needs
@@ -35,8 +35,8 @@ returns c =
     let e = c .before .before in
     let a = e .before .before .before .before .args in
     rw (c .refused .ensures .0, c .refused .ensures .1)
-    (refused-by flush (boxOf (a .ssd .now) (a .hdd .now) (a .table .now) (a .state)) _ _ (flush-judges (a .ssd .now) (a .hdd .now) (a .table .now) (a .state)) (e .ready .result .number)
-    (found _ (a .table .now) (record { 0 = 0 }) (e .ready .ensures)) (c .before .if1 .taken))
+    (refused-by flush (boxOf (a .ssd .now) (a .hdd .now) (a .table .now) (a .state)) _ _ (flush-judges (a .ssd .now) (a .hdd .now) (a .table .now) (a .state)) (e .judge-ready .result .number)
+    (found _ (a .table .now) (record { 0 = 0 }) (e .judge-ready .ensures)) (c .before .if1 .taken))
 
 answered-requires : tie.Need-answered-requires
 answered-requires c κs = search needs
@@ -84,7 +84,7 @@ pub flush-spec : {M : Type 1} → statement M
 flush-spec =
     tie.close
     (tie.spec
-    ready-requires
+    judge-ready-requires
     refused-requires
     returns
     answered-requires

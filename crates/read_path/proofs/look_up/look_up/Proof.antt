@@ -13,8 +13,8 @@ use Rattle.serving.proofs.CallLaws.{look-up-is}
 use Rattle.read_path.proofs.look_up.look_up.Statement.{statement}
 use Rattle.read_path.proofs.look_up.look_up.Tie as tie
 
-serves-requires : tie.Need-serves-requires
-serves-requires c κs = search needs
+judge-block-requires : tie.Need-judge-block-requires
+judge-block-requires c κs = search needs
 
 refused-requires : tie.Need-refused-requires
 refused-requires c κs = search needs
@@ -29,19 +29,19 @@ returns c =
     rw (c .refused .ensures .0, c .refused .ensures .1)
     (refused-by (lookUp (a .block)) (boxOf (a .ssd .now) (a .hdd .now) (a .table .now) (a .state)) _ _
     (look-up-judges (a .ssd .now) (a .hdd .now) (a .table .now) (a .state) (a .block))
-    (e .serves .result .number) (found _ (a .table .now) (a .block) (e .serves .ensures)) (c .before .if1 .taken))
+    (e .judge-block .result .number) (found _ (a .table .now) (a .block) (e .judge-block .ensures)) (c .before .if1 .taken))
 
 -- 3 to 7 are passed
 abbrev start : tie.Else1 → tie.Start
 start c = c .before .before .before .before .before .before
 
 known : (c : tie.Else1) → let a = start c .args in
-    Served (a .ssd .now) (a .hdd .now) 4096 (a .table .now) (a .state) (a .block) (c .before .serves .result)
+    Served (a .ssd .now) (a .hdd .now) 4096 (a .table .now) (a .state) (a .block) (c .before .judge-block .result)
 known c = let a = start c .args in
-    served (a .ssd .now) (a .hdd .now) 4096 (a .table .now) (a .state) (a .block) (c .before .serves .ensures) (c .if1 .left)
+    served (a .ssd .now) (a .hdd .now) 4096 (a .table .now) (a .state) (a .block) (c .before .judge-block .ensures) (c .if1 .left)
 
 -- what the call leaves, by the block's condition
-done : (c : tie.Else1) (k : Condition) → c .before .serves .result .condition ≡ k → let a = start c .args in
+done : (c : tie.Else1) (k : Condition) → c .before .judge-block .result .condition ≡ k → let a = start c .args in
     let x = boxOf (a .ssd .now) (a .hdd .now) (a .table .now) (a .state) in
     left (perform (lookingUp k) x) (x .images) ≡ lookUpOf (a .ssd .now) (a .hdd .now) (a .table .now) (a .state) (a .block)
 done c k e = let a = start c .args in
@@ -139,7 +139,7 @@ pub look-up-spec : {M : Type 1} → statement M
 look-up-spec =
     tie.close
     (tie.spec
-    serves-requires
+    judge-block-requires
     refused-requires
     same-length
     returns

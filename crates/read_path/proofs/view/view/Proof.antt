@@ -17,19 +17,19 @@ abbrev start : tie.Else1 → tie.Start
 start c = c .before .before .before .before .before
 
 known : (c : tie.Else1) → let a = start c .args in
-    Served (a .ssd .now) (a .hdd .now) 4096 (a .table .now) (a .state) (a .block) (c .before .serves .result)
+    Served (a .ssd .now) (a .hdd .now) 4096 (a .table .now) (a .state) (a .block) (c .before .judge-block .result)
 known c = let a = start c .args in
-    served (a .ssd .now) (a .hdd .now) 4096 (a .table .now) (a .state) (a .block) (c .before .serves .ensures) (c .if1 .left)
+    served (a .ssd .now) (a .hdd .now) 4096 (a .table .now) (a .state) (a .block) (c .before .judge-block .ensures) (c .if1 .left)
 
 -- the page that is handed back, by the block's condition
-seen : (c : tie.Else1) (k : Condition) → c .before .serves .result .condition ≡ k → let a = start c .args in
+seen : (c : tie.Else1) (k : Condition) → c .before .judge-block .result .condition ≡ k → let a = start c .args in
     record { number = 0; handed = viewPart (part (a .ssd)) (part (a .hdd)) (labelIn (a .state)) (a .block) k }
     ≡ viewOf (part (a .ssd)) (part (a .hdd)) (a .table .now) (a .state) (a .block)
 seen c k e = let a = start c .args in
     view-is (part (a .ssd)) (part (a .hdd)) (a .table .now) (a .state) (a .block) k (known c .is k e) (known c .none)
 
-serves-requires : tie.Need-serves-requires
-serves-requires c κs = search needs
+judge-block-requires : tie.Need-judge-block-requires
+judge-block-requires c κs = search needs
 
 sub-result : tie.Need-sub-result
 sub-result c = search needs
@@ -45,8 +45,8 @@ returns c =
     let e = c .before .before in
     let a = e .before .before .before .before .args in
     rw (zero-add)
-    (view-refused (part (a .ssd)) (part (a .hdd)) (a .table .now) (a .state) (a .block) (e .serves .result .number)
-    (found _ (a .table .now) (a .block) (e .serves .ensures)) (c .before .if1 .taken))
+    (view-refused (part (a .ssd)) (part (a .hdd)) (a .table .now) (a .state) (a .block) (e .judge-block .result .number)
+    (found _ (a .table .now) (a .block) (e .judge-block .ensures)) (c .before .if1 .taken))
 
 enum-told : tie.Need-enum-told
 enum-told c = search needs
@@ -144,7 +144,7 @@ pub view-spec : {M : Type 1} → statement M
 view-spec =
     tie.close
     (tie.spec
-    serves-requires
+    judge-block-requires
     sub-result
     part-result-start
     part-result-end

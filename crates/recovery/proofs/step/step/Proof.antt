@@ -21,13 +21,13 @@ start c = c .before .before .before .before .before
 passed : (c : tie.Else1) → let a = start c .args in
     soundThen (length (a .ssd .now)) (length (a .hdd .now)) 4096 (a .table .now) (a .state) 0 ≡ 0
 passed c = let a = start c .args in
-    looked _ (a .table .now) (record { 0 = 0 }) (c .before .sound .ensures) (c .if1 .left) .none
+    looked _ (a .table .now) (record { 0 = 0 }) (c .before .judge-box .ensures) (c .if1 .left) .none
 
 box : (c : tie.Else1) → let a = start c .args in SoundBox (a .ssd .now) (a .hdd .now) 4096 (a .table .now) (a .state)
 box c = let a = start c .args in sound (a .ssd .now) (a .hdd .now) 4096 (a .table .now) (a .state) (passed c)
 
-sound-requires : tie.Need-sound-requires
-sound-requires c κs = search needs
+judge-box-requires : tie.Need-judge-box-requires
+judge-box-requires c κs = search needs
 
 refused-requires : tie.Need-refused-requires
 refused-requires c κs = search needs
@@ -38,8 +38,8 @@ returns c =
     let a = e .before .before .before .before .args in
     rw (c .refused .ensures .0, c .refused .ensures .1)
     (refused-by step (boxOf (a .ssd .now) (a .hdd .now) (a .table .now) (a .state)) _ _
-    (step-judges (a .ssd .now) (a .hdd .now) (a .table .now) (a .state)) (e .sound .result .number)
-    (found _ (a .table .now) (record { 0 = 0 }) (e .sound .ensures)) (c .before .if1 .taken))
+    (step-judges (a .ssd .now) (a .hdd .now) (a .table .now) (a .state)) (e .judge-box .result .number)
+    (found _ (a .table .now) (record { 0 = 0 }) (e .judge-box .ensures)) (c .before .if1 .taken))
 
 enum-told : tie.Need-enum-told
 enum-told c = search needs
@@ -119,7 +119,7 @@ pub step-spec : {M : Type 1} → statement M
 step-spec =
     tie.close
     (tie.spec
-    sound-requires
+    judge-box-requires
     refused-requires
     returns
     enum-told

@@ -8,7 +8,7 @@ use Rattle.record.specs.Record.{labelIn}
 use Rattle.protocol.specs.Perform.{confirmed, perform}
 use Rattle.protocol.specs.Calls.{boxOf}
 use Rattle.table.specs.Sweeps.{clearedFrom}
-use Rattle.serving.specs.Moves.{Fits}
+use Rattle.serving.specs.Moves.{FitsRecord}
 use Rattle.serving.proofs.SweepingLaws.{Found, dirty-block, took-is}
 use Rattle.serving.proofs.TakeLaws.{record-limits, hand-low, rows-of, stamp-left, taken-dirty, taken-spent, taken-opens}
 use borrow.Author.Needs.{needs}
@@ -67,7 +67,7 @@ copy-out-requires c κs =
     let p = s .pre in
     let v = clearedFrom (s .args .passed) (labelIn (s .args .state)) (s .args .table .now) (s .args .state .hand) in
     let d : dirty (rowFlags v (s .args .s)) ≡ true = F .dirty-is ∙ eq-eqb _ 1 (c .before .before .before .before .before .before .before .if1 .taken) in
-    let f : Fits (length (s .args .ssd .now)) (length (clearedFrom (s .args .passed) (labelIn (s .args .state)) (s .args .table .now)
+    let f : FitsRecord (length (s .args .ssd .now)) (length (clearedFrom (s .args .passed) (labelIn (s .args .state)) (s .args .table .now)
     (s .args .state .hand))) (s .args .state) = record {
       ssd-size = p .0 .ssd-size;
       table-size = F .size;
@@ -144,7 +144,7 @@ open-slot-requires c κs =
     let F = found s in
     let p = s .pre in
     let n = leb-false 4294967232 (s .args .state .newest) (stamp-left (s .args .state .newest) (sym (e .before .stamp-number .ensures) ∙ e .if2 .left)) in
-    let f : Fits (length (s .args .ssd .now)) (length (clearedFrom (s .args .passed) (labelIn (s .args .state)) (s .args .table .now)
+    let f : FitsRecord (length (s .args .ssd .now)) (length (clearedFrom (s .args .passed) (labelIn (s .args .state)) (s .args .table .now)
     (s .args .state .hand))) (s .args .state) = record {
       ssd-size = p .0 .ssd-size;
       table-size = F .size;

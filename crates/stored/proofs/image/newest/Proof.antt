@@ -1,4 +1,4 @@
-use Rattle.protocol.proofs.Metas.{length-metas}
+use Rattle.protocol.proofs.refine.Metas.{length-metas}
 use Rattle.stored.proofs.StoredLaws.{pages-most, Seen, seen-none, seen-more, seen-all}
 use Prim.Native.Nat.{_-_, _≤_, _<_}
 use mathlib.Core.Path.{_≡_}

@@ -21,24 +21,24 @@ abbrev start : tie.Else1 → tie.Start
 start c = c .before .before .before .before .before .before .before
 
 known : (c : tie.Else1) → let a = start c .args in
-    Served (a .ssd .now) (a .hdd .now) (length (a .page .now)) (a .table .now) (a .state) (a .block) (c .before .serves .result)
+    Served (a .ssd .now) (a .hdd .now) (length (a .page .now)) (a .table .now) (a .state) (a .block) (c .before .judge-block .result)
 known c = let a = start c .args in
-    served (a .ssd .now) (a .hdd .now) (length (a .page .now)) (a .table .now) (a .state) (a .block) (c .before .serves .ensures) (c .if1 .left)
+    served (a .ssd .now) (a .hdd .now) (length (a .page .now)) (a .table .now) (a .state) (a .block) (c .before .judge-block .ensures) (c .if1 .left)
 
-wrong : (c : tie.Else1) (k : Condition) → c .before .serves .result .condition ≡ k → takesWrite k ≡ false → let a = start c .args in
+wrong : (c : tie.Else1) (k : Condition) → c .before .judge-block .result .condition ≡ k → takesWrite k ≡ false → let a = start c .args in
     let x = boxOf (a .ssd .now) (a .hdd .now) (a .table .now) (a .state) in
     left (refusing 9 x) (x .images) ≡ landOf (a .ssd .now) (a .hdd .now) (a .table .now) (a .state) (a .block) (a .page .now)
 wrong c k e o = let a = start c .args in
     land-wrong (a .ssd .now) (a .hdd .now) (a .table .now) (a .state) (a .block) k (known c .is k e) (a .page .now) (known c .none) o
 
-done : (c : tie.Else1) (k : Condition) → c .before .serves .result .condition ≡ k → takesWrite k ≡ true → let a = start c .args in
+done : (c : tie.Else1) (k : Condition) → c .before .judge-block .result .condition ≡ k → takesWrite k ≡ true → let a = start c .args in
     let x = boxOf (a .ssd .now) (a .hdd .now) (a .table .now) (a .state) in
     left (perform (landing (a .page .now) k) x) (x .images) ≡ landOf (a .ssd .now) (a .hdd .now) (a .table .now) (a .state) (a .block) (a .page .now)
 done c k e o = let a = start c .args in
     land-is (a .ssd .now) (a .hdd .now) (a .table .now) (a .state) (a .block) k (known c .is k e) (a .page .now) (known c .none) o
 
-serves-requires : tie.Need-serves-requires
-serves-requires c κs = search needs
+judge-block-requires : tie.Need-judge-block-requires
+judge-block-requires c κs = search needs
 
 refused-requires : tie.Need-refused-requires
 refused-requires c κs = search needs
@@ -51,8 +51,8 @@ returns c =
     let e = c .before .before in
     let a = e .before .before .before .before .before .before .args in
     rw (c .refused .ensures .0, c .refused .ensures .1)
-    (refused-by (land (a .block) (a .page .now)) (boxOf (a .ssd .now) (a .hdd .now) (a .table .now) (a .state)) _ _ (land-judges (a .ssd .now) (a .hdd .now) (a .table .now) (a .state) (a .block) (a .page .now)) (e .serves .result .number)
-    (found _ (a .table .now) (a .block) (e .serves .ensures)) (c .before .if1 .taken))
+    (refused-by (land (a .block) (a .page .now)) (boxOf (a .ssd .now) (a .hdd .now) (a .table .now) (a .state)) _ _ (land-judges (a .ssd .now) (a .hdd .now) (a .table .now) (a .state) (a .block) (a .page .now)) (e .judge-block .result .number)
+    (found _ (a .table .now) (a .block) (e .judge-block .ensures)) (c .before .if1 .taken))
 
 enum-told : tie.Need-enum-told
 enum-told c = search needs
@@ -159,7 +159,7 @@ pub land-spec : {M : Type 1} → statement M
 land-spec =
     tie.close
     (tie.spec
-    serves-requires
+    judge-block-requires
     refused-requires
     same-length
     returns

@@ -28,11 +28,11 @@ abbrev start : tie.Else1 → tie.Start
 start c = c .before .before .before .before .before .before
 
 known : (c : tie.Else1) → let a = start c .args in
-    Served (a .ssd .now) (a .hdd .now) 4096 (a .table .now) (a .state) (a .block) (c .before .serves .result)
+    Served (a .ssd .now) (a .hdd .now) 4096 (a .table .now) (a .state) (a .block) (c .before .judge-block .result)
 known c = let a = start c .args in
-    served (a .ssd .now) (a .hdd .now) 4096 (a .table .now) (a .state) (a .block) (c .before .serves .ensures) (c .if1 .left)
+    served (a .ssd .now) (a .hdd .now) 4096 (a .table .now) (a .state) (a .block) (c .before .judge-block .ensures) (c .if1 .left)
 
-shut : (c : tie.Else1) (k : Condition) → c .before .serves .result .condition ≡ k → isOpen k ≡ true → let a = start c .args in
+shut : (c : tie.Else1) (k : Condition) → c .before .judge-block .result .condition ≡ k → isOpen k ≡ true → let a = start c .args in
     let x = boxOf (a .ssd .now) (a .hdd .now) (a .table .now) (a .state) in
     left (refusing 8 x) (x .images) ≡ offerOf (a .ssd .now) (a .hdd .now) (a .table .now) (a .state) (a .block)
 shut c k e o = let a = start c .args in
@@ -54,8 +54,8 @@ room : (c : tie.Else2) → let a = start (c .before .before .before .before .bef
 room c = let a = start (c .before .before .before .before .before) .args in
     may-open (openRows (a .table .now)) (a .state .newest) (sym (clean (c .before) .1) ∙ c .if2 .left)
 
-serves-requires : tie.Need-serves-requires
-serves-requires c κs = search needs
+judge-block-requires : tie.Need-judge-block-requires
+judge-block-requires c κs = search needs
 
 refused-requires : tie.Need-refused-requires
 refused-requires c κs = search needs
@@ -68,8 +68,8 @@ returns c =
     let e = c .before .before in
     let a = e .before .before .before .before .before .args in
     rw (c .refused .ensures .0, c .refused .ensures .1)
-    (refused-by (offer (a .block)) (boxOf (a .ssd .now) (a .hdd .now) (a .table .now) (a .state)) _ _ (offer-judges (a .ssd .now) (a .hdd .now) (a .table .now) (a .state) (a .block)) (e .serves .result .number)
-    (found _ (a .table .now) (a .block) (e .serves .ensures)) (c .before .if1 .taken))
+    (refused-by (offer (a .block)) (boxOf (a .ssd .now) (a .hdd .now) (a .table .now) (a .state)) _ _ (offer-judges (a .ssd .now) (a .hdd .now) (a .table .now) (a .state) (a .block)) (e .judge-block .result .number)
+    (found _ (a .table .now) (a .block) (e .judge-block .ensures)) (c .before .if1 .taken))
 
 enum-told : tie.Need-enum-told
 enum-told c = search needs
@@ -222,7 +222,7 @@ pub offer-spec : {M : Type 1} → statement M
 offer-spec =
     tie.close
     (tie.spec
-    serves-requires
+    judge-block-requires
     refused-requires
     same-length
     returns

@@ -11,7 +11,7 @@ use Rattle.layout.specs.declared.Slot.{Slot}
 use Rattle.record.specs.declared.Record.{Record}
 use Rattle.record.specs.declared.Phase.{Phase}
 use Rattle.record.specs.declared.Phase.the-variants.{Formatting, Recovering, Ready}
-use Rattle.protocol.specs.Paper.{Paper, refusal, announced, overwrite, copiedOut, inSlot, onDisk, nothingToDo, done}
+use Rattle.protocol.specs.Reply.{Reply, refusal, announced, overwrite, copiedOut, inSlot, onDisk, nothingToDo, done}
 use Rattle.record.specs.Record.{recordOf}
 use Rattle.protocol.specs.Box.{Box, Image, ssdImage, hddImage, Store, Effect, refusing}
 use Rattle.protocol.specs.Plan.{Call, format, step, flush, reopen, offer, land, fetch, landFetch, lookUp, view, writeBack}
@@ -20,11 +20,11 @@ use Rattle.protocol.specs.Judge.{windowFull, allOpen, labelFor, lengthsT
 use Rattle.protocol.specs.Kinds.{kind}
 use Rattle.protocol.specs.Calls.{effectOf}
 use Rattle.protocol.specs.Events.{call}
-use Rattle.protocol.proofs.Report.{nothing, meta, slot, line, diskOf, lost, start, filled, metaPage, labelPage, pages}
+use Rattle.protocol.proofs.cases.Report.{nothing, meta, slot, line, diskOf, lost, start, filled, metaPage, labelPage, pages}
 use Rattle.layout.proofs.PlaceLaws.{sameLabel}
-use Rattle.protocol.proofs.Known.{effectKnown, effect-known, known}
-use Rattle.protocol.proofs.QuickRows.{walked, bothWalked, quickTest, quickRecover, quick-recover}
-use Rattle.protocol.proofs.Cases.{Script, scripted, Case, script, Computed, shows, recovery, effect, move, condition, Holds, AllHold, _also_, usual, one, two, many, textOf, fresh, start-one, start-two, sized-one, sized-two}
+use Rattle.protocol.proofs.cases.Known.{effectKnown, effect-known, known}
+use Rattle.protocol.proofs.cases.QuickRows.{walked, bothWalked, quickTest, quickRecover, quick-recover}
+use Rattle.protocol.proofs.cases.Cases.{Script, scripted, Case, script, Computed, shows, recovery, effect, move, condition, Holds, AllHold, _also_, usual, one, two, many, textOf, fresh, start-one, start-two, sized-one, sized-two}
 
 -- Scripts.
 
@@ -119,7 +119,7 @@ held table newest unconfirmed window = record {
 }
 
 -- what a move leaves of such a box
-abbrev pub leaving : Paper → Option Store → Box → Effect
+abbrev pub leaving : Reply → Option Store → Box → Effect
 leaving said store x = record { said = said; state = x .state; table = x .table; store = store }
 
 abbrev pub stores : Image → ℕ → List ℕ → Option Store

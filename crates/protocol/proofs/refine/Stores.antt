@@ -27,11 +27,11 @@ use Rattle.layout.proofs.Booleans.{Told, told, told-true, told-false, and-parts
 use Rattle.protocol.proofs.model.Base.{Window}
 use Rattle.protocol.proofs.model.Base as base
 use Rattle.protocol.proofs.model.Model.{Row}
-use Rattle.protocol.proofs.Windows.{nums, length-nums, distinct-nums, below-nums}
-use Rattle.protocol.proofs.Flags.{rowOf, LegalRow, row-legal}
-use Rattle.protocol.proofs.Tables.{rowAt, rowAt-out, Rows}
-use Rattle.protocol.proofs.Metas.{metas-put, metas-else, length-metas, entry-set, newest-set, stamp-most}
-use Rattle.protocol.proofs.Abstract.{entAt, Pages, ImagesKept}
+use Rattle.protocol.proofs.refine.Windows.{nums, length-nums, distinct-nums, below-nums}
+use Rattle.protocol.proofs.refine.Flags.{rowOf, LegalRow, row-legal}
+use Rattle.protocol.proofs.refine.Tables.{rowAt, rowAt-out, Rows}
+use Rattle.protocol.proofs.refine.Metas.{metas-put, metas-else, length-metas, entry-set, newest-set, stamp-most}
+use Rattle.protocol.proofs.refine.Abstract.{entryRow, Pages, ImagesKept}
 
 -- the row of slot s stands in the rows of its page
 module _ (l : Label) (table : List ℕ) (size : length table ≡ tableLength l) (p : ℕ) where
@@ -161,9 +161,9 @@ module _
     p-there : p < length (metasOf l ssd)
     p-there = omega (arith, length-metas l ssd)
 
-    new-ent : (s : ℕ) → entAt l (metasOf l new) s ≡ cond (eqb (s / 240) p) (rowAt table s) (entAt l (metasOf l ssd) s)
-    unfolding entAt
-    new-ent s = rw (new-metas, entry-set (metasOf l ssd) p page (record { 0 = s }) p-there)
+    new-entry : (s : ℕ) → entryRow l (metasOf l new) s ≡ cond (eqb (s / 240) p) (rowAt table s) (entryRow l (metasOf l ssd) s)
+    unfolding entryRow
+    new-entry s = rw (new-metas, entry-set (metasOf l ssd) p page (record { 0 = s }) p-there)
         (go (told (ltb s (l .slots))) (told (eqb (s / 240) p)))
       where
         go : Told (ltb s (l .slots)) → Told (eqb (s / 240) p)
@@ -244,19 +244,19 @@ module _
       pages = new-pages;
     }
 
-    pub put-ent : (s : ℕ) → entAt l (metasOf l (putPage ssd (1 + p) (encodeMeta t w (rowsOn p table)))) s ≡ cond (eqb (s / 240) p)
-        (rowAt table s) (entAt l (metasOf l ssd) s)
+    pub put-entry : (s : ℕ) → entryRow l (metasOf l (putPage ssd (1 + p) (encodeMeta t w (rowsOn p table)))) s ≡ cond (eqb (s / 240) p)
+        (rowAt table s) (entryRow l (metasOf l ssd) s)
     unfolding new page
-    put-ent = new-ent
+    put-entry = new-entry
 
     pub put-newest : newestOf (metasOf l (putPage ssd (1 + p) (encodeMeta t w (rowsOn p table)))) ≡ record { stamp = t; window = w }
     unfolding new page
     put-newest = new-newest
 
-    pub put-dat : (s : ℕ) → pageAt (putPage ssd (1 + p) (encodeMeta t w (rowsOn p table))) (1 + metaPages l + s) ≡ pageAt ssd
+    pub put-page : (s : ℕ) → pageAt (putPage ssd (1 + p) (encodeMeta t w (rowsOn p table))) (1 + metaPages l + s) ≡ pageAt ssd
         (1 + metaPages l + s)
     unfolding new page
-    put-dat s = new-else (1 + metaPages l + s) (omega arith)
+    put-page s = new-else (1 + metaPages l + s) (omega arith)
 
 -- a data page stored
 module _ (l : Label) (ssd hdd : List ℕ) (K : ImagesKept l ssd hdd) (s : ℕ) (s-slot : s < l .slots) (d : List ℕ)
@@ -279,9 +279,9 @@ module _ (l : Label) (ssd hdd : List ℕ) (K : ImagesKept l ssd hdd) (s : ℕ) (
     pages = rw data-metas (K .pages);
   }
 
-  pub data-dat : (u : ℕ) → pageAt (putPage ssd (1 + metaPages l + s) d) (1 + metaPages l + u) ≡ base.upd
+  pub data-page : (u : ℕ) → pageAt (putPage ssd (1 + metaPages l + s) d) (1 + metaPages l + u) ≡ base.upd
       (λ v. pageAt ssd (1 + metaPages l + v)) s d u
-  data-dat u = go (ℕ-discrete u s)
+  data-page u = go (ℕ-discrete u s)
     where
       go : Dec (u ≡ s) → pageAt (putPage ssd (1 + metaPages l + s) d) (1 + metaPages l + u) ≡ base.upd
           (λ v. pageAt ssd (1 + metaPages l + v)) s d u

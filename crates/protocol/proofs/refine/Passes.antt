@@ -24,15 +24,15 @@ use Rattle.protocol.specs.Kinds.{Aim, aService, kind}
 use Rattle.layout.proofs.Booleans.{Told, told, told-true, told-false, clash}
 use Rattle.protocol.proofs.model.Base.{has, Window}
 use Rattle.protocol.proofs.model.Model as model
-use Rattle.protocol.proofs.model.Model.{Row, Plain, Mending, opn, revived}
-use Rattle.protocol.proofs.model.Rows.{opn-valid, shut-opn}
-use Rattle.protocol.proofs.Windows.{nums, length-nums, has-nums, distinct-nums, below-nums, empty-nums, some-length}
+use Rattle.protocol.proofs.model.Model.{Row, Plain, Mending, openRow, revived}
+use Rattle.protocol.proofs.model.Rows.{open-valid, shut-open}
+use Rattle.protocol.proofs.refine.Windows.{nums, length-nums, has-nums, distinct-nums, below-nums, empty-nums, some-length}
 use Rattle.record.proofs.WindowLaws.{length-array, zero-past}
-use Rattle.protocol.proofs.Flags.{rowOf, Flags, f0, f1, f3, f5, f7, f9, f11, f13, f15, LegalRow}
-use Rattle.protocol.proofs.Tables.{rowAt, each-of, at-open}
+use Rattle.protocol.proofs.refine.Flags.{rowOf, Flags, f0, f1, f3, f5, f7, f9, f11, f13, f15, LegalRow}
+use Rattle.protocol.proofs.refine.Tables.{rowAt, each-of, at-open}
 use Rattle.protocol.proofs.Judged.{NoneHold, accepted}
 use Rattle.record.proofs.RecordLaws.{window-in}
-use Rattle.protocol.proofs.Abstract.{Core, phaseFor, boxOfCore, abs, Shape, ready-sound}
+use Rattle.protocol.proofs.refine.Abstract.{Core, phaseFor, boxOfCore, abs, Shape, ready-sound}
 use Rattle.protocol.proofs.Sound.{Sound, sound-agree, rows-legal}
 use Rattle.record.proofs.Each.{listed-same}
 use Rattle.protocol.proofs.why.RowsRules.{agree-same}
@@ -139,11 +139,11 @@ module _ (l : Label) (k : Core) (S : Shape l k) (p : Plain) (R : model.Ready (ab
 module _ (l : Label) (k : Core) (S : Shape l k) (p : Plain) (M : Mending (abs l k) p) (on : k .recovering ≡ true) where
   pub pending-rule : Window (l .slots) (nums (k .window))
   unfolding abs
-  pending-rule = rw (M .window) (M .images .swin-rule)
+  pending-rule = rw (M .window) (M .images .stored-window-rule)
 
-  row-is : (s : ℕ) → rowAt (k .table) s ≡ revived (has (nums (k .window)) s) (abs l k .ent s)
+  row-is : (s : ℕ) → rowAt (k .table) s ≡ revived (has (nums (k .window)) s) (abs l k .entry s)
   unfolding abs
-  row-is s = M .rows s ∙ ap (λ (w : List ℕ). revived (has w s) (abs l k .ent s)) (sym (M .window))
+  row-is s = M .rows s ∙ ap (λ (w : List ℕ). revived (has w s) (abs l k .entry s)) (sym (M .window))
 
   pub some-pending : isEmpty (k .window) ≡ false
   unfolding abs
@@ -151,25 +151,25 @@ module _ (l : Label) (k : Core) (S : Shape l k) (p : Plain) (M : Mending (abs l 
 
   pending-low : (s : ℕ) → listed (record { 0 = s }) (k .window) ≡ true → s < l .slots
   unfolding abs
-  pending-low s h = M .images .in-range s (opn-valid (abs l k .ent s)
+  pending-low s h = M .images .in-range s (open-valid (abs l k .entry s)
       (M .images .stored-open s (ap (λ (w : List ℕ). has w s) (sym (M .window)) ∙ has-nums (k .window) s ∙ h)))
 
   pending-free : (s : Slot) → listed s (k .window) ≡ true
       → rowOf (getD (k .table) (2 * s .0) 0) (getD (k .table) (2 * s .0 + 1) 0 % 8) ≡ Row.free
   unfolding rowAt
-  pending-free s h = row-is (s .0) ∙ ap (λ (b : Bool). revived b (abs l k .ent (s .0))) (has-nums (k .window) (s .0) ∙ h)
+  pending-free s h = row-is (s .0) ∙ ap (λ (b : Bool). revived b (abs l k .entry (s .0))) (has-nums (k .window) (s .0) ∙ h)
 
   pending-zero : (s : Slot) → listed s (k .window) ≡ true → (eqb (rowBlock (k .table) s .0) 0 && eqb (rowFlags (k .table) s) 0) ≡ true
   pending-zero s h =
       let z = free-zero (S .rows (s .0) (pending-low (s .0) h)) (pending-free s h) in
       rw (z .0, z .1)
 
-  pub shut-row : (s : ℕ) → opn (rowAt (k .table) s) ≡ false
-  shut-row s = ap opn (row-is s) ∙ go (has (nums (k .window)) s)
+  pub shut-row : (s : ℕ) → openRow (rowAt (k .table) s) ≡ false
+  shut-row s = ap openRow (row-is s) ∙ go (has (nums (k .window)) s)
     where
-      go : (h : Bool) → opn (revived h (abs l k .ent s)) ≡ false
+      go : (h : Bool) → openRow (revived h (abs l k .entry s)) ≡ false
       go true = refl
-      go false = shut-opn (abs l k .ent s)
+      go false = shut-open (abs l k .entry s)
 
   agree-mending : agreeTest (phaseFor (k .recovering)) (k .table) (k .window) ≡ true
   agree-mending =

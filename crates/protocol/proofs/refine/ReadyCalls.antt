@@ -16,7 +16,7 @@ use Rattle.layout.proofs.PlaceLaws.{meta-of-low}
 use Rattle.layout.specs.declared.Block.{Block}
 use Rattle.layout.specs.declared.Label.{Label}
 use Rattle.layout.specs.Places.{metaPages}
-use Rattle.protocol.specs.Paper.{Paper, refused}
+use Rattle.protocol.specs.Reply.{Reply, refused}
 use Rattle.protocol.specs.Rows.{rowFlags, setRow, valid, dirty, writing}
 use Rattle.protocol.specs.Box.{Effect, left, boxAfter}
 use Rattle.protocol.specs.Recovery.{metasOf, newestOf}
@@ -26,22 +26,22 @@ use Rattle.protocol.specs.Perform.{confirmed, perform}
 use Rattle.record.specs.Record.{largestStamp}
 use Rattle.protocol.specs.Judge.{Reason, judged, isReady}
 use Rattle.protocol.specs.Calls.{decided, effectOf}
-use Rattle.protocol.specs.ReferenceDisk.{Disk, settled, written, fedCall, fed}
+use Rattle.protocol.specs.ReferenceDisk.{Disk, durable, written, fedCall, fed}
 use Rattle.protocol.specs.Events.{World, mayFinish, readsIf, called}
 use Rattle.protocol.proofs.model.Base.{upd, metaNo}
 use Rattle.protocol.proofs.model.Model as model
-use Rattle.protocol.proofs.model.Model.{Row, Plain, dty, opn, blk, settle, stored, opened, flushed, landed}
-use Rattle.protocol.proofs.model.Rows.{dty-valid}
+use Rattle.protocol.proofs.model.Model.{Row, Plain, dirtyRow, openRow, blockOf, settle, stored, opened, flushed, landed}
+use Rattle.protocol.proofs.model.Rows.{dirty-valid}
 use Rattle.protocol.proofs.model.Moves.{Opens, Copies, Lands, landing as modelLanding, opens-ready, copies-ready, lands-ready, fetch-ready}
 use Rattle.protocol.proofs.model.Flushed.{flushed-ready, settled-ready}
-use Rattle.protocol.proofs.Windows.{nums, nums-append, nums-one, distinct-nums}
-use Rattle.protocol.proofs.Flags.{rowOf}
-use Rattle.protocol.proofs.Tables.{rowAt, set-at, at-open, at-block, at-valid, at-dirty}
-use Rattle.protocol.proofs.Conditions.{Held, is-dirty}
+use Rattle.protocol.proofs.refine.Windows.{nums, nums-append, nums-one, distinct-nums}
+use Rattle.protocol.proofs.refine.Flags.{rowOf}
+use Rattle.protocol.proofs.refine.Tables.{rowAt, set-at, at-open, at-block, at-valid, at-dirty}
+use Rattle.protocol.proofs.refine.Conditions.{Held, is-dirty}
 use Rattle.protocol.proofs.Sound.{Sound, writing-is, room}
 use Rattle.protocol.proofs.Does.{Absent, Opening, Copying, Quiet, Does, does-nothing, does-use, does-open, does-copy, does-land, does-fetch, does-rest, does-confirm, lands-said, opening-sound}
-use Rattle.protocol.proofs.Performed.{after, tabled-abs, tabled-shape, uses-box, uses-alike, storedCore, stored-shape, stored-abs, opens-box, confirms-box, landedCore, lands-box, lands-shape, lands-abs, copiedCore, copies-box, copies-shape, copies-abs}
-use Rattle.protocol.proofs.Abstract.{Core, boxOfCore, abs, Shape, ready-sound, Agrees, is-ready, Inv}
+use Rattle.protocol.proofs.refine.Performed.{after, tabled-abs, tabled-shape, uses-box, uses-alike, storedCore, stored-shape, stored-abs, opens-box, confirms-box, landedCore, lands-box, lands-shape, lands-abs, copiedCore, copies-box, copies-shape, copies-abs}
+use Rattle.protocol.proofs.refine.Abstract.{Core, boxOfCore, abs, Shape, ready-sound, Agrees, is-ready, Inv}
 
 -- a call that did this
 unfoldable pub calledAs : Call → Effect → World → World
@@ -72,13 +72,13 @@ module _ (l : Label) (k : Core) (S : Shape l k) (p : Plain) (R : model.Ready (ab
   newest-is = unfold abs in R .stamps
 
   -- a slot that holds a block, in the model
-  held-row : {b s : ℕ} → Held l (k .table) b s → (model.valid (rowAt (k .table) s) ≡ true) × (blk (rowAt (k .table) s) ≡ b)
+  held-row : {b s : ℕ} → Held l (k .table) b s → (model.valid (rowAt (k .table) s) ≡ true) × (blockOf (rowAt (k .table) s) ≡ b)
   held-row {b} {s} H =
       (at-valid l (k .table) (S .rows) s (H .low) ∙ H .held, at-block l (k .table) (S .rows) s (H .low) (H .held) ∙ H .block)
 
   -- no other slot holds the block that a slot is opened for
   fresh-row : {s b : ℕ} → Absent l (k .table) b ⊎ Held l (k .table) b s → (t : ℕ) → t ≢ s → model.valid (rowAt (k .table) t) ≡ true
-      → blk (rowAt (k .table) t) ≢ b
+      → blockOf (rowAt (k .table) t) ≢ b
   unfolding abs
   fresh-row (inl h) t n v e =
       let i = R .in-range t v in
@@ -106,7 +106,7 @@ module _ (l : Label) (k : Core) (S : Shape l k) (d : Disk) (p : Plain) (A : Agre
     quiet z = rw (z d) A
 
     -- nothing changes
-    stays : (said : Paper) (p′ : Plain) → refused said ≡ false → Agrees l (fedCall (a .purpose) (a .block) d) p′ → model.Ready (abs l k) p′
+    stays : (said : Reply) (p′ : Plain) → refused said ≡ false → Agrees l (fedCall (a .purpose) (a .block) d) p′ → model.Ready (abs l k) p′
         → Inv l (calledAs c (perform (stay said) (boxOfCore l k)) (worldOf l k d))
     unfolding perform
     stays said p′ n A′ R′ = next (stay said) k p′ n refl S A′ R′
@@ -179,22 +179,22 @@ module _ (l : Label) (k : Core) (S : Shape l k) (d : Disk) (p : Plain) (A : Agre
 
     -- a dirty slot is copied
     module _ (z : Quiet a) {s : Slot} {v : List ℕ} {hand : Slot} (C : Copying (boxOfCore l k) s v hand) where
-      row-dirty : dty (rowAt (k .table) (s .0)) ≡ true
-      row-dirty = ap dty (sym (C .alike .row (s .0))) ∙ at-dirty l v (C .alike .legal) (s .0) (C .low) ∙ C .is-dirty
+      row-dirty : dirtyRow (rowAt (k .table) (s .0)) ≡ true
+      row-dirty = ap dirtyRow (sym (C .alike .row (s .0))) ∙ at-dirty l v (C .alike .legal) (s .0) (C .low) ∙ C .is-dirty
 
       is-valid : valid (rowFlags v s) ≡ true
       is-valid = sym (at-valid l v (C .alike .legal) (s .0) (C .low)) ∙ ap model.valid (C .alike .row (s .0))
-          ∙ dty-valid (rowAt (k .table) (s .0)) row-dirty
+          ∙ dirty-valid (rowAt (k .table) (s .0)) row-dirty
 
       copies-asks : Copies (abs l k) (s .0)
       unfolding abs
       copies-asks = record {
         was-dirty = row-dirty;
-        was-shut = ap opn (sym (C .alike .row (s .0))) ∙ at-open l v (C .alike .legal) (s .0) (C .low) ∙ C .is-shut;
+        was-shut = ap openRow (sym (C .alike .row (s .0))) ∙ at-open l v (C .alike .legal) (s .0) (C .low) ∙ C .is-shut;
         slot-below = C .low;
       }
 
-      copies-next : (said : Paper) → refused said ≡ false
+      copies-next : (said : Reply) → refused said ≡ false
           → Inv l (calledAs c (perform (copies s said v hand) (boxOfCore l k)) (worldOf l k d))
       unfolding perform
       copies-next said n =
@@ -260,7 +260,7 @@ module _ (l : Label) (k : Core) (S : Shape l k) (d : Disk) (p : Plain) (A : Agre
           ap (λ (r : List (List ℕ)). page ∷ r) (A .contents (b .0) (rw q at h))
       contents-at c h false e = A .contents c h
 
-  agrees-settled : Agrees l (settled (d .page)) (settle p)
+  agrees-settled : Agrees l (durable (d .page)) (settle p)
   unfolding settle
   agrees-settled = record { page = A .page; contents = λ b h. ap (λ (q : List ℕ). q ∷ []) (A .page b h) }
 

@@ -7,8 +7,8 @@ use Rattle.record.specs.Rule.{recordTest}
 use Rattle.protocol.specs.Judge.{lengthsTest}
 use Rattle.serving.proofs.JudgingLaws.{bad-record, bad-length, bad-page, by-rows, lengths-table}
 use borrow.Author.Needs.{needs}
-use Rattle.serving.proofs.judge.sound.Statement.{statement}
-use Rattle.serving.proofs.judge.sound.Tie as tie
+use Rattle.serving.proofs.judge.judge_box.Statement.{statement}
+use Rattle.serving.proofs.judge.judge_box.Tie as tie
 
 record-ok-requires : tie.Need-record-ok-requires
 record-ok-requires c κs = search needs
@@ -77,8 +77,8 @@ returns-4 c =
     let a = k .before .before .before .args in
     rw (by-rows (a .ssd) (a .hdd) (a .page) (a .table .now) (a .state) 0 (kept k) (lengths e) (c .before .if3 .left)) (c .look .ensures)
 
-pub sound-spec : {M : Type 1} → statement M
-sound-spec =
+pub judge-box-spec : {M : Type 1} → statement M
+judge-box-spec =
     tie.close
     (tie.spec
     record-ok-requires

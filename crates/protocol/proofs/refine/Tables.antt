@@ -15,8 +15,8 @@ use Rattle.protocol.specs.Rows.{valid, dirty, writing, eachRow}
 use Rattle.layout.proofs.Booleans.{and-parts}
 use Rattle.protocol.proofs.model.Base.{upd, upd-same, upd-other, eqb-same}
 use Rattle.protocol.proofs.model.Model as model
-use Rattle.protocol.proofs.model.Model.{Row, dty, opn, blk}
-use Rattle.protocol.proofs.Flags.{rowOf, LegalRow, Same, same}
+use Rattle.protocol.proofs.model.Model.{Row, dirtyRow, openRow, blockOf}
+use Rattle.protocol.proofs.refine.Flags.{rowOf, LegalRow, Same, same}
 
 -- row s of a table
 unfoldable pub rowAt : List ℕ → ℕ → Row
@@ -110,15 +110,15 @@ module _ (l : Label) (t : List ℕ) (R : Rows l t) (s : ℕ) (h : s < l .slots) 
   unfolding rowAt
   at-valid = at-same .same-valid
 
-  pub at-dirty : dty (rowAt t s) ≡ dirty (getD t (2 * s + 1) 0)
+  pub at-dirty : dirtyRow (rowAt t s) ≡ dirty (getD t (2 * s + 1) 0)
   unfolding rowAt
   at-dirty = at-same .same-dirty
 
-  pub at-open : opn (rowAt t s) ≡ writing (getD t (2 * s + 1) 0)
+  pub at-open : openRow (rowAt t s) ≡ writing (getD t (2 * s + 1) 0)
   unfolding rowAt
   at-open = at-same .same-open
 
-  pub at-block : valid (getD t (2 * s + 1) 0) ≡ true → blk (rowAt t s) ≡ getD t (2 * s) 0
+  pub at-block : valid (getD t (2 * s + 1) 0) ≡ true → blockOf (rowAt t s) ≡ getD t (2 * s) 0
   unfolding rowAt
   at-block v = at-same .same-block v
 

@@ -13,7 +13,7 @@ use Rattle.layout.specs.declared.Label.{Label}
 use Rattle.layout.specs.Places.{metaPages}
 use Rattle.protocol.specs.declared.Condition.{Condition}
 use Rattle.protocol.specs.declared.Condition.the-variants.{NotCached, Clean, Dirty, Writing, Fetching}
-use Rattle.protocol.specs.Paper.{inSlot}
+use Rattle.protocol.specs.Reply.{inSlot}
 use Rattle.protocol.specs.Rows.{valid, writing}
 use Rattle.protocol.specs.Condition.{conditionOf}
 use Rattle.protocol.specs.Plan.{lookUp, view, lookingUp, plan}
@@ -24,15 +24,15 @@ use Rattle.protocol.specs.Events.{lent, readOf}
 use Rattle.protocol.specs.Demand3.{slotSaid}
 use Rattle.layout.proofs.Booleans.{Told, told, told-true, told-false}
 use Rattle.protocol.proofs.model.Model as model
-use Rattle.protocol.proofs.model.Model.{Plain, opn, blk}
+use Rattle.protocol.proofs.model.Model.{Plain, openRow, blockOf}
 use Rattle.protocol.proofs.model.View as seen
 use Rattle.protocol.proofs.model.View.{Found, found, viewAt}
 use Rattle.protocol.proofs.model.Places.{shutAt}
 use Rattle.protocol.proofs.model.Places as places
-use Rattle.protocol.proofs.Tables.{rowAt, at-open, at-block, at-valid}
-use Rattle.protocol.proofs.Conditions.{Held, Stands, absent, is-clean, is-dirty, is-writing, is-fetching, stands}
-use Rattle.protocol.proofs.Passes.{view-judged, look-judged}
-use Rattle.protocol.proofs.Abstract.{Core, boxOfCore, abs, Shape}
+use Rattle.protocol.proofs.refine.Tables.{rowAt, at-open, at-block, at-valid}
+use Rattle.protocol.proofs.refine.Conditions.{Held, Stands, absent, is-clean, is-dirty, is-writing, is-fetching, stands}
+use Rattle.protocol.proofs.refine.Passes.{view-judged, look-judged}
+use Rattle.protocol.proofs.refine.Abstract.{Core, boxOfCore, abs, Shape}
 
 -- the closed slot of a condition, and the page
 abbrev pub closedSlot : Condition → Option Slot
@@ -53,7 +53,7 @@ module _ (l : Label) (k : Core) (S : Shape l k) (p : Plain) (R : model.Ready (ab
   -- the row that holds the block, in table and model
   record Both (s : ℕ) : Type 0 where
     held : model.valid (rowAt (k .table) s) ≡ true
-    blocked : blk (rowAt (k .table) s) ≡ b
+    blocked : blockOf (rowAt (k .table) s) ≡ b
 
   both : (s : ℕ) → Held l (k .table) b s → Both s
   both s H = record {
@@ -61,7 +61,7 @@ module _ (l : Label) (k : Core) (S : Shape l k) (p : Plain) (R : model.Ready (ab
     blocked = at-block l (k .table) (S .rows) s (H .low) (H .held) ∙ H .block;
   }
 
-  one : (s t : ℕ) → Both s → model.valid (rowAt (k .table) t) ≡ true → blk (rowAt (k .table) t) ≡ b → t ≡ s
+  one : (s t : ℕ) → Both s → model.valid (rowAt (k .table) t) ≡ true → blockOf (rowAt (k .table) t) ≡ b → t ≡ s
   unfolding abs
   one s t B v e = R .once t s v (B .held) (e ∙ sym (B .blocked))
 
@@ -136,13 +136,13 @@ module _ (l : Label) (k : Core) (S : Shape l k) (p : Plain) (R : model.Ready (ab
   named : (o : Option ℕ) (s : Slot) → asSlot (shutAt (abs l k) o) ≡ some s → viewAt (abs l k) b o ≡ pageAt (k .ssd) (1 + metaPages l + s .0)
   unfolding abs
   named none s e = absurd (Option·none-ne-some s e)
-  named (some t) s e = go (told (opn (rowAt (k .table) t)))
+  named (some t) s e = go (told (openRow (rowAt (k .table) t)))
     where
       number-of : Option Slot → ℕ
       number-of none = 0
       number-of (some u) = u .0
 
-      go : Told (opn (rowAt (k .table) t)) → cond (opn (rowAt (k .table) t)) (pageAt (k .hdd) b)
+      go : Told (openRow (rowAt (k .table) t)) → cond (openRow (rowAt (k .table) t)) (pageAt (k .hdd) b)
           (pageAt (k .ssd) (1 + metaPages l + t)) ≡ pageAt (k .ssd) (1 + metaPages l + s .0)
       go (told-true o) = absurd (Option·none-ne-some s (rw o at e))
       go (told-false o) =

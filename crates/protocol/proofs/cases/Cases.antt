@@ -10,7 +10,7 @@ use Rattle.layout.specs.declared.Label.{Label}
 use Rattle.layout.specs.Places.{labelOf, metaPages, ssdLength, tableLength}
 use Rattle.record.specs.declared.Record.{Record}
 use Rattle.record.specs.declared.Phase.the-variants.{Formatting, Recovering, Ready}
-use Rattle.protocol.specs.Paper.{announced, copiedOut, inSlot, done}
+use Rattle.protocol.specs.Reply.{announced, copiedOut, inSlot, done}
 use Rattle.record.specs.Record.{recordOf}
 use Rattle.protocol.specs.Box.{Box, Effect, boxAfter}
 use Rattle.protocol.specs.Plan.{Call, format, step, flush, offer, land, fetch, landFetch, lookUp, plan}
@@ -19,9 +19,9 @@ use Rattle.protocol.specs.Perform.{perform}
 use Rattle.protocol.specs.Judge.{Reason, test}
 use Rattle.protocol.specs.Calls.{effectOf, resultOf}
 use Rattle.protocol.specs.Events.{World, Event, call, called, run, steps, formatted, startOf}
-use Rattle.protocol.proofs.Report.{nothing, label, meta, slot, block, Line, line, Report, report, diskOf, lost, unformatted, start, filled, metaPage, labelPage, pages}
-use Rattle.protocol.proofs.Known.{Sized, known, known-shows}
-use Rattle.protocol.proofs.QuickRows.{walked, bothWalked, quickTest, quickRecover, quick-recover}
+use Rattle.protocol.proofs.cases.Report.{nothing, label, meta, slot, block, Line, line, Report, report, diskOf, lost, unformatted, start, filled, metaPage, labelPage, pages}
+use Rattle.protocol.proofs.cases.Known.{Sized, known, known-shows}
+use Rattle.protocol.proofs.cases.QuickRows.{walked, bothWalked, quickTest, quickRecover, quick-recover}
 
 -- A script and what it shows, from where it begins, with the blocks that are read at its end.
 pub record Script : Type 0 where

@@ -30,16 +30,16 @@ use Rattle.protocol.specs.Perform.{perform}
 use Rattle.protocol.specs.Judge.{labelTest, lengthsTest, lengthTest, test, judged, isEmpty}
 use Rattle.protocol.proofs.model.Base.{has}
 use Rattle.protocol.proofs.model.Model as model
-use Rattle.protocol.proofs.model.Model.{Row, Plain, Stored, dty, opn, blk, revived, reopened, same-path}
-use Rattle.protocol.proofs.model.Rows.{opn-valid}
-use Rattle.protocol.proofs.Windows.{nums, has-nums, empty-nums}
-use Rattle.protocol.proofs.Flags.{rowOf}
-use Rattle.protocol.proofs.Tables.{rowAt, rowAt-out, Rows}
-use Rattle.protocol.proofs.Metas.{length-metas}
-use Rattle.protocol.proofs.Entries.{length-rows, rows-block, rows-flags, LegalEntry, legal-entry, SameEntry, same-entry, ent-in, recovered-row, recovered-legal, each-legal, stamps-differ, none-twice, all-open}
+use Rattle.protocol.proofs.model.Model.{Row, Plain, Stored, dirtyRow, openRow, blockOf, revived, reopened, same-path}
+use Rattle.protocol.proofs.model.Rows.{open-valid}
+use Rattle.protocol.proofs.refine.Windows.{nums, has-nums, empty-nums}
+use Rattle.protocol.proofs.refine.Flags.{rowOf}
+use Rattle.protocol.proofs.refine.Tables.{rowAt, rowAt-out, Rows}
+use Rattle.protocol.proofs.refine.Metas.{length-metas}
+use Rattle.protocol.proofs.refine.Entries.{length-rows, rows-block, rows-flags, LegalEntry, legal-entry, SameEntry, same-entry, entry-in, recovered-row, recovered-legal, each-legal, stamps-differ, none-twice, all-open}
 use Rattle.protocol.proofs.Judged.{accepted}
-use Rattle.protocol.proofs.Performed.{phase-empty}
-use Rattle.protocol.proofs.Abstract.{Core, boxOfCore, entAt, abs, ImagesKept, Shape}
+use Rattle.protocol.proofs.refine.Performed.{phase-empty}
+use Rattle.protocol.proofs.refine.Abstract.{Core, boxOfCore, entryRow, abs, ImagesKept, Shape}
 
 revived-free : (h : Bool) → revived h Row.free ≡ Row.free
 revived-free true = refl
@@ -73,7 +73,7 @@ module _ (l : Label) (k : Core) (p : Plain) (K : ImagesKept l (k .ssd) (k .hdd))
   -- the slots of the newest window are open in the pages
   window-low : (s : ℕ) → listed (record { 0 = s }) window ≡ true → s < l .slots
   unfolding abs window
-  window-low s h = St .in-range s (opn-valid (entAt l (metasOf l (k .ssd)) s) (St .stored-open s (has-nums window s ∙ h)))
+  window-low s h = St .in-range s (open-valid (entryRow l (metasOf l (k .ssd)) s) (St .stored-open s (has-nums window s ∙ h)))
 
   legal : (s : ℕ) → s < l .slots → LegalEntry l (entry s)
   unfolding entry
@@ -82,44 +82,44 @@ module _ (l : Label) (k : Core) (p : Plain) (K : ImagesKept l (k .ssd) (k .hdd))
   same : (s : ℕ) → s < l .slots → SameEntry (entry s)
   same s h = same-entry (entry s) (legal s h .sums)
 
-  ent-is : (s : ℕ) → s < l .slots → entAt l (metasOf l (k .ssd)) s ≡ rowOf (entry s .block .0) (entry s .flags)
+  entry-is : (s : ℕ) → s < l .slots → entryRow l (metasOf l (k .ssd)) s ≡ rowOf (entry s .block .0) (entry s .flags)
   unfolding entry
-  ent-is s h = ent-in l (metasOf l (k .ssd)) s h
+  entry-is s h = entry-in l (metasOf l (k .ssd)) s h
 
   window-open : (s : ℕ) → listed (record { 0 = s }) window ≡ true → (valid (entry s .flags) ≡ true) × (writing (entry s .flags) ≡ true)
   unfolding abs window
   window-open s h =
       let i = window-low s h in
-      let o : opn (entAt l (metasOf l (k .ssd)) s) ≡ true = St .stored-open s (has-nums window s ∙ h) in
-      let o′ : opn (rowOf (entry s .block .0) (entry s .flags)) ≡ true = sym (ap opn (ent-is s i)) ∙ o in
-      (sym (same s i .same-valid) ∙ opn-valid (rowOf (entry s .block .0) (entry s .flags)) o′, sym (same s i .same-open) ∙ o′)
+      let o : openRow (entryRow l (metasOf l (k .ssd)) s) ≡ true = St .stored-open s (has-nums window s ∙ h) in
+      let o′ : openRow (rowOf (entry s .block .0) (entry s .flags)) ≡ true = sym (ap openRow (entry-is s i)) ∙ o in
+      (sym (same s i .same-valid) ∙ open-valid (rowOf (entry s .block .0) (entry s .flags)) o′, sym (same s i .same-open) ∙ o′)
 
   -- a stored entry and the model's
-  pub valid-ent : (s : ℕ) → s < l .slots → model.valid (entAt l (metasOf l (k .ssd)) s) ≡ valid
+  pub valid-entry : (s : ℕ) → s < l .slots → model.valid (entryRow l (metasOf l (k .ssd)) s) ≡ valid
       (entryIn (metasOf l (k .ssd)) (record { 0 = s }) .flags)
   unfolding entry
-  valid-ent s h = ap model.valid (ent-is s h) ∙ same s h .same-valid
+  valid-entry s h = ap model.valid (entry-is s h) ∙ same s h .same-valid
 
-  pub block-ent : (s : ℕ) → s < l .slots → valid (entryIn (metasOf l (k .ssd)) (record { 0 = s }) .flags) ≡ true
-      → blk (entAt l (metasOf l (k .ssd)) s) ≡ entryIn (metasOf l (k .ssd)) (record { 0 = s }) .block .0
+  pub block-entry : (s : ℕ) → s < l .slots → valid (entryIn (metasOf l (k .ssd)) (record { 0 = s }) .flags) ≡ true
+      → blockOf (entryRow l (metasOf l (k .ssd)) s) ≡ entryIn (metasOf l (k .ssd)) (record { 0 = s }) .block .0
   unfolding entry
-  block-ent s h v = ap blk (ent-is s h) ∙ same s h .same-block v
+  block-entry s h v = ap blockOf (entry-is s h) ∙ same s h .same-block v
 
-  pub dirty-ent : (s : ℕ) → s < l .slots → dty (entAt l (metasOf l (k .ssd)) s) ≡ dirty
+  pub dirty-entry : (s : ℕ) → s < l .slots → dirtyRow (entryRow l (metasOf l (k .ssd)) s) ≡ dirty
       (entryIn (metasOf l (k .ssd)) (record { 0 = s }) .flags)
   unfolding entry
-  dirty-ent s h = ap dty (ent-is s h) ∙ same s h .same-dirty
+  dirty-entry s h = ap dirtyRow (entry-is s h) ∙ same s h .same-dirty
 
-  pub open-ent : (s : ℕ) → s < l .slots → opn (entAt l (metasOf l (k .ssd)) s) ≡ writing
+  pub open-entry : (s : ℕ) → s < l .slots → openRow (entryRow l (metasOf l (k .ssd)) s) ≡ writing
       (entryIn (metasOf l (k .ssd)) (record { 0 = s }) .flags)
   unfolding entry
-  open-ent s h = ap opn (ent-is s h) ∙ same s h .same-open
+  open-entry s h = ap openRow (entry-is s h) ∙ same s h .same-open
 
   -- the slots of the newest window
   pub window-block : (s : ℕ) → listed (record { 0 = s }) (newestOf (metasOf l (k .ssd)) .window) ≡ true
-      → blk (entAt l (metasOf l (k .ssd)) s) ≡ entryIn (metasOf l (k .ssd)) (record { 0 = s }) .block .0
+      → blockOf (entryRow l (metasOf l (k .ssd)) s) ≡ entryIn (metasOf l (k .ssd)) (record { 0 = s }) .block .0
   unfolding window entry
-  window-block s h = block-ent s (window-low s h) (window-open s h .0)
+  window-block s h = block-entry s (window-low s h) (window-open s h .0)
 
   -- no block is in two entries
   apart-rows : (s u : ℕ) → s < u → u < l .slots → valid (entry s .flags) ≡ true → valid (entry u .flags) ≡ true
@@ -128,9 +128,9 @@ module _ (l : Label) (k : Core) (p : Plain) (K : ImagesKept l (k .ssd) (k .hdd))
   apart-rows s u i j v w e =
       let h : s < l .slots = omega arith in
       let ev : (t : ℕ) → t < l .slots → valid (entry t .flags) ≡ true
-      → model.valid (entAt l (metasOf l (k .ssd)) t) ≡ true = λ t q z. ap model.valid (ent-is t q) ∙ same t q .same-valid ∙ z in
+      → model.valid (entryRow l (metasOf l (k .ssd)) t) ≡ true = λ t q z. ap model.valid (entry-is t q) ∙ same t q .same-valid ∙ z in
       let eb : (t : ℕ) → t < l .slots → valid (entry t .flags) ≡ true
-      → blk (entAt l (metasOf l (k .ssd)) t) ≡ entry t .block .0 = λ t q z. ap blk (ent-is t q) ∙ same t q .same-block z in
+      → blockOf (entryRow l (metasOf l (k .ssd)) t) ≡ entry t .block .0 = λ t q z. ap blockOf (entry-is t q) ∙ same t q .same-block z in
       let q : s ≡ u = St .once s u (ev s h v) (ev u j w) (eb s h v ∙ e ∙ sym (eb u j w)) in
       omega arith
 
@@ -228,19 +228,19 @@ module _ (l : Label) (k : Core) (p : Plain) (K : ImagesKept l (k .ssd) (k .hdd))
   pub reopen-shape : Shape l (reopenedCore l k)
   reopen-shape = record { images = K; table-size = table-size; hand-ok = K .limits .some-slot; rows = rows-legal }
 
-  row-is : (s : ℕ) → rowAt (reopenedCore l k .table) s ≡ revived (has (nums window) s) (entAt l (metasOf l (k .ssd)) s)
+  row-is : (s : ℕ) → rowAt (reopenedCore l k .table) s ≡ revived (has (nums window) s) (entryRow l (metasOf l (k .ssd)) s)
   row-is s = go (decLt s (l .slots))
     where
-      go : Dec (s < l .slots) → rowAt (reopenedCore l k .table) s ≡ revived (has (nums window) s) (entAt l (metasOf l (k .ssd)) s)
+      go : Dec (s < l .slots) → rowAt (reopenedCore l k .table) s ≡ revived (has (nums window) s) (entryRow l (metasOf l (k .ssd)) s)
       go (yes h) =
           let e : rowAt (rowsFrom (l .slots) recover-entry) s ≡ rowOf (recover-entry s .block .0) (recover-entry s .flags % 8) =
           unfold rowAt in (rw (rows-block (l .slots) recover-entry s h, rows-flags (l .slots) recover-entry s h)) in
           let r : rowOf (recover-entry s .block .0) (recover-entry s .flags % 8) ≡ revived (has (nums window) s)
           (rowOf (entry s .block .0) (entry s .flags)) = unfold recover-entry in
           (recovered-row window s (entry s) (legal s h .sums) (λ q. window-open s q .1)) in
-          ap (λ (t : List ℕ). rowAt t s) table-is ∙ e ∙ r ∙ ap (λ (q : Row). revived (has (nums window) s) q) (sym (ent-is s h))
+          ap (λ (t : List ℕ). rowAt t s) table-is ∙ e ∙ r ∙ ap (λ (q : Row). revived (has (nums window) s) q) (sym (entry-is s h))
       go (no h) =
-          let f : entAt l (metasOf l (k .ssd)) s ≡ Row.free = unfold entAt in (rw (le-ltb s (l .slots) (omega arith))) in
+          let f : entryRow l (metasOf l (k .ssd)) s ≡ Row.free = unfold entryRow in (rw (le-ltb s (l .slots) (omega arith))) in
           rowAt-out (reopenedCore l k .table) s (omega (arith, table-size))
           ∙ sym (ap (λ (q : Row). revived (has (nums window) s) q) f ∙ revived-free (has (nums window) s))
 
@@ -251,13 +251,13 @@ module _ (l : Label) (k : Core) (p : Plain) (K : ImagesKept l (k .ssd) (k .hdd))
         slots = refl;
         blocks = refl;
         row = row-is;
-        ent = λ s. refl;
+        entry = λ s. refl;
         hdd = λ b. refl;
-        dat = λ s. refl;
-        win = refl;
-        swin = refl;
+        slotPage = λ s. refl;
+        window = refl;
+        storedWindow = refl;
         newest = refl;
         stamp = refl;
-        unsettled = refl;
-        mending = ap not (sym (empty-nums (newestOf (metasOf l (k .ssd)) .window)));
+        unconfirmed = refl;
+        recovering = ap not (sym (empty-nums (newestOf (metasOf l (k .ssd)) .window)));
       }

@@ -24,7 +24,7 @@ use Rattle.layout.proofs.LabelLaws as label
 use Rattle.layout.proofs.MetaLaws as meta
 use Rattle.record.specs.declared.Phase.{Phase}
 use Rattle.record.specs.declared.Phase.the-variants.{Formatting, Ready}
-use Rattle.protocol.specs.Paper.{refused, done}
+use Rattle.protocol.specs.Reply.{refused, done}
 use Rattle.record.specs.Record.{windowIn, recordOf}
 use Rattle.protocol.specs.Rows.{eachRow}
 use Rattle.protocol.specs.Box.{Box, ssdImage, Store, Effect, left, boxAfter}
@@ -36,7 +36,7 @@ use Rattle.protocol.specs.Calls.{decided, effectOf, resultOf}
 use Rattle.protocol.specs.Events.{steps, formatted}
 use Rattle.protocol.specs.Beside.{WholeFormat}
 use Rattle.record.proofs.WindowLaws.{length-array, zero-past}
-use Rattle.protocol.proofs.Tables.{each-of}
+use Rattle.protocol.proofs.refine.Tables.{each-of}
 use Rattle.protocol.proofs.Judged.{passed, accepted}
 
 -- a table of free rows

@@ -22,9 +22,9 @@ use Rattle.protocol.specs.ReferenceDisk.{Disk}
 use Rattle.protocol.specs.Events.{World}
 use Rattle.protocol.proofs.model.Model as model
 use Rattle.protocol.proofs.model.Model.{Row, Model, Plain, Mending}
-use Rattle.protocol.proofs.Windows.{nums}
-use Rattle.protocol.proofs.Flags.{rowOf}
-use Rattle.protocol.proofs.Tables.{rowAt, Rows}
+use Rattle.protocol.proofs.refine.Windows.{nums}
+use Rattle.protocol.proofs.refine.Flags.{rowOf}
+use Rattle.protocol.proofs.refine.Tables.{rowAt, Rows}
 use Rattle.protocol.proofs.Sound.{Sound}
 
 -- everything of a reachable box but its label
@@ -50,8 +50,8 @@ boxOfCore l k = record {
 }
 
 -- the stored entry of slot s
-unfoldable pub entAt : Label → List (List ℕ) → ℕ → Row
-entAt l pages s = cond (ltb s (l .slots))
+unfoldable pub entryRow : Label → List (List ℕ) → ℕ → Row
+entryRow l pages s = cond (ltb s (l .slots))
     (rowOf (entryIn pages (record { 0 = s }) .block .0) (entryIn pages (record { 0 = s }) .flags)) Row.free
 
 unfoldable pub abs : Label → Core → Model
@@ -59,15 +59,15 @@ abs l k = record {
   slots = l .slots;
   blocks = l .blocks;
   row = rowAt (k .table);
-  ent = entAt l (metasOf l (k .ssd));
+  entry = entryRow l (metasOf l (k .ssd));
   hdd = λ b. pageAt (k .hdd) b;
-  dat = λ s. pageAt (k .ssd) (1 + metaPages l + s);
-  win = nums (k .window);
-  swin = nums (newestOf (metasOf l (k .ssd)) .window);
+  slotPage = λ s. pageAt (k .ssd) (1 + metaPages l + s);
+  window = nums (k .window);
+  storedWindow = nums (newestOf (metasOf l (k .ssd)) .window);
   newest = k .newest;
   stamp = newestOf (metasOf l (k .ssd)) .stamp;
-  unsettled = k .unconfirmed;
-  mending = k .recovering;
+  unconfirmed = k .unconfirmed;
+  recovering = k .recovering;
 }
 
 -- what the metadata pages keep besides what the model says
@@ -93,7 +93,7 @@ pub record Shape (l : Label) (k : Core) : Type 0 where
 -- table and window of a ready box are sound
 pub ready-sound : (l : Label) (k : Core) → Shape l k → (p : Plain) → model.Ready (abs l k) p → Sound l (k .table) (k .window)
 unfolding abs
-ready-sound l k S p R = record { size = S .table-size; legal = S .rows; rule = R .win-rule; open-is = R .open-row }
+ready-sound l k S p R = record { size = S .table-size; legal = S .rows; rule = R .window-rule; open-is = R .open-row }
 
 -- the reference disk, as far as the blocks go
 pub record Agrees (l : Label) (d : Disk) (p : Plain) : Type 0 where
@@ -103,7 +103,7 @@ pub record Agrees (l : Label) (d : Disk) (p : Plain) : Type 0 where
 -- a reachable box is ready or mending
 pub data Phased (x : Model) (p : Plain) : Type 0 where
   is-ready : model.Ready x p → Phased x p
-  is-mending : x .mending ≡ true → Mending x p → Phased x p
+  is-mending : x .recovering ≡ true → Mending x p → Phased x p
 
 pub record Inv (l : Label) (w : World) : Type 0 where
   pub core : Core

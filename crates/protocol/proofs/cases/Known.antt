@@ -15,7 +15,7 @@ use Rattle.pages.proofs.PageLaws.{length-put}
 use Rattle.layout.specs.declared.Block.{Block}
 use Rattle.layout.specs.declared.Label.{Label}
 use Rattle.layout.specs.Places.{labelPlace, metaPages, ssdLength, hddLength, tableLength, withinLimits}
-use Rattle.protocol.specs.Paper.{refused}
+use Rattle.protocol.specs.Reply.{refused}
 use Rattle.protocol.specs.Box.{Images, Box, Image, ssdImage, hddImage, Store, applied, Effect}
 use Rattle.protocol.specs.Condition.{conditionOf, slotFrom}
 use Rattle.protocol.specs.Plan.{Call, reopen, view, lowestFrom, plan}
@@ -27,11 +27,11 @@ use Rattle.protocol.specs.Rows.{eachRow, openRows}
 use Rattle.protocol.specs.Judge.{Reason, noLabel, wrongLength, numberOf, isLabel, labelFor, lengthsTest, lengthTest, pageLengthTest, test, chain, firstOf, judged, labelTest, rowTest, rowsTest}
 use Rattle.record.specs.Rule.{recordTest}
 use Rattle.protocol.specs.Calls.{decided, effectOf, viewed, viewOf}
-use Rattle.protocol.specs.Events.{World, Junk, Arrival, old, new, Event, call, reopens, cut, lent, readOf, handed, survived, made}
+use Rattle.protocol.specs.Events.{World, Memory, Arrival, old, new, Event, call, reopens, cut, lent, readOf, withMemory, survived, made}
 use Rattle.layout.proofs.Booleans.{Told, told, told-true, told-false, and-parts}
 use Rattle.protocol.proofs.Reasons.{number-is}
-use Rattle.protocol.proofs.Report.{Line, lineOf, readsOf, Report, reported, report, diskFrom, labelPage, metaPage, pages, unformatted}
-use Rattle.protocol.proofs.Quick.{left-by, reopenedIf, reopensFrom, struckIf, struckFrom, Moved, movedBy, Shown, shownBy, quick, quick-same}
+use Rattle.protocol.proofs.cases.Report.{Line, lineOf, readsOf, Report, reported, report, diskFrom, labelPage, metaPage, pages, unformatted}
+use Rattle.protocol.proofs.cases.Quick.{left-by, reopenedIf, reopensFrom, struckIf, crashedFrom, Moved, movedBy, Shown, shownBy, quick, quick-same}
 use Rattle.pages.specs.Parts.{pagePart}
 use Rattle.pages.specs.Words.{leBytes, leNumber}
 use Rattle.layout.specs.LabelPage.{after, allZero, decodeLabel, digits, encodeLabel, labelText, number, numberFrom}
@@ -161,13 +161,13 @@ pub record Known : Type 0 where
 abbrev movedOf : Known → Moved
 movedOf k = record { line = k .line; box = k .box }
 
-unfoldable pub reopensKnown : Label → Junk → Box → Known
+unfoldable pub reopensKnown : Label → Memory → Box → Known
 reopensKnown l j x =
-    let e = effectKnown l reopen (handed j x) in
+    let e = effectKnown l reopen (withMemory j x) in
     record {
       line = lineOf l e;
-      box = reopenedBy (refused (e .said)) x e (handed j x);
-      fine = sameLabel (labelFor (kind reopen) (handed j x)) l && storeWithin l (e .store);
+      box = reopenedBy (refused (e .said)) x e (withMemory j x);
+      fine = sameLabel (labelFor (kind reopen) (withMemory j x)) l && storeWithin l (e .store);
     }
 
 pub record Struck : Type 0 where
@@ -260,15 +260,15 @@ reopenedIf-size : (l : Label) (b : Bool) (x y : Box) (e : Effect) → Sized l (x
 reopenedIf-size l true x y e z u = z
 reopenedIf-size l false x y e z u = record { ssd-size = u .ssd-size; hdd-size = u .hdd-size }
 
-reopens-known : (l : Label) (j : Junk) (x : Box) → Sized l (x .images) → reopensKnown l j x .fine ≡ true
+reopens-known : (l : Label) (j : Memory) (x : Box) → Sized l (x .images) → reopensKnown l j x .fine ≡ true
     → (reopensFrom l j x ≡ movedOf (reopensKnown l j x)) × Sized l (reopensKnown l j x .box .images)
 unfolding reopensKnown reopensFrom
 reopens-known l j x z h =
-    let e : Effect = effectKnown l reopen (handed j x) in
-    let hs = and-parts (sameLabel (labelFor (kind reopen) (handed j x)) l) (storeWithin l (e .store)) h in (
-      ap {B = Moved} (λ (f : Effect). record { line = lineOf l f; box = reopenedIf (refused (f .said)) x f (handed j x) })
-          (effect-known l reopen (handed j x) z (hs .0)),
-      reopenedIf-size l (refused (e .said)) x (handed j x) e z (applied-size l (e .store) (x .images) z (hs .1)),
+    let e : Effect = effectKnown l reopen (withMemory j x) in
+    let hs = and-parts (sameLabel (labelFor (kind reopen) (withMemory j x)) l) (storeWithin l (e .store)) h in (
+      ap {B = Moved} (λ (f : Effect). record { line = lineOf l f; box = reopenedIf (refused (f .said)) x f (withMemory j x) })
+          (effect-known l reopen (withMemory j x) z (hs .0)),
+      reopenedIf-size l (refused (e .said)) x (withMemory j x) e z (applied-size l (e .store) (x .images) z (hs .1)),
     )
 
 struckIf-size : (l : Label) (b : Bool) (im : Images) (e : Effect) (x : Box) → Sized l im → Sized l (struckIf b im e x .images)
@@ -280,10 +280,10 @@ survived-size : (l : Label) (a : Arrival) (store : Option Store) (im : Images) �
 survived-size l old store im z h = z
 survived-size l new store im z h = applied-size l store im z h
 
-struck-known : (l : Label) (c : Call) (a : Arrival) (x : Box) → Sized l (x .images) → struckKnown l c a x .fine ≡ true
-    → (struckFrom c a x ≡ struckKnown l c a x .box) × Sized l (struckKnown l c a x .box .images)
-unfolding struckKnown struckFrom
-struck-known l c a x z h =
+crashed-known : (l : Label) (c : Call) (a : Arrival) (x : Box) → Sized l (x .images) → struckKnown l c a x .fine ≡ true
+    → (crashedFrom c a x ≡ struckKnown l c a x .box) × Sized l (struckKnown l c a x .box .images)
+unfolding struckKnown crashedFrom
+crashed-known l c a x z h =
     let e : Effect = effectKnown l c x in
     let hs = and-parts (sameLabel (labelFor (kind c) x) l) (storeWithin l (e .store)) h in (
       ap (λ (f : Effect). struckIf (made a (f .store)) (survived a (f .store) (x .images)) f x) (effect-known l c x z (hs .0)),
@@ -303,7 +303,7 @@ moved-known l (call c) x z h =
 moved-known l (reopens j) x z h = reopens-known l j x z h
 moved-known l (cut c a j) x z h =
     let hs = and-parts (struckKnown l c a x .fine) (reopensKnown l j (struckKnown l c a x .box) .fine) h in
-    let s : (struckFrom c a x ≡ struckKnown l c a x .box) × Sized l (struckKnown l c a x .box .images) = struck-known l c a x z (hs .0) in
+    let s : (crashedFrom c a x ≡ struckKnown l c a x .box) × Sized l (struckKnown l c a x .box .images) = crashed-known l c a x z (hs .0) in
     let y : Box = struckKnown l c a x .box in
     let r : (reopensFrom l j y ≡ movedOf (reopensKnown l j y)) × Sized l (reopensKnown l j y .box .images) =
     reopens-known l j (struckKnown l c a x .box) (s .1) (hs .1) in

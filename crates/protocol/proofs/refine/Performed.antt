@@ -16,7 +16,7 @@ use Rattle.layout.specs.Places.{metaPages, tableLength}
 use Rattle.layout.specs.MetaPage.{encodeMeta, rowsOn}
 use Rattle.layout.specs.PageRule.{distinct}
 use Rattle.record.specs.declared.Phase.{Phase}
-use Rattle.protocol.specs.Paper.{Paper}
+use Rattle.protocol.specs.Reply.{Reply}
 use Rattle.protocol.specs.Rows.{rowFlags, setFlags, setRow, valid, dirty, writing, withUsed, withoutWriting, withoutDirty}
 use Rattle.record.specs.Record.{windowIn, recordOf, largestStamp}
 use Rattle.record.specs.Window.{without}
@@ -30,13 +30,13 @@ use Rattle.protocol.proofs.model.Base as base
 use Rattle.layout.proofs.Booleans.{clash}
 use Rattle.protocol.proofs.model.Base.{upd, upd-same, upd-other, Window, metaNo}
 use Rattle.protocol.proofs.model.Model as model
-use Rattle.protocol.proofs.model.Model.{Row, opn, blk, shut, cleaned, stored, landed, copied, mended, same-path}
-use Rattle.protocol.proofs.Windows.{keep-all, nums, nums-off, nums-without, empty-nums}
-use Rattle.protocol.proofs.Flags.{rowOf, Changed, changed-row, changed-shut, changed-clean, changed-used}
-use Rattle.protocol.proofs.Tables.{rowAt, Rows, flags-at, flags-rows, at-open, at-block}
-use Rattle.protocol.proofs.Sweeps.{Alike, alike-flags, alike-same}
-use Rattle.protocol.proofs.Stores.{put-kept, put-ent, put-newest, put-dat, data-kept, data-metas, data-dat, disk-kept, disk-page}
-use Rattle.protocol.proofs.Abstract.{Core, phaseFor, boxOfCore, entAt, abs, Shape}
+use Rattle.protocol.proofs.model.Model.{Row, openRow, blockOf, shut, cleaned, stored, landed, copied, mended, same-path}
+use Rattle.protocol.proofs.refine.Windows.{keep-all, nums, nums-off, nums-without, empty-nums}
+use Rattle.protocol.proofs.refine.Flags.{rowOf, Changed, changed-row, changed-shut, changed-clean, changed-used}
+use Rattle.protocol.proofs.refine.Tables.{rowAt, Rows, flags-at, flags-rows, at-open, at-block}
+use Rattle.protocol.proofs.refine.Sweeps.{Alike, alike-flags, alike-same}
+use Rattle.protocol.proofs.refine.Stores.{put-kept, put-entry, put-newest, put-page, data-kept, data-metas, data-page, disk-kept, disk-page}
+use Rattle.protocol.proofs.refine.Abstract.{Core, phaseFor, boxOfCore, entryRow, abs, Shape}
 
 -- the box that a move leaves
 abbrev pub after : Label → Core → Move → Box
@@ -63,15 +63,15 @@ module _ (l : Label) (k : Core) (S : Shape l k) where
         slots = refl;
         blocks = refl;
         row = A .row;
-        ent = λ s. refl;
+        entry = λ s. refl;
         hdd = λ b. refl;
-        dat = λ s. refl;
-        win = refl;
-        swin = refl;
+        slotPage = λ s. refl;
+        window = refl;
+        storedWindow = refl;
         newest = refl;
         stamp = refl;
-        unsettled = refl;
-        mending = refl;
+        unconfirmed = refl;
+        recovering = refl;
       }
 
   pub tabled-shape : (v : List ℕ) (hand : Slot) → Alike l (k .table) v → hand .0 < l .slots → Shape l (tabled k v hand)
@@ -132,13 +132,13 @@ module _
       rows = R;
     }
 
-    ents : (s : ℕ) → entAt l (metasOf l (putPage (k .ssd) (1 + p) (encodeMeta (k .newest + 1) w (rowsOn p v)))) s ≡ cond (eqb (s / 240) p)
-        (rowAt v s) (entAt l (metasOf l (k .ssd)) s)
-    ents = put-ent l (k .ssd) (k .hdd) (S .images) v size R (k .newest + 1) fits newer w W p p-page
+    ents : (s : ℕ) → entryRow l (metasOf l (putPage (k .ssd) (1 + p) (encodeMeta (k .newest + 1) w (rowsOn p v)))) s ≡ cond (eqb (s / 240) p)
+        (rowAt v s) (entryRow l (metasOf l (k .ssd)) s)
+    ents = put-entry l (k .ssd) (k .hdd) (S .images) v size R (k .newest + 1) fits newer w W p p-page
 
     dats : (s : ℕ) → pageAt (putPage (k .ssd) (1 + p) (encodeMeta (k .newest + 1) w (rowsOn p v))) (1 + metaPages l + s) ≡ pageAt (k .ssd)
         (1 + metaPages l + s)
-    dats = put-dat l (k .ssd) (k .hdd) (S .images) v size R (k .newest + 1) fits newer w W p p-page
+    dats = put-page l (k .ssd) (k .hdd) (S .images) v size R (k .newest + 1) fits newer w W p p-page
 
     news : newestOf (metasOf l (putPage (k .ssd) (1 + p) (encodeMeta (k .newest + 1) w (rowsOn p v)))) ≡
         record { stamp = k .newest + 1; window = w }
@@ -151,15 +151,15 @@ module _
           slots = refl;
           blocks = refl;
           row = λ s. refl;
-          ent = ents;
+          entry = ents;
           hdd = λ b. refl;
-          dat = dats;
-          win = refl;
-          swin = ap (λ (n : Newest). nums (n .window)) news;
+          slotPage = dats;
+          window = refl;
+          storedWindow = ap (λ (n : Newest). nums (n .window)) news;
           newest = add-one (k .newest);
           stamp = ap (λ (n : Newest). n .stamp) news ∙ add-one (k .newest);
-          unsettled = refl;
-          mending = e;
+          unconfirmed = refl;
+          recovering = e;
         }
 
     pub mended-abs : v ≡ k .table → w ≡ offPage p (k .window) → r ≡ not (isEmpty (offPage p (k .window)))
@@ -170,15 +170,15 @@ module _
           slots = refl;
           blocks = refl;
           row = λ s. ap (λ (t : List ℕ). rowAt t s) ev;
-          ent = λ s. ents s ∙ ap (λ (t : List ℕ). cond (eqb (s / 240) p) (rowAt t s) (entAt l (metasOf l (k .ssd)) s)) ev;
+          entry = λ s. ents s ∙ ap (λ (t : List ℕ). cond (eqb (s / 240) p) (rowAt t s) (entryRow l (metasOf l (k .ssd)) s)) ev;
           hdd = λ b. refl;
-          dat = dats;
-          win = ap nums ew ∙ nums-off p (k .window);
-          swin = ap (λ (n : Newest). nums (n .window)) news ∙ ap nums ew ∙ nums-off p (k .window);
+          slotPage = dats;
+          window = ap nums ew ∙ nums-off p (k .window);
+          storedWindow = ap (λ (n : Newest). nums (n .window)) news ∙ ap nums ew ∙ nums-off p (k .window);
           newest = add-one (k .newest);
           stamp = ap (λ (n : Newest). n .stamp) news ∙ add-one (k .newest);
-          unsettled = refl;
-          mending = e ∙ ap not (sym (empty-nums (offPage p (k .window))) ∙ ap model.empty (nums-off p (k .window)));
+          unconfirmed = refl;
+          recovering = e ∙ ap not (sym (empty-nums (offPage p (k .window))) ∙ ap model.empty (nums-off p (k .window)));
         }
 
 -- what a metadata store leaves, with the window of the record and that of the page
@@ -301,7 +301,7 @@ module _ (l : Label) (k : Core) (S : Shape l k) (s : ℕ) (s-slot : s < l .slots
 
   landed-dats : (u : ℕ) → pageAt (putPage (k .ssd) (1 + metaPages l + s) d) (1 + metaPages l + u) ≡ upd
       (λ v. pageAt (k .ssd) (1 + metaPages l + v)) s d u
-  landed-dats = data-dat l (k .ssd) (k .hdd) (S .images) s s-slot d d-size
+  landed-dats = data-page l (k .ssd) (k .hdd) (S .images) s s-slot d d-size
 
   closed-row : (u : ℕ) → rowAt (set (k .table) (2 * s + 1) (withoutWriting (getD (k .table) (2 * s + 1) 0))) u ≡ upd (rowAt (k .table)) s
       (shut (rowAt (k .table) s)) u
@@ -310,7 +310,7 @@ module _ (l : Label) (k : Core) (S : Shape l k) (s : ℕ) (s-slot : s < l .slots
       ∙ ap (λ (r : Row). upd (rowAt (k .table)) s r u) (changed-shut (S .rows s s-slot .flags) (getD (k .table) (2 * s) 0) .row)
 
   -- a row that is not open is as it was
-  shut-same : (r : Row) → opn r ≡ false → shut r ≡ r
+  shut-same : (r : Row) → openRow r ≡ false → shut r ≡ r
   shut-same Row.free e = refl
   shut-same (Row.clean b) e = refl
   shut-same (Row.dirty b) e = refl
@@ -333,30 +333,30 @@ module _ (l : Label) (k : Core) (S : Shape l k) (s : ℕ) (s-slot : s < l .slots
         slots = refl;
         blocks = refl;
         row = closed-row;
-        ent = λ u. ap (λ (m : List (List ℕ)). entAt l m u) landed-metas;
+        entry = λ u. ap (λ (m : List (List ℕ)). entryRow l m u) landed-metas;
         hdd = λ b. refl;
-        dat = landed-dats;
-        win = nums-without (record { 0 = s }) (k .window) di;
-        swin = ap (λ (m : List (List ℕ)). nums (newestOf m .window)) landed-metas;
+        slotPage = landed-dats;
+        window = nums-without (record { 0 = s }) (k .window) di;
+        storedWindow = ap (λ (m : List (List ℕ)). nums (newestOf m .window)) landed-metas;
         newest = refl;
         stamp = ap (λ (m : List (List ℕ)). newestOf m .stamp) landed-metas;
-        unsettled = sym (ap (λ (b : Bool). k .unconfirmed || b) (at-open l (k .table) (S .rows) s s-slot ∙ e) ∙ or-true (k .unconfirmed));
-        mending = refl;
+        unconfirmed = sym (ap (λ (b : Bool). k .unconfirmed || b) (at-open l (k .table) (S .rows) s s-slot ∙ e) ∙ or-true (k .unconfirmed));
+        recovering = refl;
       }
   lands-abs false e di h =
       same-path _ _ record {
         slots = refl;
         blocks = refl;
         row = paged-row e;
-        ent = λ u. ap (λ (m : List (List ℕ)). entAt l m u) landed-metas;
+        entry = λ u. ap (λ (m : List (List ℕ)). entryRow l m u) landed-metas;
         hdd = λ b. refl;
-        dat = landed-dats;
-        win = sym (keep-all (nums (k .window)) s h);
-        swin = ap (λ (m : List (List ℕ)). nums (newestOf m .window)) landed-metas;
+        slotPage = landed-dats;
+        window = sym (keep-all (nums (k .window)) s h);
+        storedWindow = ap (λ (m : List (List ℕ)). nums (newestOf m .window)) landed-metas;
         newest = refl;
         stamp = ap (λ (m : List (List ℕ)). newestOf m .stamp) landed-metas;
-        unsettled = sym (ap (λ (b : Bool). k .unconfirmed || b) (at-open l (k .table) (S .rows) s s-slot ∙ e) ∙ or-false (k .unconfirmed));
-        mending = refl;
+        unconfirmed = sym (ap (λ (b : Bool). k .unconfirmed || b) (at-open l (k .table) (S .rows) s s-slot ∙ e) ∙ or-false (k .unconfirmed));
+        recovering = refl;
       }
 
 -- a copy to the disk
@@ -372,7 +372,7 @@ copiedCore l k s v hand = record {
   window = k .window;
 }
 
-pub copies-box : (l : Label) (k : Core) (s : ℕ) (said : Paper) (v : List ℕ) (hand : Slot)
+pub copies-box : (l : Label) (k : Core) (s : ℕ) (said : Reply) (v : List ℕ) (hand : Slot)
     → after l k (copies (record { 0 = s }) said v hand) ≡ boxOfCore l (copiedCore l k s v hand)
 unfolding perform
 copies-box l k s said v hand = refl
@@ -408,8 +408,8 @@ module _
       rows = flags-rows l v (A .size) s _ s-slot (A .legal) (changed-row (A .legal s s-slot) clean-row);
     }
 
-    block-is : blk (rowAt (k .table) s) ≡ getD v (2 * s) 0
-    block-is = ap blk (sym (A .row s)) ∙ at-block l v (A .legal) s s-slot is-valid
+    block-is : blockOf (rowAt (k .table) s) ≡ getD v (2 * s) 0
+    block-is = ap blockOf (sym (A .row s)) ∙ at-block l v (A .legal) s s-slot is-valid
 
     rows-are : (u : ℕ) → rowAt (set v (2 * s + 1) (withoutDirty (getD v (2 * s + 1) 0))) u ≡ upd (rowAt (k .table)) s
         (cleaned (rowAt (k .table) s)) u
@@ -428,13 +428,13 @@ module _
           slots = refl;
           blocks = refl;
           row = rows-are;
-          ent = λ u. refl;
+          entry = λ u. refl;
           hdd = λ b. rw block-is (disk-page l (k .ssd) (k .hdd) (S .images) (getD v (2 * s) 0) block-low _ page-sized b);
-          dat = λ u. refl;
-          win = refl;
-          swin = refl;
+          slotPage = λ u. refl;
+          window = refl;
+          storedWindow = refl;
           newest = refl;
           stamp = refl;
-          unsettled = refl;
-          mending = refl;
+          unconfirmed = refl;
+          recovering = refl;
         }

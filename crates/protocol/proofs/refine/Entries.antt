@@ -8,7 +8,7 @@ use native.Mathlib.Omega.{arith}
 use lib.ListN.{length, getD}
 use lib.Dec.{eqb}
 use borrow.Author.Tests.{lt-ltb, ne-eqb}
-use Rattle.protocol.proofs.Tables.{at-suc}
+use Rattle.protocol.proofs.refine.Tables.{at-suc}
 use Rattle.layout.specs.declared.Slot.{Slot}
 use Rattle.layout.proofs.PlaceLaws.{meta-of-low}
 use Rattle.layout.specs.declared.Label.{Label}
@@ -21,10 +21,10 @@ use Rattle.protocol.specs.Recovery.{entryIn, eachLegal, stampIn, stampsD
 use Rattle.layout.proofs.Booleans.{Told, told, told-true, told-false, clash}
 use Rattle.protocol.proofs.model.Base.{has, eqb-same}
 use Rattle.protocol.proofs.model.Model as model
-use Rattle.protocol.proofs.model.Model.{dty, opn, blk, revived}
-use Rattle.protocol.proofs.Windows.{nums, has-nums}
-use Rattle.protocol.proofs.Flags.{rowOf, f0, f1, f3, LegalRow}
-use Rattle.protocol.proofs.Abstract.{entAt, Pages}
+use Rattle.protocol.proofs.model.Model.{dirtyRow, openRow, blockOf, revived}
+use Rattle.protocol.proofs.refine.Windows.{nums, has-nums}
+use Rattle.protocol.proofs.refine.Flags.{rowOf, f0, f1, f3, LegalRow}
+use Rattle.protocol.proofs.refine.Abstract.{entryRow, Pages}
 
 -- rows made of entries
 pub length-rows : (n : ℕ) (f : ℕ → Entry) → length (rowsFrom n f) ≡ 2 * n
@@ -83,9 +83,9 @@ legal-entry l pages P s h =
 -- what flags say of the model's entry
 pub record SameEntry (e : Entry) : Type 0 where
   pub same-valid : model.valid (rowOf (e .block .0) (e .flags)) ≡ valid (e .flags)
-  pub same-dirty : dty (rowOf (e .block .0) (e .flags)) ≡ dirty (e .flags)
-  pub same-open : opn (rowOf (e .block .0) (e .flags)) ≡ writing (e .flags)
-  pub same-block : valid (e .flags) ≡ true → blk (rowOf (e .block .0) (e .flags)) ≡ e .block .0
+  pub same-dirty : dirtyRow (rowOf (e .block .0) (e .flags)) ≡ dirty (e .flags)
+  pub same-open : openRow (rowOf (e .block .0) (e .flags)) ≡ writing (e .flags)
+  pub same-block : valid (e .flags) ≡ true → blockOf (rowOf (e .block .0) (e .flags)) ≡ e .block .0
 
 same-of : (b : ℕ) {f : ℕ} → Sums f → SameEntry (record { block = record { 0 = b }; flags = f })
 unfolding rowOf
@@ -99,10 +99,10 @@ pub same-entry : (e : Entry) → Sums (e .flags) → SameEntry e
 same-entry e k = same-of (e .block .0) k
 
 -- the entry of a slot
-pub ent-in : (l : Label) (pages : List (List ℕ)) (s : ℕ) → s < l .slots
-    → entAt l pages s ≡ rowOf (entryIn pages (record { 0 = s }) .block .0) (entryIn pages (record { 0 = s }) .flags)
-unfolding entAt
-ent-in l pages s h = rw (lt-ltb s (l .slots) h)
+pub entry-in : (l : Label) (pages : List (List ℕ)) (s : ℕ) → s < l .slots
+    → entryRow l pages s ≡ rowOf (entryIn pages (record { 0 = s }) .block .0) (entryIn pages (record { 0 = s }) .flags)
+unfolding entryRow
+entry-in l pages s h = rw (lt-ltb s (l .slots) h)
 
 -- a recovered entry is the model's
 recovered-of : (w : List Slot) (s b : ℕ) {f : ℕ} → Sums f → (listed (record { 0 = s }) w ≡ true → writing f ≡ true) → (h : Bool)

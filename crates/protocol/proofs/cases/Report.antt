@@ -14,11 +14,11 @@ use Rattle.record.specs.Record.{recordWith}
 use Rattle.record.specs.declared.Record.{Record}
 use Rattle.record.specs.declared.Phase.{Phase}
 use Rattle.record.specs.declared.Phase.the-variants.{Recovering}
-use Rattle.protocol.specs.Paper.{Paper}
+use Rattle.protocol.specs.Reply.{Reply}
 use Rattle.protocol.specs.Box.{Box, Image, ssdImage, hddImage, Store, Effect}
 use Rattle.protocol.specs.Plan.{reopen}
 use Rattle.protocol.specs.Calls.{effectOf}
-use Rattle.protocol.specs.Events.{World, Junk, Event, call, reopens, cut, readOf, handed, struck, apply, run, formatted, startOf}
+use Rattle.protocol.specs.Events.{World, Memory, Event, call, reopens, cut, readOf, withMemory, crashed, apply, run, formatted, startOf}
 
 -- the page that was stored, if any
 pub data Stored : Type 0 where
@@ -36,11 +36,11 @@ storedOf l (some s) = storedAt l (s .image) (s .place)
 
 -- what an event shows: its answer (of a cut, the reopening's), its store, and the phase after it
 pub record Line : Type 0 where
-  pub said : Paper
+  pub said : Reply
   pub store : Stored
   pub phase : Phase
 
-abbrev pub line : Paper → Stored → Phase → Line
+abbrev pub line : Reply → Stored → Phase → Line
 line said store phase = record { said = said; store = store; phase = phase }
 
 abbrev pub lineOf : Label → Effect → Line
@@ -48,8 +48,8 @@ lineOf l e = line (e .said) (storedOf l (e .store)) (e .state .phase)
 
 abbrev pub seen : Label → Event → World → Line
 seen l (call c) w = lineOf l (effectOf c (w .box))
-seen l (reopens j) w = lineOf l (effectOf reopen (handed j (w .box)))
-seen l (cut c a j) w = lineOf l (effectOf reopen (handed j (struck c a w .box)))
+seen l (reopens j) w = lineOf l (effectOf reopen (withMemory j (w .box)))
+seen l (cut c a j) w = lineOf l (effectOf reopen (withMemory j (crashed c a w .box)))
 
 unfoldable pub linesOf : Label → List Event → World → List Line
 linesOf l [] w = []
@@ -91,7 +91,7 @@ abbrev pub diskOf : Label → List ℕ
 diskOf l = diskFrom 64 (l .blocks)
 
 -- rubbish for a table of the right length and a record: every number of it is illegal
-abbrev pub rubbish : Label → Junk
+abbrev pub rubbish : Label → Memory
 rubbish l = record {
   table = replicate (tableLength l) 4294967295;
   state = recordWith (labelOf 0 16777217) (record { 0 = 57600 }) 4294967295 Recovering true

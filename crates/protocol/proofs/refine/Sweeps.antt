@@ -16,8 +16,8 @@ use Rattle.protocol.specs.Rows.{rowFlags, setFlags, writing, used, witho
 use Rattle.protocol.specs.Sweep.{nextSlot, Victim, sweepFrom}
 use Rattle.layout.proofs.Booleans.{Told, told, told-true, told-false}
 use Rattle.protocol.proofs.model.Base.{upd, upd-same, upd-other}
-use Rattle.protocol.proofs.Flags.{rowOf, Changed, changed-row, changed-unused}
-use Rattle.protocol.proofs.Tables.{rowAt, Rows, flags-at, flags-rows}
+use Rattle.protocol.proofs.refine.Flags.{rowOf, Changed, changed-row, changed-unused}
+use Rattle.protocol.proofs.refine.Tables.{rowAt, Rows, flags-at, flags-rows}
 
 -- two tables with the same rows, but for used flags
 pub record Alike (l : Label) (t v : List ℕ) : Type 0 where

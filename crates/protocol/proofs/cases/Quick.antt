@@ -5,12 +5,12 @@ use mathlib.Core.Bool.{Bool, true, false}
 use mathlib.Core.List.{List, [], _∷_}
 use Rattle.layout.specs.declared.Block.{Block}
 use Rattle.layout.specs.declared.Label.{Label}
-use Rattle.protocol.specs.Paper.{refused}
+use Rattle.protocol.specs.Reply.{refused}
 use Rattle.protocol.specs.Box.{Images, Box, Effect, boxAfter, left}
 use Rattle.protocol.specs.Plan.{Call, reopen}
 use Rattle.protocol.specs.Calls.{effectOf}
-use Rattle.protocol.specs.Events.{World, Junk, Arrival, Event, call, reopens, cut, called, handed, takenIf, reopened, survived, made, struck, apply, run}
-use Rattle.protocol.proofs.Report.{Line, lineOf, seen, linesOf, Report, reported, report}
+use Rattle.protocol.specs.Events.{World, Memory, Arrival, Event, call, reopens, cut, called, withMemory, takenIf, reopened, survived, made, crashed, apply, run}
+use Rattle.protocol.proofs.cases.Report.{Line, lineOf, seen, linesOf, Report, reported, report}
 
 -- an event's line, and the box after it
 pub record Moved : Type 0 where
@@ -25,10 +25,10 @@ abbrev pub reopenedIf : Bool → Box → Effect → Box → Box
 reopenedIf true x e y = x
 reopenedIf false x e y = left-by e y
 
-unfoldable pub reopensFrom : Label → Junk → Box → Moved
+unfoldable pub reopensFrom : Label → Memory → Box → Moved
 reopensFrom l j x =
-    let e = effectOf reopen (handed j x) in
-    record { line = lineOf l e; box = reopenedIf (refused (e .said)) x e (handed j x) }
+    let e = effectOf reopen (withMemory j x) in
+    record { line = lineOf l e; box = reopenedIf (refused (e .said)) x e (withMemory j x) }
 
 -- the box that a cut leaves, before the reopening
 abbrev pub struckIf : Bool → Images → Effect → Box → Box
@@ -38,8 +38,8 @@ struckIf false im e x = record { images = im; table = x .table; state = x .state
 abbrev boxIn : Images → Box → Box
 boxIn im x = record { images = im; table = x .table; state = x .state }
 
-unfoldable pub struckFrom : Call → Arrival → Box → Box
-struckFrom c a x =
+unfoldable pub crashedFrom : Call → Arrival → Box → Box
+crashedFrom c a x =
     let e = effectOf c x in
     struckIf (made a (e .store)) (survived a (e .store) (x .images)) e x
 
@@ -48,7 +48,7 @@ movedBy l (call c) x =
     let e = effectOf c x in
     record { line = lineOf l e; box = left-by e x }
 movedBy l (reopens j) x = reopensFrom l j x
-movedBy l (cut c a j) x = reopensFrom l j (struckFrom c a x)
+movedBy l (cut c a j) x = reopensFrom l j (crashedFrom c a x)
 
 pub record Shown : Type 0 where
   pub lines : List Line
@@ -71,39 +71,39 @@ taken-box : (b : Bool) (w v : World) (e : Effect) (y : Box) → v .box ≡ left-
 taken-box true w v e y h = refl
 taken-box false w v e y h = h
 
-reopened-box : (l : Label) (j : Junk) (w : World) → reopened j w .box ≡ reopensFrom l j (w .box) .box
+reopened-box : (l : Label) (j : Memory) (w : World) → reopened j w .box ≡ reopensFrom l j (w .box) .box
 unfolding reopened reopensFrom called
 reopened-box l j w =
     taken-box
-    (refused (effectOf reopen (handed j (w .box)) .said))
+    (refused (effectOf reopen (withMemory j (w .box)) .said))
     w
-    (called reopen (record { box = handed j (w .box); disk = w .disk }))
-    (effectOf reopen (handed j (w .box)))
-    (handed j (w .box))
+    (called reopen (record { box = withMemory j (w .box); disk = w .disk }))
+    (effectOf reopen (withMemory j (w .box)))
+    (withMemory j (w .box))
     refl
 
-struck-if : (b : Bool) (im : Images) (c : Call) (w : World)
+crashed-if : (b : Bool) (im : Images) (c : Call) (w : World)
     → boxIn im (takenIf b (called c w) w .box) ≡ struckIf b im (effectOf c (w .box)) (w .box)
 unfolding called
-struck-if true im c w = refl
-struck-if false im c w = refl
+crashed-if true im c w = refl
+crashed-if false im c w = refl
 
-struck-box : (c : Call) (a : Arrival) (w : World) → struck c a w .box ≡ struckFrom c a (w .box)
-unfolding struck struckFrom
-struck-box c a w =
-    struck-if (made a (effectOf c (w .box) .store)) (survived a (effectOf c (w .box) .store) (w .box .images)) c w
+crashed-box : (c : Call) (a : Arrival) (w : World) → crashed c a w .box ≡ crashedFrom c a (w .box)
+unfolding crashed crashedFrom
+crashed-box c a w =
+    crashed-if (made a (effectOf c (w .box) .store)) (survived a (effectOf c (w .box) .store) (w .box .images)) c w
 
 box-same : (l : Label) (e : Event) (w : World) → apply e w .box ≡ movedBy l e (w .box) .box
 unfolding movedBy called
 box-same l (call c) w = refl
 box-same l (reopens j) w = reopened-box l j w
-box-same l (cut c a j) w = reopened-box l j (struck c a w) ∙ ap (λ x. reopensFrom l j x .box) (struck-box c a w)
+box-same l (cut c a j) w = reopened-box l j (crashed c a w) ∙ ap (λ x. reopensFrom l j x .box) (crashed-box c a w)
 
 line-same : (l : Label) (e : Event) (w : World) → seen l e w ≡ movedBy l e (w .box) .line
 unfolding movedBy reopensFrom
 line-same l (call c) w = refl
 line-same l (reopens j) w = refl
-line-same l (cut c a j) w = ap (λ x. reopensFrom l j x .line) (struck-box c a w)
+line-same l (cut c a j) w = ap (λ x. reopensFrom l j x .line) (crashed-box c a w)
 
 run-same : (l : Label) (es : List Event) (w : World) → run es w .box ≡ shownBy l es (w .box) .box
 unfolding run shownBy

@@ -18,25 +18,25 @@ use Rattle.protocol.specs.Plan.{step, reopen, Move, mends, recovers, low
 use Rattle.protocol.specs.Perform.{confirmed, perform}
 use Rattle.protocol.specs.Judge.{Reason, isEmpty, isReady}
 use Rattle.protocol.specs.Calls.{decided}
-use Rattle.protocol.specs.ReferenceDisk.{Disk, settled, fed}
+use Rattle.protocol.specs.ReferenceDisk.{Disk, durable, fed}
 use Rattle.protocol.specs.Events.{World, readsIf, readOf, called}
 use Rattle.layout.proofs.Booleans.{clash}
 use Rattle.protocol.proofs.model.Base.{has, metaNo, eqb-same, length-keep-lt}
 use Rattle.protocol.proofs.model.Model as model
 use Rattle.protocol.proofs.model.Model.{Model, Plain, Stored, Mending, mended}
-use Rattle.protocol.proofs.model.Rows.{opn-valid}
+use Rattle.protocol.proofs.model.Rows.{open-valid}
 use Rattle.protocol.proofs.model.View as seen
 use Rattle.protocol.proofs.model.Reopened.{ready-stored, fixed}
 use Rattle.protocol.proofs.model.Mended.{reopened-mending, mended-mending}
 use Rattle.protocol.proofs.model.Finished.{over-ready, over-allowed}
-use Rattle.protocol.proofs.Windows.{nums, length-nums, has-nums, nums-off}
-use Rattle.protocol.proofs.Performed.{after, storedCore, stored-shape, mended-abs, mends-box}
+use Rattle.protocol.proofs.refine.Windows.{nums, length-nums, has-nums, nums-off}
+use Rattle.protocol.proofs.refine.Performed.{after, storedCore, stored-shape, mended-abs, mends-box}
 use Rattle.record.proofs.RecordLaws.{window-in}
-use Rattle.protocol.proofs.ReadyCalls.{calledAs, called-as, worldOf}
-use Rattle.protocol.proofs.Reopens.{reopenedCore, reopen-judged, reopen-box, reopen-shape, reopen-abs}
-use Rattle.protocol.proofs.Passes.{mending-left, step-judged, pending-rule, some-pending}
-use Rattle.protocol.proofs.Views.{read-view}
-use Rattle.protocol.proofs.Abstract.{Core, phaseFor, boxOfCore, abs, ImagesKept, Shape, Agrees, Phased, is-ready, is-mending, Inv}
+use Rattle.protocol.proofs.refine.ReadyCalls.{calledAs, called-as, worldOf}
+use Rattle.protocol.proofs.refine.Reopens.{reopenedCore, reopen-judged, reopen-box, reopen-shape, reopen-abs}
+use Rattle.protocol.proofs.refine.Passes.{mending-left, step-judged, pending-rule, some-pending}
+use Rattle.protocol.proofs.refine.Views.{read-view}
+use Rattle.protocol.proofs.refine.Abstract.{Core, phaseFor, boxOfCore, abs, ImagesKept, Shape, Agrees, Phased, is-ready, is-mending, Inv}
 
 -- the images of either phase
 pub phased-stored : (x : Model) (p : Plain) → Phased x p → Stored x p
@@ -66,7 +66,7 @@ module _ (l : Label) (k : Core) (S : Shape l k) (p : Plain) (d : Disk) (A : Agre
           (sym (ap (λ (r : Bool). isReady (phaseFor r)) e)) (settled-agrees (λ b h. read-view l k S (fixed (abs l k)) R b h))
         where
           settled-agrees : ((b : ℕ) → b < l .blocks → readOf (boxOfCore l k) (record { 0 = b }) ≡ seen.view (abs l k) b)
-              → Agrees l (settled (readOf (boxOfCore l k))) (fixed (abs l k))
+              → Agrees l (durable (readOf (boxOfCore l k))) (fixed (abs l k))
           settled-agrees h = unfold fixed in record { page = h; contents = λ b q. ap (λ (r : List ℕ). r ∷ []) (h b q) }
 
       go : (r : Bool) → k .recovering ≡ r → Inv l (record { box = boxOfCore l k; disk = finishedDisk d (boxOfCore l k) })
@@ -145,7 +145,7 @@ module _ (l : Label) (k : Core) (S : Shape l k) (p : Plain) (M : Mending (abs l 
   slot-low : pend .slot .0 < l .slots
   unfolding abs
   slot-low = M .images .in-range (pend .slot .0)
-      (opn-valid (abs l k .ent (pend .slot .0))
+      (open-valid (abs l k .entry (pend .slot .0))
       (M .images .stored-open (pend .slot .0) (ap (λ (w : List ℕ). has w (pend .slot .0)) (sym (M .window)) ∙ pend-has)))
 
   on-page : lowestPage (k .window) < metaPages l

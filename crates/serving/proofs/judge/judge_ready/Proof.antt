@@ -4,18 +4,18 @@ use borrow.Author.Tests.{not-true, not-false}
 use Rattle.serving.specs.Judging.{soundThen}
 use Rattle.serving.proofs.JudgingLaws.{sound-asks, stops, goes-on, found}
 use borrow.Author.Needs.{needs}
-use Rattle.serving.proofs.judge.ready.Statement.{statement}
-use Rattle.serving.proofs.judge.ready.Tie as tie
+use Rattle.serving.proofs.judge.judge_ready.Statement.{statement}
+use Rattle.serving.proofs.judge.judge_ready.Tie as tie
 
-sound-requires : tie.Need-sound-requires
-sound-requires c κs = search needs
+judge-box-requires : tie.Need-judge-box-requires
+judge-box-requires c κs = search needs
 
 returns : tie.Need-returns
 returns c =
     let e = c .before .before in
     let a = e .before .before .args in
-    rw (stops (sound-asks (a .ssd) (a .hdd) (a .page) (a .table .now) (a .state)) (λ q. c .if1 .taken (found (soundThen (a .ssd) (a .hdd) (a .page) (a .table .now) (a .state) 0) (a .table .now) (a .b) (e .sound .ensures) ∙ q)) _)
-    (e .sound .ensures)
+    rw (stops (sound-asks (a .ssd) (a .hdd) (a .page) (a .table .now) (a .state)) (λ q. c .if1 .taken (found (soundThen (a .ssd) (a .hdd) (a .page) (a .table .now) (a .state) 0) (a .table .now) (a .b) (e .judge-box .ensures) ∙ q)) _)
+    (e .judge-box .ensures)
 
 is-ready-requires : tie.Need-is-ready-requires
 is-ready-requires c κs = search needs
@@ -25,7 +25,7 @@ sound : (c : tie.Else1) → let a = c .before .before .before .before .args in
     soundThen (a .ssd) (a .hdd) (a .page) (a .table .now) (a .state) 0 ≡ 0
 sound c =
     let a = c .before .before .before .before .args in
-    sym (found (soundThen (a .ssd) (a .hdd) (a .page) (a .table .now) (a .state) 0) (a .table .now) (a .b) (c .before .before .sound .ensures))
+    sym (found (soundThen (a .ssd) (a .hdd) (a .page) (a .table .now) (a .state) 0) (a .table .now) (a .b) (c .before .before .judge-box .ensures))
     ∙ c .if1 .left
 
 on : (c : tie.Else1) (rest : ℕ) → let a = c .before .before .before .before .args in
@@ -45,9 +45,9 @@ returns-3 : tie.Need-returns-3
 returns-3 c =
     let r = c .before in
     let e = r .before .before .before in
-    rw (on (r .before) _, sym (r .is-ready .ensures) ∙ not-false _ (c .if2 .left)) (rw (sound (r .before)) at (e .sound .ensures))
+    rw (on (r .before) _, sym (r .is-ready .ensures) ∙ not-false _ (c .if2 .left)) (rw (sound (r .before)) at (e .judge-box .ensures))
 
-pub ready-spec : {M : Type 1} → statement M
-ready-spec =
+pub judge-ready-spec : {M : Type 1} → statement M
+judge-ready-spec =
     tie.close
-    (tie.spec sound-requires returns is-ready-requires refused-requires returns-2 returns-3)
+    (tie.spec judge-box-requires returns is-ready-requires refused-requires returns-2 returns-3)

@@ -13,7 +13,7 @@ use Rattle.protocol.specs.Rows.{valid, dirty, writing, used, withoutDirt
 use Rattle.protocol.specs.Judge.{rowTest}
 use Rattle.layout.proofs.Booleans.{clash, and-parts, or-cases}
 use Rattle.protocol.proofs.model.Model as model
-use Rattle.protocol.proofs.model.Model.{Row, dty, opn, blk, shut, cleaned}
+use Rattle.protocol.proofs.model.Model.{Row, dirtyRow, openRow, blockOf, shut, cleaned}
 
 -- what block and stored flags say
 unfoldable pub rowOf : ℕ → ℕ → Row
@@ -158,9 +158,9 @@ row-legal l b f r =
 -- the flags of a row, and the model's row
 pub record Same (b f : ℕ) : Type 0 where
   pub same-valid : model.valid (rowOf b (f % 8)) ≡ valid f
-  pub same-dirty : dty (rowOf b (f % 8)) ≡ dirty f
-  pub same-open : opn (rowOf b (f % 8)) ≡ writing f
-  pub same-block : valid f ≡ true → blk (rowOf b (f % 8)) ≡ b
+  pub same-dirty : dirtyRow (rowOf b (f % 8)) ≡ dirty f
+  pub same-open : openRow (rowOf b (f % 8)) ≡ writing f
+  pub same-block : valid f ≡ true → blockOf (rowOf b (f % 8)) ≡ b
 
 pub same : {f : ℕ} → Flags f → (b : ℕ) → Same b f
 unfolding rowOf

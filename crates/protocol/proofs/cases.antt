@@ -1,0 +1,7 @@
+-- The computed cases: their tables, and the evaluators that compute them.
+pub mod Report
+pub mod Quick
+pub mod QuickRows
+pub mod Known
+pub mod Cases
+pub mod Shown
