@@ -17,6 +17,9 @@
  *   whole or not at all, and before the page of any later call.
  * - Slots and blocks are two kinds of number, each counted from 0.
  *
+ * A row of the table is two words for a slot, the table's words 2 * slot and 2 * slot + 1: the block, and its flags, a sum of 1
+ * valid, 2 dirty, 4 writing (the slot is open) and 8 used (looked up since a sweep last passed). A free row is zero.
+ *
  * Lengths are counted in elements: bytes of an image or page, 32-bit words of table and record. Nothing else has to hold of
  * what is lent: any length, any bytes and any words are judged, and refused by number where they break a rule. What is lent
  * `const` is only read. A refusal changes nothing that was lent, out-parameters included.
@@ -58,7 +61,7 @@ enum {
     FERJULM_READY = 2
 };
 
-/* What a call returns: one of these, or a refusal's number from 1 to 13. */
+/* What a call returns: one of these, or a refusal's number from 1 to 13. Where no slot is set here, *slot stays as it was. */
 enum {
     FERJULM_DONE = 0,
     FERJULM_ANNOUNCED = 101, /* the slot is open; *slot is set */
@@ -130,8 +133,10 @@ uint32_t ferjulm_format(const uint8_t *ssd, size_t ssd_len, const uint8_t *hdd, 
                         size_t table_len, uint32_t *record, size_t record_len, uint32_t slots, uint32_t blocks,
                         uint32_t *slot);
 
-/* Makes one step of a format or of a recovery: one store. The record's phase tells whether it was the last. Refuses with 6
- * when ready. May refuse with 13 while recovering.
+/* Makes one step of a format or of a recovery: one store of a page of the SSD. While formatting it is page 0 at the first step
+ * (zero bytes), page d at the step that has d = record[FERJULM_STEPS] before it (a metadata page), and page 0 again at the last
+ * (the label). While recovering it is the metadata page of the least slot s in the window before the call, page 1 + s / 240. The
+ * record's phase tells whether it was the last step. Refuses with 6 when ready. May refuse with 13 while recovering.
  */
 uint32_t ferjulm_step(uint8_t *ssd, size_t ssd_len, const uint8_t *hdd, size_t hdd_len, const uint32_t *table,
                       size_t table_len, uint32_t *record, size_t record_len, uint32_t *slot);

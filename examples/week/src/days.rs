@@ -1,5 +1,6 @@
 //! The days of the week. Each checks itself.
 
+use crate::drawing;
 use crate::drives::{FieldBox, GEOMETRY};
 use crate::files::{land, offer, pages, read_file, slot_of, OTHERS, SCANS, SURVEY};
 use crate::plot::plot;
@@ -159,6 +160,10 @@ pub fn sunday(field: &mut FieldBox, file: &[u8], folder: &Path) -> Done {
         survey::count(&copy)
     );
     let path = folder.join("ferjulm.svx");
-    fs::write(&path, copy)?;
-    plot(&path, survey::misclosure(&survey::legs()))
+    fs::write(&path, &copy)?;
+    plot(&path, survey::misclosure(&survey::legs()))?;
+    let drawn = path.with_extension("svg");
+    fs::write(&drawn, drawing::svg(&survey::lines(&survey::read(&copy))))?;
+    println!("  plan and elevation: {}", drawn.display());
+    Ok(())
 }

@@ -3,6 +3,7 @@
 //! of the SSD. `run` beside this builds what is needed first.
 
 mod days;
+mod drawing;
 mod drives;
 mod files;
 mod plot;
@@ -12,7 +13,7 @@ use drives::{FieldBox, GEOMETRY};
 use ferjulm::{Phase, PAGE};
 use files::{pages, SURVEY};
 use std::fs::File;
-use std::path::Path;
+use std::path::{Path, PathBuf};
 use std::process::{Command, ExitCode};
 
 type Done = Result<(), Box<dyn std::error::Error>>;
@@ -72,9 +73,19 @@ fn week(folder: &Path, listing: &Path) -> Done {
     list(&field, listing)
 }
 
+/// The repository that cargo runs this in, and the program that lists an SSD.
+fn places() -> Result<(PathBuf, PathBuf), Box<dyn std::error::Error>> {
+    let package = std::env::var_os("CARGO_MANIFEST_DIR").ok_or("it is run by examples/week/run")?;
+    let root = Path::new(&package).join("../..").canonicalize()?;
+    let listing = root.join("target/bin/listing");
+    if !listing.is_file() {
+        return Err(format!("{} is missing: run `rt check listing`", listing.display()).into());
+    }
+    Ok((root, listing))
+}
+
 fn main() -> ExitCode {
-    let root = Path::new(env!("CARGO_MANIFEST_DIR")).join("../..");
-    match week(&root.join("target/week"), &root.join("target/bin/listing")) {
+    match places().and_then(|(root, listing)| week(&root.join("target/week"), &listing)) {
         Ok(()) => ExitCode::SUCCESS,
         Err(why) => {
             eprintln!("the week broke off: {why}");

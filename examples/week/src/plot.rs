@@ -16,7 +16,7 @@ pub fn plot(svx: &Path, off: f64) -> Result<(), Box<dyn Error>> {
         .arg(svx)
         .output()
     else {
-        println!("  (cavern is not installed: the legs are not plotted)");
+        println!("  (Survex's cavern is not installed: there is no .3d file)");
         return Ok(());
     };
     let text = String::from_utf8_lossy(&output.stdout).into_owned();
@@ -36,6 +36,10 @@ pub fn plot(svx: &Path, off: f64) -> Result<(), Box<dyn Error>> {
     assert!(
         moved <= off + 0.005,
         "no misclosure beyond that of the readings, to the centimetre"
+    );
+    println!(
+        "  for Survex's aven: {}",
+        svx.with_extension("3d").display()
     );
     Ok(())
 }

@@ -1,5 +1,6 @@
 //! The survey: two galleries joined by pitches, so that its loops close; as legs in a notebook and as a Survex file.
 
+use std::collections::HashMap;
 use std::fmt::Write;
 
 /// Stations of each gallery.
@@ -15,7 +16,7 @@ const MISREAD: usize = 4;
 /// A station: gallery (0 upper, 1 lower) and number.
 type Station = (usize, usize);
 /// East, north and up, in metres.
-type Place = [f64; 3];
+pub type Place = [f64; 3];
 
 /// A leg as it is typed: tape in centimetres, compass and clino in tenths of a degree.
 #[derive(Clone, Copy, PartialEq)]
@@ -118,18 +119,61 @@ pub fn file(title: &str, legs: &[Leg]) -> Vec<u8> {
 }
 
 /// The legs of a file: its lines with five readings, a comment apart.
-pub fn count(file: &[u8]) -> usize {
+pub fn read(file: &[u8]) -> Vec<Leg> {
     let text = String::from_utf8_lossy(file);
-    let readings = |line: &str| {
-        line.split(';')
-            .next()
-            .expect("a part")
-            .split_whitespace()
-            .count()
+    let lines = text.lines().filter(|line| !line.starts_with('*'));
+    lines.filter_map(read_leg).collect()
+}
+
+fn read_leg(line: &str) -> Option<Leg> {
+    let readings: Vec<&str> = line.split(';').next()?.split_whitespace().collect();
+    let &[from, to, tape, compass, clino] = &readings[..] else {
+        return None;
     };
-    text.lines()
-        .filter(|line| !line.starts_with('*') && readings(line) == 5)
-        .count()
+    let station = |name: &str| {
+        let gallery = ["u", "l"]
+            .iter()
+            .position(|&first| name.starts_with(first))?;
+        Some((gallery, name[1..].parse().ok()?))
+    };
+    let parts = |reading: &str, of: f64| Some((reading.parse::<f64>().ok()? * of).round() as i64);
+    Some(Leg {
+        from: station(from)?,
+        to: station(to)?,
+        tape: parts(tape, 100.0)?,
+        compass: parts(compass, 10.0)?,
+        clino: parts(clino, 10.0)?,
+    })
+}
+
+/// How many legs a file has.
+pub fn count(file: &[u8]) -> usize {
+    read(file).len()
+}
+
+/// What a leg is part of.
+#[derive(Clone, Copy, PartialEq)]
+pub enum Part {
+    Upper,
+    Lower,
+    Pitch,
+}
+
+/// The legs as lines from place to place, the first station at 0; each begins where an earlier one has ended.
+pub fn lines(legs: &[Leg]) -> Vec<(Part, Place, Place)> {
+    let mut at = HashMap::from([(legs[0].from, [0.0; 3])]);
+    let mut line = |leg: &Leg| {
+        let (from, span) = (at[&leg.from], leg.span());
+        let to = [0, 1, 2].map(|i| from[i] + span[i]);
+        at.entry(leg.to).or_insert(to);
+        let part = match (leg.from.0, leg.to.0) {
+            (0, 0) => Part::Upper,
+            (1, 1) => Part::Lower,
+            _ => Part::Pitch,
+        };
+        (part, from, to)
+    };
+    legs.iter().map(&mut line).collect()
 }
 
 /// How far off the worst loop closes, in metres: each is two stretches of gallery between two pitches.

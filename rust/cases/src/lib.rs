@@ -12,7 +12,7 @@ mod recovery;
 mod refusals;
 mod reopening;
 pub mod rig;
-mod say;
+pub mod say;
 mod stamps;
 pub mod stored;
 mod windows;
