@@ -25,7 +25,7 @@ windowOf r = record { slots = r .window; count = r .count }
 unfoldable pub windowIn : Record → List Slot
 windowIn r = take (r .count) (r .window)
 
--- a record, by its fields
+-- a new record
 abbrev pub recordWith : Label → Slot → ℕ → Phase → Bool → Window → Record
 recordWith l hand newest phase unconfirmed w = record {
   label = l;
@@ -41,19 +41,31 @@ recordWith l hand newest phase unconfirmed w = record {
 abbrev pub recordOf : Label → Slot → ℕ → Phase → Bool → List Slot → Record
 recordOf l hand newest phase unconfirmed window = recordWith l hand newest phase unconfirmed (windowFrom window)
 
+-- a record with other values of the fields that calls change
+abbrev remade : Record → Slot → ℕ → Phase → Bool → Window → Record
+remade r hand newest phase unconfirmed w = record {
+  label = r .label;
+  hand = hand;
+  newest = newest;
+  phase = phase;
+  unconfirmed = unconfirmed;
+  window = w .slots;
+  count = w .count;
+}
+
 -- the record with another hand; with another phase; with the stamp of a metadata store ("it clears unsettled"); with
 -- another window and unconfirmed
 abbrev pub withHand : Record → Slot → Record
-withHand r hand = recordWith (r .label) hand (r .newest) (r .phase) (r .unconfirmed) (windowOf r)
+withHand r hand = remade r hand (r .newest) (r .phase) (r .unconfirmed) (windowOf r)
 
 abbrev pub withPhase : Record → Phase → Record
-withPhase r phase = recordWith (r .label) (r .hand) (r .newest) phase (r .unconfirmed) (windowOf r)
+withPhase r phase = remade r (r .hand) (r .newest) phase (r .unconfirmed) (windowOf r)
 
 abbrev pub withStamp : Record → ℕ → Record
-withStamp r newest = recordWith (r .label) (r .hand) newest (r .phase) false (windowOf r)
+withStamp r newest = remade r (r .hand) newest (r .phase) false (windowOf r)
 
 abbrev pub putWindow : Record → Bool → Window → Record
-putWindow r unconfirmed w = recordWith (r .label) (r .hand) (r .newest) (r .phase) unconfirmed w
+putWindow r unconfirmed w = remade r (r .hand) (r .newest) (r .phase) unconfirmed w
 
 abbrev pub withWindow : Record → Bool → List Slot → Record
 withWindow r unconfirmed window = putWindow r unconfirmed (windowFrom window)
