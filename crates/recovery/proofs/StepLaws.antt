@@ -23,9 +23,8 @@ use Rattle.record.specs.Rule.{stepsTest}
 use Rattle.protocol.specs.Calls.{boxOf, stepOf}
 use Rattle.layout.proofs.Booleans.{Told, told, told-true, told-false, clash, and-parts}
 use Rattle.serving.specs.Judging.{soundThen}
-use Rattle.serving.proofs.ServeLaws.{Judges, numbers, first-yes, first-no, performs, refused-as, judged-on}
+use Rattle.serving.proofs.ServeLaws.{Judges, numbers, first-yes, first-no, end, performs, refused-as, judged-on}
 use Rattle.serving.proofs.ReadyLaws.{SoundBox}
-use Rattle.cache.proofs.CallLaws.{end}
 
 -- what a step of a format leaves: its store is one of the SSD image
 abbrev formatted : List ℕ → List ℕ → List ℕ → Record → ℕ → Result

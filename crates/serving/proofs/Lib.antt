@@ -5,4 +5,4 @@ pub mod SlotLaws
 pub mod ServedLaws
 pub mod MoveLaws
 pub mod SweepingLaws
-pub mod TakeLaws
+pub mod TurnLaws

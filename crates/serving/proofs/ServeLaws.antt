@@ -11,7 +11,7 @@ use lib.Dec.{eqb}
 use borrow.Author.Tests.{eq-eqb, ne-eqb}
 use Rattle.layout.specs.declared.Block.{Block}
 use Rattle.record.specs.declared.Record.{Record}
-use Rattle.protocol.specs.Box.{Box, refusing, left}
+use Rattle.protocol.specs.Box.{Box, Effect, refusing, left}
 use Rattle.protocol.specs.Plan.{Call, Move, flush, offer, fetch, landFetch, lookUp, view, writeBack, land, plan}
 use Rattle.protocol.specs.Perform.{perform}
 use Rattle.protocol.specs.Judge.{lengthsTest, Reason, badRecord, wrongLength, badRows, wrongPhase, blockTooHigh, slotOpen, wrongState, hasSlot, windowFull, allOpen, stampsSpent, numberOf, lengthTest, test, chain, firstOf, judged}
@@ -77,15 +77,26 @@ pub record Judges (c : Call) (x : Box) (n : ℕ) (more : List Reason) : Type 0 w
   pub chain-is : chain c ≡ begins ++ more
   pub number-is : n ≡ numbers (λ q. test q c x) begins
 
+-- nothing is left to ask
+pub end : (h : Reason → Bool) → firstOf [] h ≡ none
+unfolding firstOf
+end h = refl
+
 module _ (c : Call) (x : Box) where
-  pub refused-as : (q : Reason) → judged c x ≡ some q → left (refusing (numberOf q) x) (x .images) ≡ resultOf c x
+  pub refuses : (q : Reason) → judged c x ≡ some q → effectOf c x ≡ refusing (numberOf q) x
   unfolding effectOf
-  refused-as q e = ap (λ (o : Option Reason). left (decided o c x) (x .images)) (sym e)
+  refuses q e = ap (λ (o : Option Reason). decided o c x) e
+
+  pub does : (m : Move) → judged c x ≡ none → plan c x ≡ m → effectOf c x ≡ perform m x
+  unfolding effectOf
+  does m e p = ap (λ (o : Option Reason). decided o c x) e ∙ ap (λ (v : Move). perform v x) p
+
+  -- everything that it leaves
+  pub refused-as : (q : Reason) → judged c x ≡ some q → left (refusing (numberOf q) x) (x .images) ≡ resultOf c x
+  refused-as q e = ap (λ (f : Effect). left f (x .images)) (sym (refuses q e))
 
   pub performs : (m : Move) → judged c x ≡ none → plan c x ≡ m → left (perform m x) (x .images) ≡ resultOf c x
-  unfolding effectOf
-  performs m e p = ap (λ (v : Move). left (perform v x) (x .images)) (sym p)
-      ∙ ap (λ (o : Option Reason). left (decided o c x) (x .images)) (sym e)
+  performs m e p = ap (λ (f : Effect). left f (x .images)) (sym (does m e p))
 
   -- judged by numbers: refused by n where n is not 0
   pub first-judged : (n : ℕ) (more : List Reason) → Judges c x n more → n ≢ 0 → (q : Reason) × (judged c x ≡ some q) × (numberOf q ≡ n)
