@@ -7,7 +7,7 @@ use mathlib.Core.Option.{Option, some, none, Option·some-ne-none}
 use lib.Dec.{eqb}
 use borrow.Author.Tests.{eqb-true}
 use Rattle.layout.proofs.Booleans.{clash, or-cases}
-use Rattle.protocol.specs.Box.{Box, refusing, left}
+use Rattle.protocol.specs.Box.{Box, Effect, refusing, left}
 use Rattle.protocol.specs.Plan.{Call, Move, plan}
 use Rattle.protocol.specs.Perform.{perform}
 use Rattle.protocol.specs.Kinds.{Kind, kind}
@@ -84,11 +84,16 @@ accepted c x m n = first-none (chain c) (λ r. test r c x) (none-both (askedFirs
 
 -- a call's result, by the reason that refuses it or by the move that it makes
 module _ (c : Call) (x : Box) where
-  pub refused-as : (q : Reason) → judged c x ≡ some q → left (refusing (numberOf q) x) (x .images) ≡ resultOf c x
+  pub refuses : (q : Reason) → judged c x ≡ some q → effectOf c x ≡ refusing (numberOf q) x
   unfolding effectOf
-  refused-as q e = ap (λ (o : Option Reason). left (decided o c x) (x .images)) (sym e)
+  refuses q e = ap (λ (o : Option Reason). decided o c x) e
+
+  pub does : (m : Move) → judged c x ≡ none → plan c x ≡ m → effectOf c x ≡ perform m x
+  unfolding effectOf
+  does m e p = ap (λ (o : Option Reason). decided o c x) e ∙ ap (λ (v : Move). perform v x) p
+
+  pub refused-as : (q : Reason) → judged c x ≡ some q → left (refusing (numberOf q) x) (x .images) ≡ resultOf c x
+  refused-as q e = ap (λ (f : Effect). left f (x .images)) (sym (refuses q e))
 
   pub performs : (m : Move) → judged c x ≡ none → plan c x ≡ m → left (perform m x) (x .images) ≡ resultOf c x
-  unfolding effectOf
-  performs m e p = ap (λ (v : Move). left (perform v x) (x .images)) (sym p)
-      ∙ ap (λ (o : Option Reason). left (decided o c x) (x .images)) (sym e)
+  performs m e p = ap (λ (f : Effect). left f (x .images)) (sym (does m e p))

@@ -1,11 +1,11 @@
 // "Fetch a block not cached: as an offer by sweep, with flags 5."
 use layout::Block;
-use protocol::Condition;
 use protocol::Outcome;
 use record::Record;
 use serving::answers;
 use serving::judge;
-use serving::sweeping;
+use serving::perform;
+use serving::turn;
 ghost use mathlib.Core.Path.{_≡_};
 ghost use Rattle.protocol.specs.Calls.{leaves, fetchOf};
 
@@ -24,11 +24,6 @@ pub fn fetch(
         return answers::refused(number, state);
     }
     let condition = seen.condition;
-    match condition {
-        Condition::NotCached => sweeping::sweep_for(ssd, hdd, table, state, block, 5, seen.writing),
-        Condition::Clean(_) => answers::refused(10, state),
-        Condition::Dirty(_) => answers::refused(10, state),
-        Condition::Writing(_) => answers::refused(8, state),
-        Condition::Fetching(_) => answers::refused(8, state),
-    }
+    let turn = turn::fetch(table, state, condition, seen.writing);
+    perform::perform(ssd, hdd, table, state, block, turn)
 }

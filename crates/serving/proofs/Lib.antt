@@ -5,5 +5,5 @@ pub mod SlotLaws
 pub mod ServedLaws
 pub mod MoveLaws
 pub mod SweepingLaws
-pub mod TakeLaws
+pub mod TurnLaws
 pub mod CallLaws

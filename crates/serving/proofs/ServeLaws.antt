@@ -5,7 +5,7 @@ use mathlib.Core.Path.{_≡_, refl, sym, ap, _∙_}
 use mathlib.Core.Logic.{_≢_}
 use mathlib.Core.Bool.{Bool, true, false}
 use mathlib.Core.List.{List, [], _∷_, _++_}
-use mathlib.Core.Option.{some}
+use mathlib.Core.Option.{some, none}
 use lib.ListN.{length}
 use lib.Dec.{eqb}
 use borrow.Author.Tests.{eq-eqb, ne-eqb}
@@ -75,6 +75,11 @@ pub record Judges (c : Call) (x : Box) (n : ℕ) (more : List Reason) : Type 0 w
   pub begins : List Reason
   pub chain-is : chain c ≡ begins ++ more
   pub number-is : n ≡ numbers (λ q. test q c x) begins
+
+-- nothing is left to ask
+pub end : (h : Reason → Bool) → firstOf [] h ≡ none
+unfolding firstOf
+end h = refl
 
 module _ (c : Call) (x : Box) where
   -- judged by numbers: refused by n where n is not 0

@@ -53,10 +53,11 @@ module _ (r : Record) (t : List ℕ) (b : Block) (size : length t ≡ tableLengt
   pub where-is : (k : Condition) → conditionOf t b ≡ k → Where r t b k
   where-is k e = subst (λ (z : Condition). Where r t b z) e (place (stands (labelIn r) t size b))
 
-  -- a legal row's flags are below 16
-  pub flags-low : legalRows (labelIn r) t ≡ true → (s : Slot) → s .0 < r .label .slots → rowFlags t s < 16
-  unfolding rowTest
-  flags-low h s k =
-      let q : 2 * s .0 + 1 < length t = omega (arith, size) in
-      let e = each-get (λ s block flags. rowTest (labelIn r) block flags) 0 t h (s .0) q in
-      ltb-true _ _ (and-parts (ltb (rowFlags t s) 16) _ (and-parts (pairTest (labelIn r) (getD t (2 * s .0) 0) (rowFlags t s % 8)) _ e .1) .0)
+-- a legal row's flags are below 16
+pub flags-low : (r : Record) (t : List ℕ) → length t ≡ tableLength (labelIn r) → legalRows (labelIn r) t ≡ true → (s : Slot)
+    → s .0 < r .label .slots → rowFlags t s < 16
+unfolding rowTest
+flags-low r t size h s k =
+    let q : 2 * s .0 + 1 < length t = omega (arith, size) in
+    let e = each-get (λ s block flags. rowTest (labelIn r) block flags) 0 t h (s .0) q in
+    ltb-true _ _ (and-parts (ltb (rowFlags t s) 16) _ (and-parts (pairTest (labelIn r) (getD t (2 * s .0) 0) (rowFlags t s % 8)) _ e .1) .0)

@@ -21,7 +21,7 @@ use Rattle.table.specs.declared.Swept.{Swept}
 use Rattle.table.specs.declared.Swept.the-variants.{Took, Stuck}
 use Rattle.table.specs.Scan.{lowestOf}
 use Rattle.table.specs.Sweeps.{closed, unused, lapEnd, lapFrom, sweptOf, clearedFrom, victimOf}
-use Rattle.table.proofs.SweepLaws.{nth, nth-meets, sweep-is}
+use Rattle.table.proofs.SweepLaws.{nth, nth-meets, cleared-alike, sweep-is}
 
 abbrev took-some : Swept → Bool
 took-some (Took s k) = true
@@ -87,13 +87,10 @@ module _ (l : Label) (t : List ℕ) where
           subst (λ (u : Slot). writing (rowFlags t u) ≡ true) (m .2)
           (met-open (l .slots) 0 h (l .slots) low (omega arith) e (m .0) (m .1))
 
--- a slot was found
-pub record Found (l : Label) (t : List ℕ) (s : Slot) (v : List ℕ) : Type 0 where
+-- a slot was found: one of the table's, and not open
+pub record Found (l : Label) (t : List ℕ) (s : Slot) : Type 0 where
   pub low : s .0 < l .slots
-  pub size : length v ≡ tableLength l
-  pub legal : Rows l v
   pub shut : writing (rowFlags t s) ≡ false
-  pub dirty-is : dirty (rowFlags v s) ≡ dirty (rowFlags t s)
 
 dirty-valid : {f : ℕ} → Flags f → dirty f ≡ true → valid f ≡ true
 dirty-valid f0 e = clash e refl
@@ -111,21 +108,34 @@ pub dirty-block : (l : Label) (t : List ℕ) → Rows l t → (s : Slot) → s .
     → rowBlock t s .0 < l .blocks
 dirty-block l t R s h d = let r = R (s .0) h in r .low (dirty-valid (r .flags) d)
 
+-- the table once n slots were passed: its rows, but for used flags
+pub record Passed (l : Label) (t v : List ℕ) : Type 0 where
+  pub size : length v ≡ tableLength l
+  pub legal : Rows l v
+  pub dirty-is : (s : Slot) → s .0 < l .slots → dirty (rowFlags v s) ≡ dirty (rowFlags t s)
+
+pub passed-is : (n : ℕ) (l : Label) (t : List ℕ) (h : Slot) → length t ≡ tableLength l → Rows l t → h .0 < l .slots
+    → Passed l t (clearedFrom n l t h)
+passed-is n l t h size R low =
+    let A = cleared-alike n l t t (alike-same l t size R) h low in
+    record {
+      size = A .size;
+      legal = A .legal;
+      dirty-is = λ s k. sym (at-dirty l (clearedFrom n l t h) (A .legal) (s .0) k) ∙ ap dirtyRow (A .row (s .0)) ∙ at-dirty l t R (s .0) k;
+    }
+
 module _ (l : Label) (t : List ℕ) (h s : Slot) (k : ℕ) (size : length t ≡ tableLength l) (R : Rows l t) (low : h .0 < l .slots)
     (e : Took s k ≡ sweptOf l t h) where
   pub swept-is : sweep l t h ≡ some (record { slot = s; table = clearedFrom k l t h })
   swept-is = sweep-is l t h size low ∙ ap (victimOf l t h) (sym e)
 
-  of : {v : Victim} → Rattle.protocol.proofs.refine.Sweeps.Swept l t (some v) → Found l t (v .slot) (v .table)
+  of : {v : Victim} → Rattle.protocol.proofs.refine.Sweeps.Swept l t (some v) → Found l t (v .slot)
   of (Rattle.protocol.proofs.refine.Sweeps.took v a w u A) = record {
     low = a;
-    size = A .size;
-    legal = A .legal;
     shut = sym (at-open l t R (v .slot .0) a) ∙ ap openRow (sym (A .row (v .slot .0))) ∙ at-open l (v .table) (A .legal) (v .slot .0) a ∙ w;
-    dirty-is = sym (at-dirty l (v .table) (A .legal) (v .slot .0) a) ∙ ap dirtyRow (A .row (v .slot .0)) ∙ at-dirty l t R (v .slot .0) a;
   }
 
-  pub took-is : Found l t s (clearedFrom k l t h)
+  pub took-is : Found l t s
   took-is = of (subst (Rattle.protocol.proofs.refine.Sweeps.Swept l t) swept-is (swept (2 * l .slots) l t t (alike-same l t size R) h low))
 
   -- 12 does not hold

@@ -1,15 +1,12 @@
 // "Offer a write of a block": dirty and not open "overwrite", clean "announced", not cached swept for.
 use layout::Block;
-use protocol::Answer;
-use protocol::Condition;
 use protocol::Outcome;
 use record::Record;
 use serving::answers;
 use serving::judge;
-use serving::moves;
-use serving::sweeping;
+use serving::perform;
+use serving::turn;
 ghost use mathlib.Core.Path.{_≡_};
-ghost use Prim.Native.Nat.{_+_, _*_};
 ghost use Rattle.protocol.specs.Calls.{leaves, offerOf};
 
 pub fn offer(
@@ -27,20 +24,6 @@ pub fn offer(
         return answers::refused(number, state);
     }
     let condition = seen.condition;
-    match condition {
-        Condition::NotCached => sweeping::sweep_for(ssd, hdd, table, state, block, 7, seen.writing),
-        Condition::Clean(s) => {
-            let spent = sweeping::opening_number(seen.writing, state.newest);
-            if spent != 0 {
-                return answers::refused(spent, state);
-            }
-            let flags = table[2 * (s.0 as usize) + 1] + 6;
-            let hand = state.hand;
-            let next = moves::open_slot(ssd, table, state, s, block, flags, hand);
-            answers::answered(Answer::Announced(s), next)
-        }
-        Condition::Dirty(_) => answers::answered(Answer::Overwrite, state),
-        Condition::Writing(_) => answers::refused(8, state),
-        Condition::Fetching(_) => answers::refused(8, state),
-    }
+    let turn = turn::offer(table, state, condition, seen.writing);
+    perform::perform(ssd, hdd, table, state, block, turn)
 }

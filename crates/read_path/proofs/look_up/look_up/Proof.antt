@@ -61,7 +61,7 @@ use-slot-requires c κs =
     let e = c .before .before .before .before in
     let a = start e .args in
     let R = known e .row _ (c .before .before .condition .given .1) in
-    (R .within, flags-low (a .state) (a .table .now) (a .block) (known e .box .box .sound .table-size) (known e .box .box .rows) _ (R .low))
+    (R .within, flags-low (a .state) (a .table .now) (known e .box .box .sound .table-size) (known e .box .box .rows) _ (R .low))
 
 answered-requires-2 : tie.Need-answered-requires-2
 answered-requires-2 c κs = search needs
@@ -74,7 +74,7 @@ use-slot-requires-2 c κs =
     let e = c .before .before .before .before in
     let a = start e .args in
     let R = known e .row _ (c .before .before .condition2 .given .1) in
-    (R .within, flags-low (a .state) (a .table .now) (a .block) (known e .box .box .sound .table-size) (known e .box .box .rows) _ (R .low))
+    (R .within, flags-low (a .state) (a .table .now) (known e .box .box .sound .table-size) (known e .box .box .rows) _ (R .low))
 
 answered-requires-3 : tie.Need-answered-requires-3
 answered-requires-3 c κs = search needs
