@@ -13,6 +13,7 @@ use Rattle.layout.specs.declared.LabelRead.the-variants.{Legal, Illegal}
 use Rattle.layout.specs.Places.{withinLimits, labelPlace, ssdLength, hddLength, tableLength}
 use Rattle.layout.specs.LabelPage.{decodeLabel}
 use Rattle.layout.specs.PageRule.{pairTest, listed}
+use Rattle.layout.specs.Window.{windowMost}
 use Rattle.record.specs.declared.Record.{Record}
 use Rattle.record.specs.declared.Phase.{Phase}
 use Rattle.record.specs.declared.Phase.the-variants.{Formatting, Recovering, Ready}
@@ -161,8 +162,8 @@ opensAnother (toLand page) k = false
 abbrev pub stampBound : Purpose → ℕ
 stampBound toServe = largestStamp
 stampBound toSettle = largestStamp
-stampBound toWrite = largestStamp - 63
-stampBound toFetch = largestStamp - 63
+stampBound toWrite = largestStamp - windowMost
+stampBound toFetch = largestStamp - windowMost
 stampBound toLandFetch = largestStamp
 stampBound (toLand page) = largestStamp
 
@@ -178,7 +179,7 @@ test blockTooHigh c x = leb (x .state .label .blocks) (aim c .block .0)
 test slotOpen c x = isOpen (conditionOf (x .table) (aim c .block))
 test wrongState c x = not (stateTest (aim c .purpose) (conditionOf (x .table) (aim c .block)))
 test hasSlot c x = isCached (conditionOf (x .table) (aim c .block))
-test windowFull c x = opensAnother (aim c .purpose) (conditionOf (x .table) (aim c .block)) && leb 63 (openRows (x .table))
+test windowFull c x = opensAnother (aim c .purpose) (conditionOf (x .table) (aim c .block)) && leb windowMost (openRows (x .table))
 test allOpen c x = not (isCached (conditionOf (x .table) (aim c .block))) && allWriting (x .table)
 test stampsSpent c x = storesMeta (plan c x) && leb (stampBound (aim c .purpose)) (x .state .newest)
 

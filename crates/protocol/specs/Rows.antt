@@ -1,4 +1,4 @@
--- The table's rows, their flags, and the record's window (document 01, "Table in memory" and "Record").
+-- The table's rows and their flags (document 01, "Table in memory").
 use Prim.Native.Nat.{ℕ, suc, _+_, _-_, _*_, _/_, _%_}
 use mathlib.Core.Bool.{Bool, true, false, cond, _&&_}
 use mathlib.Core.List.{List, [], _∷_}

@@ -71,7 +71,7 @@ gone-more true false = refl
 gone-more false true = refl
 gone-more false false = refl
 
--- what the loop of `without_slot` has by place i
+-- what the loop of `slots_without` has by place i
 pub record Leaving (s : Slot) (w left : List Slot) (gone i : ℕ) : Type 0 where
   pub few : i + 1 ≤ length w
   pub most : length w ≤ 63

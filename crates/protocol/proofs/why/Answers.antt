@@ -53,5 +53,5 @@ answer-back OnDisk = refl
 answer-back NothingToDo = refl
 answer-back Done = refl
 
-pub paper-injective : (a b : Answer) → replyOf a ≡ replyOf b → a ≡ b
-paper-injective a b e = sym (answer-back a) ∙ ap answerOf e ∙ answer-back b
+pub reply-injective : (a b : Answer) → replyOf a ≡ replyOf b → a ≡ b
+reply-injective a b e = sym (answer-back a) ∙ ap answerOf e ∙ answer-back b
