@@ -15,6 +15,7 @@ pub mod UpdateFirst
 pub mod Demand3
 pub mod MendsSoon
 pub mod CopiesOnce
+pub mod Answered
 pub mod StoresLegally
 pub mod ReopensFrom
 pub mod why

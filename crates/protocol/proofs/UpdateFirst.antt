@@ -20,7 +20,7 @@ use Rattle.protocol.specs.Judge.{Reason, judged}
 use Rattle.protocol.specs.Calls.{decided, effectOf, resultOf}
 use Rattle.protocol.specs.ReferenceDisk.{Disk}
 use Rattle.protocol.specs.Events.{World, mayFinish, CallFits}
-use Rattle.protocol.specs.Beside.{StoredOpen, StoredDirty, UpdateFirst}
+use Rattle.protocol.specs.Beside.{StoredOpen, StoredWriting, StoredDirty, UpdateFirst}
 use Rattle.layout.proofs.Booleans.{clash}
 use Rattle.protocol.proofs.model.Base.{has}
 use Rattle.protocol.proofs.model.Model as model
@@ -107,8 +107,11 @@ module _ (l : Label) (k : Core) (S : Shape l k) (p : Plain) (P : Phased (abs l k
   }
     where
       go-open : (b : Block) (s : Slot) → model.Ready (abs l k) p → Stands l (k .table) (b .0) (Writing s)
-          → StoredOpen l (record { ssd = k .ssd; hdd = k .hdd }) b s
-      go-open b s R (is-writing t H w d) = open-announced l k S p R (b .0) (s .0) H w
+          → StoredWriting l (record { ssd = k .ssd; hdd = k .hdd }) b s
+      go-open b s R (is-writing t H w d) = record {
+        opened = open-announced l k S p R (b .0) (s .0) H w;
+        dirty-entry = closed-stored l k S p R (b .0) (s .0) H d .dirty-entry;
+      }
 
       go-closed : (b : Block) (s : Slot) → model.Ready (abs l k) p → Stands l (k .table) (b .0) (Dirty s)
           → StoredDirty l (record { ssd = k .ssd; hdd = k .hdd }) b s

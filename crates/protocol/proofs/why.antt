@@ -4,6 +4,8 @@ pub mod Records
 pub mod RowsRules
 pub mod PagesRules
 pub mod Slots
+pub mod Counted
+pub mod Same
 pub mod Answers
 pub mod Stored
 pub mod Exact

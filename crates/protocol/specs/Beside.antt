@@ -15,12 +15,12 @@ use Rattle.record.specs.declared.Record.{Record}
 use Rattle.record.specs.declared.Phase.{Phase}
 use Rattle.record.specs.declared.Phase.the-variants.{Formatting, Recovering, Ready}
 use Rattle.protocol.specs.declared.Condition.the-variants.{Dirty, Writing, Fetching}
-use Rattle.protocol.specs.Reply.{refused, copiedOut, done}
+use Rattle.protocol.specs.Reply.{Reply, refused, announced, overwrite, copiedOut, done}
 use Rattle.protocol.specs.Rows.{rowBlock, rowFlags, valid, dirty, writing}
 use Rattle.record.specs.Record.{labelIn, windowIn}
 use Rattle.protocol.specs.Box.{Images, Box, ssdImage, Store, Effect, refusing, boxAfter}
 use Rattle.protocol.specs.Condition.{conditionOf}
-use Rattle.protocol.specs.Plan.{Call, format, step, reopen, offer, land, landFetch}
+use Rattle.protocol.specs.Plan.{Call, format, step, reopen, offer, fetch, land, landFetch}
 use Rattle.protocol.specs.Recovery.{labelAt, metasOf, entryIn, Recovered, recoverFrom}
 use Rattle.protocol.specs.Judge.{noLabel, wrongLength, test}
 use Rattle.protocol.specs.Calls.{effectOf, resultOf}
@@ -65,6 +65,20 @@ StoresLegally c x =
 abbrev pub CopiesOnce : Block → Box → Type 0
 CopiesOnce b x = resultOf (offer b) x .said ≡ copiedOut → resultOf (offer b) (boxAfter (resultOf (offer b) x)) .said ≢ copiedOut
 
+-- an accepted offer answers "announced", "overwrite" or "copied out", an accepted fetch "announced" or "copied out"
+pub data OfferAnswer : Reply → Type 0 where
+  says-announced : (s : Slot) → OfferAnswer (announced s)
+  says-overwrite : OfferAnswer overwrite
+  says-copied : OfferAnswer copiedOut
+
+pub data FetchAnswer : Reply → Type 0 where
+  fetch-announced : (s : Slot) → FetchAnswer (announced s)
+  fetch-copied : FetchAnswer copiedOut
+
+pub record Answers (b : Block) (x : Box) : Type 0 where
+  pub of-offer : refused (resultOf (offer b) x .said) ≡ false → OfferAnswer (resultOf (offer b) x .said)
+  pub of-fetch : refused (resultOf (fetch b) x .said) ≡ false → FetchAnswer (resultOf (fetch b) x .said)
+
 -- "Mending takes at most 63 steps": a box that is still mending after k steps, none of them refused, has made fewer than 63
 abbrev pub MendsSoon : Box → Type 0
 MendsSoon x =
@@ -90,6 +104,11 @@ pub record StoredOpen (l : Label) (im : Images) (b : Block) (s : Slot) : Type 0 
   pub block : entryIn (metasOf l (im .ssd)) s .block .0 ≡ b .0
   pub in-window : listed s (storedWindow l im) ≡ true
 
+-- of a write its stored entry is dirty, too
+pub record StoredWriting (l : Label) (im : Images) (b : Block) (s : Slot) : Type 0 where
+  pub opened : StoredOpen l im b s
+  pub dirty-entry : dirty (entryIn (metasOf l (im .ssd)) s .flags) ≡ true
+
 -- a closed dirty slot: its stored entry is valid, dirty and for the block
 pub record StoredDirty (l : Label) (im : Images) (b : Block) (s : Slot) : Type 0 where
   pub valid-entry : valid (entryIn (metasOf l (im .ssd)) s .flags) ≡ true
@@ -98,7 +117,7 @@ pub record StoredDirty (l : Label) (im : Images) (b : Block) (s : Slot) : Type 0
 
 pub record UpdateFirst (l : Label) (w : World) : Type 0 where
   pub land-open : (b : Block) (page : List ℕ) → refused (resultOf (land b page) (w .box) .said) ≡ false
-      → (s : Slot) → conditionOf (w .box .table) b ≡ Writing s → StoredOpen l (w .box .images) b s
+      → (s : Slot) → conditionOf (w .box .table) b ≡ Writing s → StoredWriting l (w .box .images) b s
   pub land-closed : (b : Block) (page : List ℕ) → refused (resultOf (land b page) (w .box) .said) ≡ false
       → (s : Slot) → conditionOf (w .box .table) b ≡ Dirty s → StoredDirty l (w .box .images) b s
   pub fetch-open : (b : Block) → refused (resultOf (landFetch b) (w .box) .said) ≡ false

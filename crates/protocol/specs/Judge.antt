@@ -1,5 +1,5 @@
 -- Why a call says no: one test for each number of document 01's table, and each call's chain of them, "Least number first".
-use Prim.Native.Nat.{ℕ, suc, _-_, _%_}
+use Prim.Native.Nat.{ℕ, _-_, _%_}
 use mathlib.Core.Bool.{Bool, true, false, not, _&&_, _||_}
 use mathlib.Core.List.{List, [], _∷_, _++_}
 use mathlib.Core.Option.{Option, some, none}
@@ -48,25 +48,11 @@ numberOf windowFull = 11
 numberOf allOpen = 12
 numberOf stampsSpent = 13
 
--- "Least number first": the order in which conditions are judged. Document 02 puts numbers between these (the first of them, 14,
--- between 6 and 7), so the order is a list of its own; a reason's rank is its place in it
+-- all of them, in the order of judging
 abbrev pub order : List Reason
 order =
     badLimits ∷ noLabel ∷ badRecord ∷ wrongLength ∷ badRows ∷ wrongPhase ∷ blockTooHigh ∷ slotOpen ∷ wrongState ∷ hasSlot ∷ windowFull
     ∷ allOpen ∷ stampsSpent ∷ []
-
-unfoldable pub rankIn : List Reason → Reason → ℕ
-rankIn [] r = 0
-rankIn (q ∷ qs) r = elim (eqb (numberOf q) (numberOf r)) [ true ↦ 0 | false ↦ suc (rankIn qs r) ]
-
-abbrev pub rank : Reason → ℕ
-rank r = rankIn order r
-
--- reasons in that order
-unfoldable pub rising : List Reason → Bool
-rising [] = true
-rising (r ∷ []) = true
-rising (r ∷ q ∷ rs) = ltb (rank r) (rank q) && rising (q ∷ rs)
 
 -- the label by which a call judges lengths: format by its arguments, reopen by the label page, others by the record
 abbrev pub labelFor : Kind → Box → Label

@@ -1,29 +1,29 @@
--- Why a call says no, in document 01's words: the proposition of each row of its table.
+-- Why a call says no, in document 01's words and with no definition of Judge: which numbers belong to which call, and the
+-- condition of each as a proposition.
 use Prim.Native.Nat.{ℕ, _+_, _*_, _%_, _≤_, _<_}
 use mathlib.Core.Path.{_≡_}
 use mathlib.Core.Logic.{_≢_, _⊎_}
-use mathlib.Core.Bool.{true, false}
+use mathlib.Core.Bool.{Bool, true, false}
 use mathlib.Core.List.{List, [], _∷_}
 use lib.ListN.{length, getD}
+use lib.Dec.{eqb}
 use Rattle.pages.specs.Pages.{pageAt}
 use Rattle.layout.specs.declared.Slot.{Slot}
 use Rattle.layout.specs.declared.Block.{Block}
 use Rattle.layout.specs.declared.Label.{Label}
-use Rattle.layout.specs.Places.{Limits, labelPlace, ssdLength, hddLength, tableLength}
+use Rattle.layout.specs.Places.{Limits, labelOf, labelPlace, ssdLength, hddLength, tableLength}
 use Rattle.layout.specs.LabelPage.{encodeLabel}
 use Rattle.layout.specs.MetaPage.{stampOf, countOf, slotAt}
 use Rattle.layout.specs.PageRule.{PageRule, PairRule, listed}
 use Rattle.record.specs.declared.Record.{Record}
 use Rattle.record.specs.declared.Phase.{Phase}
 use Rattle.record.specs.declared.Phase.the-variants.{Formatting, Recovering, Ready}
-use Rattle.protocol.specs.Rows.{rowBlock, rowFlags, valid, dirty, writing, used, openRows}
+use Rattle.protocol.specs.Rows.{rowBlock, rowFlags, valid, dirty, writing, used}
 use Rattle.record.specs.Record.{labelIn, windowIn}
 use Rattle.record.specs.Rule.{RecordRule}
-use Rattle.protocol.specs.Box.{Images, Box}
-use Rattle.protocol.specs.Plan.{Call, plan, storesMeta}
-use Rattle.protocol.specs.Kinds.{Purpose, toServe, toSettle, toWrite, toFetch, toLandFetch, toLand, Kind, aFormat, aReopening, aStep, aService, kind, aim}
+use Rattle.protocol.specs.Box.{Box}
+use Rattle.protocol.specs.Plan.{Call, format, step, flush, reopen, offer, fetch, landFetch, lookUp, view, writeBack, land, plan, storesMeta}
 use Rattle.protocol.specs.Recovery.{labelAt, metasOf, entryIn}
-use Rattle.protocol.specs.Judge.{Reason, badLimits, noLabel, badRecord, wrongLength, badRows, wrongPhase, blockTooHigh, slotOpen, wrongState, hasSlot, windowFull, allOpen, stampsSpent, labelFor, stampBound}
 
 -- 2: the first page is the page of a label within the limits
 pub record HasLabel (ssd : List ℕ) : Type 0 where
@@ -32,20 +32,15 @@ pub record HasLabel (ssd : List ℕ) : Type 0 where
   pub whole : 4096 ≤ length ssd
   pub page : pageAt ssd labelPlace ≡ encodeLabel label
 
--- 4
-abbrev pub PageLength : Purpose → Type 0
-PageLength toServe = Unit {0}
-PageLength toSettle = Unit {0}
-PageLength toWrite = Unit {0}
-PageLength toFetch = Unit {0}
-PageLength toLandFetch = Unit {0}
-PageLength (toLand page) = length page ≡ 4096
+-- 4, by a label; a landed page beside it
+pub record Lengths (l : Label) (x : Box) : Type 0 where
+  pub ssd-length : length (x .images .ssd) ≡ ssdLength l
+  pub hdd-length : length (x .images .hdd) ≡ hddLength l
+  pub table-length : length (x .table) ≡ tableLength l
 
-pub record Lengths (l : Label) (p : Purpose) (im : Images) (table : List ℕ) : Type 0 where
-  pub ssd-length : length (im .ssd) ≡ ssdLength l
-  pub hdd-length : length (im .hdd) ≡ hddLength l
-  pub table-length : length table ≡ tableLength l
-  pub page-length : PageLength p
+pub record LandLengths (page : List ℕ) (x : Box) : Type 0 where
+  pub box : Lengths (labelIn (x .state)) x
+  pub page-length : length page ≡ 4096
 
 -- the table has a row for the slot
 abbrev pub IsRow : List ℕ → Slot → Type 0
@@ -93,19 +88,6 @@ pub record PagesRule (l : Label) (pages : List (List ℕ)) : Type 0 where
       → (valid (entryIn pages (slotAt (getD pages p []) k) .flags) ≡ true) ×
       (writing (entryIn pages (slotAt (getD pages p []) k) .flags) ≡ true)
 
-abbrev pub Contents : Kind → Box → Type 0
-Contents (aFormat l) x = Unit {0}
-Contents aReopening x = PagesRule (labelAt (x .images .ssd)) (metasOf (labelAt (x .images .ssd)) (x .images .ssd))
-Contents aStep x = RowsRule (x .state) (x .table)
-Contents (aService a) x = RowsRule (x .state) (x .table)
-
--- 6
-abbrev pub RightPhase : Kind → Phase → Type 0
-RightPhase (aFormat l) p = Unit {0}
-RightPhase aReopening p = Unit {0}
-RightPhase aStep p = p ≢ Ready
-RightPhase (aService a) p = p ≡ Ready
-
 -- 8 to 12: the block's slot, "its lowest slot counts"
 pub record SlotOf (table : List ℕ) (b : Block) : Type 0 where
   pub slot : Slot
@@ -114,43 +96,95 @@ pub record SlotOf (table : List ℕ) (b : Block) : Type 0 where
   pub block : rowBlock table slot .0 ≡ b .0
   pub lowest : (t : Slot) → t .0 < slot .0 → valid (rowFlags table t) ≡ true → rowBlock table t .0 ≢ b .0
 
--- 9: open for writing, or dirty and not open; open for fetch
-abbrev pub RightState : Purpose → Block → List ℕ → Type 0
-RightState toServe b table = Unit {0}
-RightState toSettle b table = Unit {0}
-RightState toWrite b table = Unit {0}
-RightState toFetch b table = Unit {0}
-RightState toLandFetch b table = (s : SlotOf table b) × (writing (rowFlags table (s .slot)) ≡ true) ×
-    (dirty (rowFlags table (s .slot)) ≡ false)
-RightState (toLand page) b table = (s : SlotOf table b) × (dirty (rowFlags table (s .slot)) ≡ true)
+-- 11: "while 63 are open": so many rows with the writing flag, each at another slot
+pub record Open (n : ℕ) (table : List ℕ) : Type 0 where
+  pub slot : ℕ → Slot
+  pub others : (i j : ℕ) → i < j → j < n → slot i .0 < slot j .0
+  pub rows : (i : ℕ) → i < n → IsRow table (slot i) × (writing (rowFlags table (slot i)) ≡ true)
 
--- 11: a fetch, or an offer of a block that isn't dirty
-abbrev pub OpensAnother : Purpose → Block → List ℕ → Type 0
-OpensAnother toServe b table = ⊥
-OpensAnother toSettle b table = ⊥
-OpensAnother toWrite b table = (s : SlotOf table b) → dirty (rowFlags table (s .slot)) ≡ false
-OpensAnother toFetch b table = Unit {0}
-OpensAnother toLandFetch b table = ⊥
-OpensAnother (toLand page) b table = ⊥
+-- The conditions, each of the call's own arguments and the box.
+abbrev pub BadRecord : Box → Type 0
+BadRecord x = RecordRule (x .state) → ⊥
 
--- the table of document 01
-abbrev pub Why : Reason → Call → Box → Type 0
-Why badLimits c x = Limits (labelFor (kind c) x) → ⊥
-Why noLabel c x = HasLabel (x .images .ssd) → ⊥
-Why badRecord c x = RecordRule (x .state) → ⊥
-Why wrongLength c x = Lengths (labelFor (kind c) x) (aim c .purpose) (x .images) (x .table) → ⊥
-Why badRows c x = Contents (kind c) x → ⊥
-Why wrongPhase c x = RightPhase (kind c) (x .state .phase) → ⊥
-Why blockTooHigh c x = x .state .label .blocks ≤ aim c .block .0
-Why slotOpen c x = (s : SlotOf (x .table) (aim c .block)) × (writing (rowFlags (x .table) (s .slot)) ≡ true)
-Why wrongState c x = RightState (aim c .purpose) (aim c .block) (x .table) → ⊥
-Why hasSlot c x = SlotOf (x .table) (aim c .block)
-Why windowFull c x = OpensAnother (aim c .purpose) (aim c .block) (x .table) × (63 ≤ openRows (x .table))
-Why allOpen c x = (SlotOf (x .table) (aim c .block) → ⊥) × ((s : Slot) → IsRow (x .table) s → writing (rowFlags (x .table) s) ≡ true)
-Why stampsSpent c x = (storesMeta (plan c x) ≡ true) × (stampBound (aim c .purpose) ≤ x .state .newest)
+-- by the record's label, as all are measured but format (by its arguments) and reopen (by the image's label)
+abbrev pub BadLengths : Box → Type 0
+BadLengths x = Lengths (labelIn (x .state)) x → ⊥
 
--- "Least number first .. A number is used if its condition holds for that call, and in no other case": r is the first in a
--- call's order whose condition holds
-abbrev pub FirstWhy : List Reason → Reason → (Reason → Type 0) → Type 0
-FirstWhy [] r why = ⊥
-FirstWhy (q ∷ rs) r why = ((q ≡ r) × why r) ⊎ ((why q → ⊥) × FirstWhy rs r why)
+abbrev pub BadRows : Box → Type 0
+BadRows x = RowsRule (x .state) (x .table) → ⊥
+
+abbrev pub BadPages : Box → Type 0
+BadPages x = PagesRule (labelAt (x .images .ssd)) (metasOf (labelAt (x .images .ssd)) (x .images .ssd)) → ⊥
+
+abbrev pub NotReady : Box → Type 0
+NotReady x = x .state .phase ≢ Ready
+
+abbrev pub TooHigh : Block → Box → Type 0
+TooHigh b x = x .state .label .blocks ≤ b .0
+
+abbrev pub SlotOpen : Block → Box → Type 0
+SlotOpen b x = (s : SlotOf (x .table) b) × (writing (rowFlags (x .table) (s .slot)) ≡ true)
+
+-- 9: land: neither open for writing nor dirty; land a fetch: not open for fetch
+abbrev pub NotToLand : Block → Box → Type 0
+NotToLand b x = ((s : SlotOf (x .table) b) × (dirty (rowFlags (x .table) (s .slot)) ≡ true)) → ⊥
+
+abbrev pub NotToFetch : Block → Box → Type 0
+NotToFetch b x =
+    ((s : SlotOf (x .table) b) × (writing (rowFlags (x .table) (s .slot)) ≡ true) × (dirty (rowFlags (x .table) (s .slot)) ≡ false)) → ⊥
+
+-- 11: "an offer of a block that isn't dirty"
+abbrev pub NotDirty : Block → Box → Type 0
+NotDirty b x = (s : SlotOf (x .table) b) → dirty (rowFlags (x .table) (s .slot)) ≡ false
+
+-- 12: "a slot must be swept for, all are open"
+abbrev pub AllOpen : Block → Box → Type 0
+AllOpen b x = (SlotOf (x .table) b → ⊥) × ((s : Slot) → IsRow (x .table) s → writing (rowFlags (x .table) s) ≡ true)
+
+-- 13: "this call, no format step, would store metadata", and the newest stamp is this or more
+abbrev pub Spent : ℕ → Call → Box → Type 0
+Spent bound c x = (storesMeta (plan c x) ≡ true) × (bound ≤ x .state .newest)
+
+-- the table of document 01, by calls: each call's numbers, in the order of judging, and their conditions
+abbrev pub Why : Call → Box → List (ℕ × Type 0)
+Why (format slots blocks) x = (1, Limits (labelOf slots blocks) → ⊥) ∷ (4, Lengths (labelOf slots blocks) x → ⊥) ∷ []
+Why reopen x = (2, HasLabel (x .images .ssd) → ⊥) ∷ (4, Lengths (labelAt (x .images .ssd)) x → ⊥) ∷ (5, BadPages x) ∷ []
+Why step x =
+    (3, BadRecord x) ∷ (4, BadLengths x) ∷ (5, BadRows x) ∷ (6, x .state .phase ≡ Ready) ∷ (13, Spent 4294967295 step x) ∷ []
+Why flush x = (3, BadRecord x) ∷ (4, BadLengths x) ∷ (5, BadRows x) ∷ (6, NotReady x) ∷ (13, Spent 4294967295 flush x) ∷ []
+Why (offer b) x =
+    (3, BadRecord x) ∷ (4, BadLengths x) ∷ (5, BadRows x) ∷ (6, NotReady x) ∷ (7, TooHigh b x) ∷ (8, SlotOpen b x)
+    ∷ (11, NotDirty b x × Open 63 (x .table)) ∷ (12, AllOpen b x) ∷ (13, Spent 4294967232 (offer b) x) ∷ []
+Why (fetch b) x =
+    (3, BadRecord x) ∷ (4, BadLengths x) ∷ (5, BadRows x) ∷ (6, NotReady x) ∷ (7, TooHigh b x) ∷ (8, SlotOpen b x)
+    ∷ (10, SlotOf (x .table) b) ∷ (11, Open 63 (x .table)) ∷ (12, AllOpen b x) ∷ (13, Spent 4294967232 (fetch b) x) ∷ []
+Why (landFetch b) x =
+    (3, BadRecord x) ∷ (4, BadLengths x) ∷ (5, BadRows x) ∷ (6, NotReady x) ∷ (7, TooHigh b x) ∷ (9, NotToFetch b x) ∷ []
+Why (lookUp b) x = (3, BadRecord x) ∷ (4, BadLengths x) ∷ (5, BadRows x) ∷ (6, NotReady x) ∷ (7, TooHigh b x) ∷ []
+Why (view b) x = (3, BadRecord x) ∷ (4, BadLengths x) ∷ (5, BadRows x) ∷ (6, NotReady x) ∷ (7, TooHigh b x) ∷ []
+Why (writeBack b) x =
+    (3, BadRecord x) ∷ (4, BadLengths x) ∷ (5, BadRows x) ∷ (6, NotReady x) ∷ (7, TooHigh b x) ∷ (8, SlotOpen b x) ∷ []
+Why (land b page) x =
+    (3, BadRecord x) ∷ (4, LandLengths page x → ⊥) ∷ (5, BadRows x) ∷ (6, NotReady x) ∷ (7, TooHigh b x) ∷ (9, NotToLand b x) ∷ []
+
+-- "Least number first .. A number is used if its condition holds for that call, and in no other case": n is the first of the
+-- call's numbers whose condition holds; a number that is not the call's is never given
+abbrev pub FirstWhy : List (ℕ × Type 0) → ℕ → Type 0
+FirstWhy [] n = ⊥
+FirstWhy (w ∷ ws) n = ((w .0 ≡ n) × w .1) ⊎ ((w .1 → ⊥) × FirstWhy ws n)
+
+-- a call that is not refused: none of its conditions holds
+abbrev pub NoneWhy : List (ℕ × Type 0) → Type 0
+NoneWhy [] = Unit {0}
+NoneWhy (w ∷ ws) = (w .1 → ⊥) × NoneWhy ws
+
+-- the order of judging. Document 02 puts numbers between these (the first of them, 14, between 6 and 7), so it is a list of its
+-- own, and every call's numbers are some of these in this order
+abbrev pub turns : List ℕ
+turns = 1 ∷ 2 ∷ 3 ∷ 4 ∷ 5 ∷ 6 ∷ 7 ∷ 8 ∷ 9 ∷ 10 ∷ 11 ∷ 12 ∷ 13 ∷ []
+
+unfoldable pub inTurn : List ℕ → List (ℕ × Type 0) → Bool
+inTurn [] [] = true
+inTurn [] (w ∷ ws) = false
+inTurn (n ∷ ns) [] = true
+inTurn (n ∷ ns) (w ∷ ws) = elim (eqb n (w .0)) [ true ↦ inTurn ns ws | false ↦ inTurn ns (w ∷ ws) ]

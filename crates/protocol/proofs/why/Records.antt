@@ -18,11 +18,11 @@ use Rattle.layout.proofs.PlaceLaws.{within}
 use Rattle.layout.proofs.LabelLaws.{label-back, label-only}
 use Rattle.layout.proofs.Booleans.{clash, and-of, and-parts}
 use Rattle.layout.proofs.RuleLaws.{_⇔_}
-use Rattle.protocol.specs.Box.{Images}
-use Rattle.protocol.specs.Kinds.{Purpose, toServe, toSettle, toWrite, toFetch, toLandFetch, toLand}
-use Rattle.protocol.specs.Judge.{isLabel, labelTest, pageLengthTest, lengthsTest, lengthTest}
-use Rattle.protocol.specs.Why.{HasLabel, PageLength, Lengths}
-use Rattle.protocol.proofs.why.Basics.{unit-same}
+use Rattle.record.specs.Record.{labelIn}
+use Rattle.protocol.specs.Box.{Box}
+use Rattle.protocol.specs.Judge.{isLabel, labelTest, lengthsTest, lengthTest}
+use Rattle.protocol.specs.Why.{HasLabel, Lengths, LandLengths}
+use Rattle.protocol.proofs.why.Basics.{and-same, via, unit-same}
 
 pub label-same : (ssd : List ℕ) → labelTest ssd ⇔ HasLabel ssd
 unfolding labelTest
@@ -40,27 +40,22 @@ label-same ssd = (
         record { label = l; limits = within l .0 (q .1); whole = w; page = q .0 }
     to w Illegal e h = clash h refl
 
-page-same : (p : Purpose) → pageLengthTest p ⇔ PageLength p
-page-same toServe = unit-same
-page-same toSettle = unit-same
-page-same toWrite = unit-same
-page-same toFetch = unit-same
-page-same toLandFetch = unit-same
-page-same (toLand page) = (eqb-true _ _, eq-eqb _ _)
-
-pub lengths-same : (l : Label) (u : Purpose) (im : Images) (table : List ℕ)
-    → (lengthTest l im table && pageLengthTest u) ⇔ Lengths l u im table
+tables-same : (l : Label) (x : Box) → lengthTest l (x .images) (x .table) ⇔ Lengths l x
 unfolding lengthTest lengthsTest
-lengths-same l u im table = (
+tables-same l x = (
   λ h.
-      let p = and-parts (lengthTest l im table) (pageLengthTest u) h in
-      let q = and-parts (eqb (length (im .ssd)) (ssdLength l)) _ (p .0) in
-      let r = and-parts (eqb (length (im .hdd)) (hddLength l)) _ (q .1) in
-      record {
-        ssd-length = eqb-true _ _ (q .0);
-        hdd-length = eqb-true _ _ (r .0);
-        table-length = eqb-true _ _ (r .1);
-        page-length = page-same u .0 (p .1);
-      },
-  λ h. rw (eq-eqb _ _ (h .ssd-length), eq-eqb _ _ (h .hdd-length), eq-eqb _ _ (h .table-length), page-same u .1 (h .page-length)),
+      let q = and-parts (eqb (length (x .images .ssd)) (ssdLength l)) _ h in
+      let r = and-parts (eqb (length (x .images .hdd)) (hddLength l)) _ (q .1) in
+      record { ssd-length = eqb-true _ _ (q .0); hdd-length = eqb-true _ _ (r .0); table-length = eqb-true _ _ (r .1) },
+  λ h. rw (eq-eqb _ _ (h .ssd-length), eq-eqb _ _ (h .hdd-length), eq-eqb _ _ (h .table-length)),
 )
+
+pub lengths-same : (l : Label) (x : Box) → (lengthTest l (x .images) (x .table) && true) ⇔ Lengths l x
+lengths-same l x = via (and-same (tables-same l x) unit-same) (λ h. h .0) (λ h. (h, tt))
+
+pub land-lengths-same : (page : List ℕ) (x : Box)
+    → (lengthTest (labelIn (x .state)) (x .images) (x .table) && eqb (length page) 4096) ⇔ LandLengths page x
+land-lengths-same page x =
+    via (and-same {Q = length page ≡ 4096} (tables-same (labelIn (x .state)) x) (eqb-true _ _, eq-eqb _ _))
+    (λ h. record { box = h .0; page-length = h .1 })
+    (λ h. (h .box, h .page-length))
