@@ -16,6 +16,8 @@ pub mod Demand3
 pub mod MendsSoon
 pub mod CopiesOnce
 pub mod Answered
+pub mod RoundTrip
 pub mod StoresLegally
+pub mod ReadsAnywhere
 pub mod ReopensFrom
 pub mod why

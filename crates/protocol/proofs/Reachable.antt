@@ -20,6 +20,7 @@ use Rattle.protocol.specs.Calls.{decided, effectOf, resultOf}
 use Rattle.protocol.specs.ReferenceDisk.{Disk}
 use Rattle.protocol.specs.Events.{World, Memory, Arrival, old, new, Event, call, reopens, cut, called, withMemory, takenIf, reopened, survived, made, crashed, apply, run, CallFits, Fits, AllFit}
 use Rattle.layout.proofs.Booleans.{clash, and-parts}
+use Rattle.protocol.specs.Beside.{CutLeaves}
 use Rattle.protocol.proofs.model.Model as model
 use Rattle.protocol.proofs.model.Model.{Plain, Stored, Mending}
 use Rattle.protocol.proofs.Judged.{passed, passed-first}
@@ -166,7 +167,7 @@ reopened-inv l j w I = go (refused (resultOf reopen (withMemory j (w .box)) .sai
         (memory-images I j) e)
 
 -- what a cut leaves is the world before the call, or after it
-pub crashed-or : (c : Call) (a : Arrival) (w : World) → (crashed c a w ≡ called c w) ⊎ (crashed c a w ≡ w)
+pub crashed-or : (c : Call) (a : Arrival) (w : World) → CutLeaves c a w
 unfolding crashed
 crashed-or c old w = inr refl
 crashed-or c new w = go (effectOf c (w .box) .store) refl

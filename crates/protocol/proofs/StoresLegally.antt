@@ -9,12 +9,14 @@ use native.Mathlib.Omega.{arith}
 use lib.ListN.{length}
 use lib.Dec.{leb}
 use borrow.Author.Tests.{leb-false}
+use Rattle.pages.specs.Pages.{IsPage}
 use Rattle.layout.specs.declared.Slot.{Slot}
 use Rattle.layout.specs.declared.Block.{Block}
 use Rattle.layout.specs.declared.Label.{Label}
 use Rattle.layout.specs.Places.{Limits, metaPages, metaPlace, metaOf, tableLength}
 use Rattle.layout.specs.LabelPage.{encodeLabel}
 use Rattle.layout.specs.MetaPage.{encodeMeta, rowsOn}
+use Rattle.layout.specs.PageRule.{PageRule}
 use Rattle.layout.proofs.RuleLaws.{page-rule}
 use Rattle.record.specs.declared.Record.{Record}
 use Rattle.record.specs.declared.Phase.{Phase}
@@ -31,11 +33,12 @@ use Rattle.protocol.specs.Calls.{decided, effectOf}
 use Rattle.protocol.specs.Beside.{stampStored, MetaStored, StoresLegally}
 use Rattle.layout.proofs.Booleans.{Told, told, told-true, told-false, clash, and-parts}
 use Rattle.protocol.proofs.model.Base.{Window, keep-window}
-use Rattle.protocol.proofs.refine.Windows.{nums, nums-off}
+use Rattle.protocol.proofs.refine.Windows.{nums, length-nums, nums-off}
 use Rattle.record.proofs.WindowLaws.{take-array}
 use Rattle.protocol.proofs.refine.Tables.{Rows}
 use Rattle.protocol.specs.Kinds.{Aim}
-use Rattle.protocol.proofs.refine.Stores.{page-stamp, page-window, page-entry, page-legal}
+use Rattle.protocol.proofs.refine.Stores.{rows-length, page-stamp, page-window, page-entry, page-legal}
+use Rattle.protocol.proofs.RoundTrip.{encoded-page, reads-back}
 use Rattle.protocol.proofs.Judged.{passed}
 use Rattle.protocol.proofs.UpdateFirst.{none-of}
 use Rattle.protocol.proofs.Sound.{Sound}
@@ -49,11 +52,19 @@ meta-stored : (l : Label) → Limits l → (table : List ℕ) → length table �
     → (p : ℕ) (ph : Phase) (r : Record) → t ≡ stampStored ph (r .newest) → windowIn r ≡ w
     → MetaStored l p (encodeMeta t w (rowsOn p table)) ph r table
 meta-stored l K table size R t fits w W z p ph r st wi = record {
-  legal = page-rule l p _ .0 (page-legal l K table size R t fits w W p z);
+  legal = legal;
+  is-page = whole;
+  again = reads-back l p _ whole legal;
   stamp = page-stamp l K table size R t fits w W p ∙ st;
   window = page-window l K table size R t fits w W p ∙ sym wi;
   entries = page-entry l K table size R t fits w W p;
 }
+  where
+    legal : PageRule l p (encodeMeta t w (rowsOn p table))
+    legal = page-rule l p _ .0 (page-legal l K table size R t fits w W p z)
+
+    whole : IsPage (encodeMeta t w (rowsOn p table))
+    whole = encoded-page t w (rowsOn p table) (omega (arith, W .fits, length-nums w)) (omega (arith, rows-length l table size p))
 
 -- what is asked of an effect
 abbrev Stores : Label → Phase → Effect → Type 0

@@ -1,15 +1,17 @@
 -- What holds beside demand 3.
-use Prim.Native.Nat.{ℕ, _%_, _≤_, _<_}
+use Prim.Native.Nat.{ℕ, _-_, _*_, _%_, min, _≤_, _<_}
 use mathlib.Core.Path.{_≡_}
-use mathlib.Core.Logic.{_≢_}
+use mathlib.Core.Logic.{_≢_, _⊎_}
 use mathlib.Core.Bool.{true, false}
 use mathlib.Core.List.{List}
 use mathlib.Core.Option.{Option, some, none}
+use Rattle.pages.specs.Pages.{pageAt, zeroPage, IsPage}
+use Rattle.pages.specs.Parts.{Part}
 use Rattle.layout.specs.declared.Slot.{Slot}
 use Rattle.layout.specs.declared.Block.{Block}
 use Rattle.layout.specs.declared.Label.{Label}
-use Rattle.layout.specs.Places.{labelOf, formatSteps, metaPages, metaPlace, slotOn}
-use Rattle.layout.specs.MetaPage.{stampOf, windowOf, entryAt}
+use Rattle.layout.specs.Places.{labelOf, formatSteps, labelPlace, metaPages, metaPlace, slotOn}
+use Rattle.layout.specs.MetaPage.{encodeMeta, rowsOn, stampOf, windowOf, entryAt, rowsFrom}
 use Rattle.layout.specs.PageRule.{PageRule, listed}
 use Rattle.record.specs.declared.Record.{Record}
 use Rattle.record.specs.declared.Phase.{Phase}
@@ -21,10 +23,10 @@ use Rattle.record.specs.Record.{labelIn, windowIn}
 use Rattle.protocol.specs.Box.{Images, Box, ssdImage, Store, Effect, refusing, boxAfter}
 use Rattle.protocol.specs.Condition.{conditionOf}
 use Rattle.protocol.specs.Plan.{Call, format, step, reopen, offer, fetch, land, landFetch}
-use Rattle.protocol.specs.Recovery.{labelAt, metasOf, entryIn, Recovered, recoverFrom}
+use Rattle.protocol.specs.Recovery.{labelAt, metasOf, entryIn, storedRows, Recovered, recoverFrom}
 use Rattle.protocol.specs.Judge.{noLabel, wrongLength, test}
-use Rattle.protocol.specs.Calls.{effectOf, resultOf}
-use Rattle.protocol.specs.Events.{World, Event, run, steps, formatted, startOf, AllFit}
+use Rattle.protocol.specs.Calls.{effectOf, resultOf, boxOf, viewOf}
+use Rattle.protocol.specs.Events.{World, Arrival, Event, lent, readOf, called, crashed, run, steps, formatted, startOf, AllFit}
 use Rattle.protocol.specs.Demand3.{storedWindow}
 
 -- On any images, table and record.
@@ -35,6 +37,9 @@ pub record FormatStores (slots blocks : ℕ) (x : Box) : Type 0 where
   pub none-first : effectOf (format slots blocks) x .store ≡ none
   pub one-each : (k : ℕ) → k < formatSteps (labelOf slots blocks)
       → (s : Store) × (effectOf step (steps k (boxAfter (resultOf (format slots blocks) x))) .store ≡ some s)
+  -- "a zero label page, the M metadata pages .., the label": from the first step till the last the label page is zero
+  pub zero-till-last : (k : ℕ) → 0 < k → k < formatSteps (labelOf slots blocks)
+      → pageAt (steps k (boxAfter (resultOf (format slots blocks) x)) .images .ssd) labelPlace ≡ zeroPage
 
 abbrev pub WholeFormat : Type 0
 WholeFormat = (slots blocks : ℕ) (x : Box) → refused (resultOf (format slots blocks) x .said) ≡ false → FormatStores slots blocks x
@@ -45,14 +50,34 @@ stampStored (Formatting d) newest = 0
 stampStored Recovering newest = newest
 stampStored Ready newest = newest
 
+-- a page read and stored with its own stamp and window is that page again, with the rows of all its entries, and with those of
+-- just its slots
+pub record StoredAgain (l : Label) (p : ℕ) (page : List ℕ) : Type 0 where
+  pub all-entries : encodeMeta (stampOf page) (windowOf page) (rowsFrom 240 (entryAt page)) ≡ page
+  pub own-slots : encodeMeta (stampOf page) (windowOf page) (rowsFrom (min 240 (l .slots - 240 * p)) (entryAt page)) ≡ page
+
+-- so of any 4,096 bytes that keep the page's rule
+abbrev pub ReadsBack : Type 0
+ReadsBack = (l : Label) (p : ℕ) (page : List ℕ) → IsPage page → PageRule l p page → StoredAgain l p page
+
+-- the same by the table's own path: the rows of all entries of an SSD image, of which page p is stored with its stamp and window
+abbrev pub TableBack : Type 0
+TableBack =
+    (l : Label) (ssd : List ℕ) (p : ℕ) → p < metaPages l
+    → IsPage (pageAt ssd (metaPlace l p)) → PageRule l p (pageAt ssd (metaPlace l p))
+    → encodeMeta (stampOf (pageAt ssd (metaPlace l p))) (windowOf (pageAt ssd (metaPlace l p))) (rowsOn p (storedRows l (metasOf l ssd)))
+    ≡ pageAt ssd (metaPlace l p)
+
 -- a metadata page that an accepted call stores keeps the page's rule, and says the table's rows without used flags, the
--- window and the stamp, as they are after the call
+-- window and the stamp, as they are after the call; read and stored again, it is the same
 pub record MetaStored (l : Label) (p : ℕ) (bytes : List ℕ) (before : Phase) (state : Record) (table : List ℕ) : Type 0 where
   pub legal : PageRule l p bytes
   pub stamp : stampOf bytes ≡ stampStored before (state .newest)
   pub window : windowOf bytes ≡ windowIn state
   pub entries : (i : ℕ) → i < 240
       → entryAt bytes i ≡ record { block = rowBlock table (slotOn p i); flags = rowFlags table (slotOn p i) % 8 }
+  pub is-page : IsPage bytes
+  pub again : StoredAgain l p bytes
 
 abbrev pub StoresLegally : Call → Box → Type 0
 StoresLegally c x =
@@ -94,6 +119,17 @@ abbrev pub ReopensFrom : Box → Type 0
 ReopensFrom x =
     test noLabel reopen x ≡ false → test wrongLength reopen x ≡ false
     → effectOf reopen x ≡ recoveredTo x (recoverFrom (labelAt (x .images .ssd)) (metasOf (labelAt (x .images .ssd)) (x .images .ssd)))
+
+-- What a view hands back does not depend on where the images lie: its number, and its bytes, which are what demand 3 reads. So
+-- view's contract, at the places of the lent images, gives `readOf`.
+pub record ReadsAnywhere (ssd hdd : Part) (table : List ℕ) (state : Record) (b : Block) : Type 0 where
+  pub number : viewOf ssd hdd table state b .number ≡ viewOf (lent (ssd .bytes)) (lent (hdd .bytes)) table state b .number
+  pub bytes : viewOf ssd hdd table state b .handed .bytes ≡ readOf (boxOf (ssd .bytes) (hdd .bytes) table state) b
+
+-- "the page of the call it breaks off old or new; that call counts as made exactly if its store was done": what a cut leaves is
+-- the world after the call or before it
+abbrev pub CutLeaves : Call → Arrival → World → Type 0
+CutLeaves c a w = (crashed c a w ≡ called c w) ⊎ (crashed c a w ≡ w)
 
 -- In a list of demand 3, update before data: what is stored of a slot as bytes land in it.
 

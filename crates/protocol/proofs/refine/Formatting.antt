@@ -340,7 +340,19 @@ module _ (slots blocks : ℕ) (x : Box) (taken : refused (resultOf (format slots
         ∙ stores-at l (x .images .ssd) (x .images .hdd) (B .limits) (B .ssd-size) (B .hdd-size) k h,
   )
 
+  -- and till the last of them the label page is zero
+  zero-label : (k : ℕ) → 0 < k → k < formatSteps (labelOf slots blocks)
+      → pageAt (steps k (boxAfter (resultOf (format slots blocks) x)) .images .ssd) labelPlace ≡ zeroPage
+  zero-label zero p h = absurd (omega arith)
+  zero-label (suc d) p h =
+      ap (λ (y : Box). pageAt (y .images .ssd) labelPlace) (steps-box (suc d) (omega arith))
+      ∙ format-zero l (x .images .ssd) (x .images .hdd) (B .limits) (B .ssd-size) (B .hdd-size) d (omega arith)
+
 -- a whole format stores M + 2 pages
 pub whole-stores : WholeFormat
 whole-stores slots blocks x f = let q = format-stores slots blocks x f in
-    record { none-first = q .0; one-each = λ k h. (storeAt (labelOf slots blocks) k, q .1 k h) }
+    record {
+      none-first = q .0;
+      one-each = λ k h. (storeAt (labelOf slots blocks) k, q .1 k h);
+      zero-till-last = zero-label slots blocks x f;
+    }

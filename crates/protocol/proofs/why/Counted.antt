@@ -10,7 +10,7 @@ use lib.ListN.{length, getD}
 use lib.Dec.{leb}
 use borrow.Author.Tests.{leb-true, le-leb}
 use Rattle.layout.specs.declared.Slot.{Slot}
-use Rattle.layout.proofs.Booleans.{Told, told, told-true, told-false, clash}
+use Rattle.layout.proofs.Booleans.{Told, told, told-true, told-false}
 use Rattle.layout.proofs.RuleLaws.{_⇔_}
 use Rattle.protocol.specs.Rows.{writing, openRows}
 use Rattle.protocol.specs.Why.{Open}
