@@ -4,4 +4,5 @@ pub mod Quick
 pub mod QuickRows
 pub mod Known
 pub mod Cases
+pub mod Rejected
 pub mod Shown

@@ -444,6 +444,12 @@ usually : (p : Script) → p .world .box ≡ fresh usual (textOf 52 56) → Size
     → Computed p (fresh usual (textOf 52 56)) → Holds (script p)
 usually p = shows p (fresh usual (textOf 52 56))
 
+pub shown-3 : Holds (script p3)
+shown-3 = usually p3 start-usual sized-usual computed-3
+
+pub shown-4 : Holds (script p4)
+shown-4 = usually p4 start-usual sized-usual computed-4
+
 -- The table, and the statement: all of it holds.
 pub cases : List Case
 cases =
@@ -455,8 +461,8 @@ all-cases =
     P1
     also P1-size
     also usually p2 start-usual sized-usual computed-2
-    also usually p3 start-usual sized-usual computed-3
-    also usually p4 start-usual sized-usual computed-4
+    also shown-3
+    also shown-4
     also usually p5 start-usual sized-usual computed-5
     also usually p6 start-usual sized-usual computed-6
     also usually p7 start-usual sized-usual computed-7
