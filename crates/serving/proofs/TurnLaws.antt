@@ -11,7 +11,7 @@ use Rattle.layout.specs.declared.Slot.{Slot}
 use Rattle.layout.specs.declared.Block.{Block}
 use Rattle.layout.specs.declared.Label.{Label}
 use Rattle.layout.specs.Places.{Limits, tableLength}
-use Rattle.layout.proofs.Booleans.{Told, told, told-true, told-false}
+use Rattle.layout.proofs.Booleans.{Told, told, told-true, told-false, clash}
 use Rattle.layout.proofs.PlaceLaws.{within}
 use Rattle.record.specs.declared.Record.{Record}
 use Rattle.record.specs.Record.{labelIn}
@@ -36,10 +36,10 @@ use Rattle.table.specs.declared.Swept.the-variants.{Took, Stuck}
 use Rattle.table.specs.Scan.{legalRows}
 use Rattle.table.specs.Sweeps.{sweptOf, clearedFrom}
 use Rattle.serving.specs.declared.turn.Turn.{Turn}
-use Rattle.serving.specs.declared.turn.Turn.the-variants.{Refused, Opens, CopiesOut}
+use Rattle.serving.specs.declared.turn.Turn.the-variants.{Refused, Passes, Opens, CopiesOut}
 use Rattle.serving.specs.declared.Judged.{Judged}
 use Rattle.serving.specs.Judging.{servesThen}
-use Rattle.serving.specs.Turns.{Seen, Within, ifRoom, takeTurn, sweepTurn, cleanTurn, offerTurn, fetchTurn, Performable, spent, tableAfter, turned}
+use Rattle.serving.specs.Turns.{Seen, Within, isPass, ifRoom, takeTurn, sweepTurn, cleanTurn, offerTurn, fetchTurn, Performable, spent, tableAfter, turned}
 use Rattle.protocol.proofs.Judged.{refuses, does, first-yes, first-no}
 use Rattle.serving.proofs.ServeLaws.{end, judged-on, offer-judges, fetch-judges}
 use Rattle.serving.proofs.ReadyLaws.{ReadyBox, serves, open-count}
@@ -65,6 +65,13 @@ where-within r t b (Clean s) w = w .low
 where-within r t b (Dirty s) w = w .low
 where-within r t b (Writing s) w = w .low
 where-within r t b (Fetching s) w = w .low
+
+-- there is one turn that passes
+pub pass-is : (T : Turn) → isPass T ≡ true → T ≡ Passes
+pass-is (Refused n) e = clash e refl
+pass-is Passes e = refl
+pass-is (Opens s flags passed hand) e = clash e refl
+pass-is (CopiesOut s passed) e = clash e refl
 
 -- what judging found is what a turn is decided on
 pub seen : (ssd hdd : List ℕ) (page : ℕ) (t : List ℕ) (r : Record) (b : Block) (j : Judged) → Served ssd hdd page t r b j

@@ -79,6 +79,13 @@ fetchTurn table r (Dirty s) = Refused (numberOf hasSlot)
 fetchTurn table r (Writing s) = Refused (numberOf slotOpen)
 fetchTurn table r (Fetching s) = Refused (numberOf slotOpen)
 
+-- a turn that leaves everything as it is, and is no refusal
+abbrev pub isPass : Turn → Bool
+isPass (Refused n) = false
+isPass Passes = true
+isPass (Opens s flags passed hand) = false
+isPass (CopiesOut s passed) = false
+
 -- what a turn asks of table and record where it is performed
 abbrev pub Performable : Turn → List ℕ → Record → Type 0
 Performable (Refused n) table r = Unit {0}

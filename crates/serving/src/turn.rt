@@ -11,7 +11,7 @@ ghost use Prim.Native.Nat.{_+_, _*_, _<_};
 ghost use lib.ListN.{length};
 ghost use Rattle.layout.specs.Places.{tableLength};
 ghost use Rattle.table.specs.declared.Swept.the-variants.{Took};
-ghost use Rattle.serving.specs.Turns.{Seen, Within, takeTurn, sweepTurn, cleanTurn, offerTurn, fetchTurn};
+ghost use Rattle.serving.specs.Turns.{Seen, Within, isPass, takeTurn, sweepTurn, cleanTurn, offerTurn, fetchTurn};
 
 // What an offer or a fetch does: refused by a number (8, 10, 11 or 12); passes, the answer being "overwrite"; opens a slot with these
 // flags, after so many slots were passed, which lose their used flags, and leaves the hand on the last one named; copies out a
@@ -21,6 +21,18 @@ pub enum Turn {
     Passes,
     Opens(Slot, u32, u32, Slot),
     CopiesOut(Slot, u32),
+}
+
+// Whether a turn leaves everything as it is, and is no refusal.
+pub fn passes(turn: Turn) -> bool
+    ensures { λ r. ⌜ r ≡ isPass turn ⌝ }
+{
+    match turn {
+        Turn::Refused(_) => false,
+        Turn::Passes => true,
+        Turn::Opens(_, _, _, _) => false,
+        Turn::CopiesOut(_, _) => false,
+    }
 }
 
 // A slot that the sweep took, after it passed so many: copied out where it is dirty, else opened.

@@ -1,5 +1,6 @@
 // "Offer a write of a block": dirty and not open "overwrite", clean "announced", not cached swept for.
 use layout::Block;
+use protocol::Answer;
 use protocol::Outcome;
 use record::Record;
 use serving::answers;
@@ -25,5 +26,9 @@ pub fn offer(
     }
     let condition = seen.condition;
     let turn = turn::offer(table, state, condition, seen.writing);
+    if turn::passes(turn) {
+        // at once: performing a turn copies the record
+        return answers::answered(Answer::Overwrite, state);
+    }
     perform::perform(ssd, hdd, table, state, block, turn)
 }

@@ -1,13 +1,14 @@
-use mathlib.Core.Path.{refl, sym, ap, _∙_}
+use mathlib.Core.Path.{_≡_, refl, sym, ap, _∙_}
 use Rattle.protocol.specs.Box.{Effect, left}
 use Rattle.protocol.specs.Plan.{offer}
-use Rattle.protocol.specs.Calls.{boxOf}
+use Rattle.protocol.specs.Perform.{confirmed, perform}
+use Rattle.protocol.specs.Calls.{boxOf, offerOf}
 use Rattle.serving.specs.declared.turn.Turn.{Turn}
 use Rattle.serving.specs.Turns.{Within, offerTurn, turned}
 use Rattle.serving.proofs.JudgingLaws.{found}
 use Rattle.serving.proofs.ServeLaws.{refused-by, offer-judges}
 use Rattle.serving.proofs.ServedLaws.{Served, served}
-use Rattle.serving.proofs.TurnLaws.{seen, where-within, offer-performs, offer-turned}
+use Rattle.serving.proofs.TurnLaws.{pass-is, seen, where-within, offer-performs, offer-turned}
 use borrow.Author.Needs.{needs}
 use Rattle.write_path.proofs.offer.offer.Statement.{statement}
 use Rattle.write_path.proofs.offer.offer.Tie as tie
@@ -53,16 +54,44 @@ offer-requires c κs =
       within e,
     )
 
-perform-requires : tie.Need-perform-requires
-perform-requires c κs =
-    let e = c .before .before .before .before .before in
+-- what its turn leaves is what the call does
+offered : (d : tie.After-offer) → let a = start (d .before .before) .args in let x = boxOf (a .ssd .now) (a .hdd .now) (a .table .now) (a .state) in
+    left (turned (d .offer .result) (a .block) x) (x .images) ≡ offerOf (a .ssd .now) (a .hdd .now) (a .table .now) (a .state) (a .block)
+offered d =
+    let e = d .before .before in
     let a = start e .args in
-    let B = known e .box .box in
-    let p = offer-performs (a .ssd .now) (a .hdd .now) (a .table .now) (a .state) (a .block) (known e .none) (e .before .judge-block .result .condition) (within e) in
-    (B .fits, (B .sound .hdd-size, (B .record-kept, (B .rows, rw (c .before .before .before .offer .ensures) p))))
+    let x = boxOf (a .ssd .now) (a .hdd .now) (a .table .now) (a .state) in
+    ap (λ (T : Turn). left (turned T (a .block) x) (x .images))
+    (d .offer .ensures ∙ ap (offerTurn (a .table .now) (a .state)) (sym (known e .is _ refl)))
+    ∙ ap (λ (f : Effect). left f (x .images)) (sym (offer-turned (a .ssd .now) (a .hdd .now) (a .table .now) (a .state) (a .block) (known e .none)))
+
+passes-requires : tie.Need-passes-requires
+passes-requires c κs = search needs
+
+answered-requires : tie.Need-answered-requires
+answered-requires c κs = search needs
 
 same-length-2 : tie.Need-same-length-2
 same-length-2 c = search needs
+
+returns-2 : tie.Need-returns-2
+unfolding confirmed perform
+returns-2 c =
+    let p = c .before .before in
+    let d = p .before in
+    let a = start (d .before .before) .args in
+    let x = boxOf (a .ssd .now) (a .hdd .now) (a .table .now) (a .state) in
+    rw (c .answered .ensures .0, c .answered .ensures .1)
+    (ap (λ (T : Turn). left (turned T (a .block) x) (x .images)) (sym (pass-is (d .offer .result) (sym (p .passes .ensures) ∙ c .before .if2 .taken))) ∙ offered d)
+
+perform-requires : tie.Need-perform-requires
+perform-requires c κs =
+    let d = c .before .before .before .before .before in
+    let e = d .before .before in
+    let a = start e .args in
+    let B = known e .box .box in
+    let p = offer-performs (a .ssd .now) (a .hdd .now) (a .table .now) (a .state) (a .block) (known e .none) (e .before .judge-block .result .condition) (within e) in
+    (B .fits, (B .sound .hdd-size, (B .record-kept, (B .rows, rw (d .offer .ensures) p))))
 
 same-length-3 : tie.Need-same-length-3
 same-length-3 c = search needs
@@ -70,16 +99,13 @@ same-length-3 c = search needs
 same-length-4 : tie.Need-same-length-4
 same-length-4 c = search needs
 
-returns-2 : tie.Need-returns-2
-returns-2 c =
-    let d = c .before .before .before .before .before .before .before .before .before .before in
-    let e = d .before .before in
-    let a = start e .args in
-    let x = boxOf (a .ssd .now) (a .hdd .now) (a .table .now) (a .state) in
-    c .before .before .before .before .before .before .perform .ensures
-    ∙ ap (λ (T : Turn). left (turned T (a .block) x) (x .images))
-    (d .offer .ensures ∙ ap (offerTurn (a .table .now) (a .state)) (sym (known e .is _ refl)))
-    ∙ ap (λ (f : Effect). left f (x .images)) (sym (offer-turned (a .ssd .now) (a .hdd .now) (a .table .now) (a .state) (a .block) (known e .none)))
+same-length-5 : tie.Need-same-length-5
+same-length-5 c = search needs
+
+returns-3 : tie.Need-returns-3
+returns-3 c =
+    let f = c .before .before .before .before .before .before in
+    f .perform .ensures ∙ offered (f .before .before .before .before .before .before)
 
 pub offer-spec : {M : Type 1} → statement M
 offer-spec =
@@ -90,8 +116,12 @@ offer-spec =
     same-length
     returns
     offer-requires
-    perform-requires
+    passes-requires
+    answered-requires
     same-length-2
+    returns-2
+    perform-requires
     same-length-3
     same-length-4
-    returns-2)
+    same-length-5
+    returns-3)
