@@ -17,6 +17,7 @@ use Rattle.layout.specs.PageRule.{listed, distinct, inRange}
 use Rattle.layout.specs.Window.{slotsIn, arrayOf, windowFrom, ZeroPast}
 use Rattle.layout.proofs.Loops.{left}
 use Rattle.record.specs.Window.{zeroSlots, eachSlot, without}
+use Rattle.record.proofs.Examples as computed-first
 
 -- of a test that one place passes: the search stops there, and goes on where not
 pub hit : {whole now : Bool} (t rest : Bool) → now ≡ whole → now ≡ (t || rest) → t ≡ true → true ≡ whole
