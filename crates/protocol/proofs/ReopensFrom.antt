@@ -12,7 +12,7 @@ use Rattle.protocol.specs.Perform.{perform}
 use Rattle.protocol.specs.Judge.{Reason, noLabel, wrongLength, badRows, test, firstOf, judged}
 use Rattle.protocol.specs.Calls.{decided, effectOf}
 use Rattle.protocol.specs.Beside.{recoveredTo, ReopensFrom}
-use Rattle.protocol.proofs.cases.Shown as computed-first
+use Rattle.protocol.proofs.cases.Edges as computed-first
 
 decided-from : (x : Box) (l : Label) (pages : List (List ℕ)) → l ≡ labelAt (x .images .ssd) → pages ≡ metasOf l (x .images .ssd) → (t : Bool)
     → decided (elim (not t) [ true ↦ some badRows | false ↦ none ]) reopen x ≡ recoveredTo x (recoverIf t l pages)

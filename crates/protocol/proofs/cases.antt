@@ -6,3 +6,4 @@ pub mod Known
 pub mod Cases
 pub mod Rejected
 pub mod Shown
+pub mod Edges

@@ -369,7 +369,7 @@ windows =
     ∷ []
 
 -- the lengths of such a box are known
-counted : (c : Call) (table : List ℕ) (state : Record) (wanted : Effect)
+pub counted : (c : Call) (table : List ℕ) (state : Record) (wanted : Effect)
     → sameLabel (labelFor (kind c) (boxed table state)) one ≡ true
     → effectKnown one c (boxed table state) ≡ wanted
     → effectOf c (boxed table state) ≡ wanted
