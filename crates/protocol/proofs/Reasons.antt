@@ -6,14 +6,20 @@ use mathlib.Core.Bool.{Bool, true, false, _||_}
 use mathlib.Core.List.{List, [], _∷_}
 use mathlib.Core.Option.{Option, some, none, Option·some-injective, Option·some-ne-none}
 use lib.Dec.{eqb}
-use Rattle.protocol.specs.Judge.{Reason, badLimits, noLabel, badRecord, wrongLength, badRows, wrongPhase, blockTooHigh, slotOpen, wrongState, hasSlot, windowFull, allOpen, stampsSpent, numberOf, order}
+use Rattle.protocol.specs.Judge.{Reason, badLimits, noLabel, badRecord, wrongLength, badRows, wrongPhase, blockTooHigh, slotOpen, wrongState, hasSlot, windowFull, allOpen, stampsSpent, numberOf}
+
+-- all reasons
+abbrev every : List Reason
+every =
+    badLimits ∷ noLabel ∷ badRecord ∷ wrongLength ∷ badRows ∷ wrongPhase ∷ blockTooHigh ∷ slotOpen ∷ wrongState ∷ hasSlot ∷ windowFull
+    ∷ allOpen ∷ stampsSpent ∷ []
 
 -- a number is one reason's, and 0 is none's
 unfoldable pub numbered : List Reason → ℕ → Option Reason
 numbered [] n = none
 numbered (r ∷ rs) n = elim (eqb (numberOf r) n) [ true ↦ some r | false ↦ numbered rs n ]
 
-pub number-back : (r : Reason) → numbered order (numberOf r) ≡ some r
+pub number-back : (r : Reason) → numbered every (numberOf r) ≡ some r
 unfolding numbered
 number-back badLimits = refl
 number-back noLabel = refl
@@ -30,11 +36,11 @@ number-back allOpen = refl
 number-back stampsSpent = refl
 
 pub number-is : (q r : Reason) → numberOf q ≡ numberOf r → q ≡ r
-number-is q r e = Option·some-injective q r (sym (number-back q) ∙ ap (numbered order) e ∙ number-back r)
+number-is q r e = Option·some-injective q r (sym (number-back q) ∙ ap (numbered every) e ∙ number-back r)
 
 pub number-some : (r : Reason) → numberOf r ≢ 0
 unfolding numbered
-number-some r e = Option·some-ne-none r (sym (number-back r) ∙ ap (numbered order) e)
+number-some r e = Option·some-ne-none r (sym (number-back r) ∙ ap (numbered every) e)
 
 -- is a reason in a chain: of a reason and a call that are given it computes
 abbrev pub belongs : Reason → List Reason → Bool

@@ -48,12 +48,6 @@ numberOf windowFull = 11
 numberOf allOpen = 12
 numberOf stampsSpent = 13
 
--- all of them, in the order of judging
-abbrev pub order : List Reason
-order =
-    badLimits ∷ noLabel ∷ badRecord ∷ wrongLength ∷ badRows ∷ wrongPhase ∷ blockTooHigh ∷ slotOpen ∷ wrongState ∷ hasSlot ∷ windowFull
-    ∷ allOpen ∷ stampsSpent ∷ []
-
 -- the label by which a call judges lengths: format by its arguments, reopen by the label page, others by the record
 abbrev pub labelFor : Kind → Box → Label
 labelFor (aFormat l) x = l
