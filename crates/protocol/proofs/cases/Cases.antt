@@ -60,6 +60,11 @@ infixr 20 _also_
 abbrev pub _also_ : {A B : Type 0} → A → B → A × B
 a also b = (a, b)
 
+-- a case that is computed only where the one before it holds: a wrong definition stops at the first case that shows it
+infixr 10 _first_
+abbrev pub _first_ : {A B : Type 0} → A → B → B
+a first b = b
+
 -- "Slots 4, blocks 8 unless said"
 abbrev pub usual : Label
 usual = labelOf 4 8
@@ -370,7 +375,7 @@ start-usual = start-fresh usual (textOf 52 56) refl P1
 
 computed-one : Computed (formatted-as one (textOf 49 50)) (unformatted one)
 unfolding known textOf
-computed-one = refl
+computed-one = computed-1 first refl
 
 unformatted-one : Sized one (unformatted one .images)
 unfolding known
@@ -384,7 +389,7 @@ start-one =
 
 computed-two : Computed (formatted-as two (textOf 50 51)) (unformatted two)
 unfolding known textOf
-computed-two = refl
+computed-two = computed-one first refl
 
 unformatted-two : Sized two (unformatted two .images)
 unfolding known
@@ -406,39 +411,39 @@ sized-two = record { ssd-size = refl; hdd-size = refl }
 
 computed-2 : Computed p2 (fresh usual (textOf 52 56))
 unfolding known textOf
-computed-2 = refl
+computed-2 = computed-two first refl
 
 computed-3 : Computed p3 (fresh usual (textOf 52 56))
 unfolding known textOf
-computed-3 = refl
+computed-3 = computed-2 first refl
 
 computed-4 : Computed p4 (fresh usual (textOf 52 56))
 unfolding known textOf
-computed-4 = refl
+computed-4 = computed-3 first refl
 
 computed-5 : Computed p5 (fresh usual (textOf 52 56))
 unfolding known textOf
-computed-5 = refl
+computed-5 = computed-4 first refl
 
 computed-6 : Computed p6 (fresh usual (textOf 52 56))
 unfolding known textOf
-computed-6 = refl
+computed-6 = computed-5 first refl
 
 computed-7 : Computed p7 (fresh usual (textOf 52 56))
 unfolding known textOf
-computed-7 = refl
+computed-7 = computed-6 first refl
 
 computed-8 : Computed p8 (fresh one (textOf 49 50))
 unfolding known textOf
-computed-8 = refl
+computed-8 = computed-7 first refl
 
 computed-9 : Computed p9 (fresh two (textOf 50 51))
 unfolding known textOf
-computed-9 = refl
+computed-9 = computed-8 first refl
 
-computed-10 : Holds p10
+pub computed-10 : Holds p10
 unfolding known walked bothWalked quickTest quickRecover
-computed-10 = quick-recover 8 page₀ page₁ ∙ refl
+computed-10 = computed-9 first quick-recover 8 page₀ page₁ ∙ refl
 
 usually : (p : Script) → p .world .box ≡ fresh usual (textOf 52 56) → Sized (p .sizes) (fresh usual (textOf 52 56) .images)
     → Computed p (fresh usual (textOf 52 56)) → Holds (script p)

@@ -17,8 +17,8 @@ use Rattle.protocol.specs.Judge.{stampsSpent}
 use Rattle.protocol.specs.Events.{call, cut, old, new, startOf}
 use Rattle.protocol.proofs.cases.Report.{nothing, meta, slot, line, diskOf, rubbish, start, filled, metaPage, labelPage, pages}
 use Rattle.protocol.proofs.cases.Known.{Sized, known}
-use Rattle.protocol.proofs.cases.Cases.{Script, scripted, Case, script, Computed, shows, move, condition, Holds, AllHold, _also_, usual, one, two, many, textOf, fresh, start-one, sized-one}
-use Rattle.protocol.proofs.cases.Shown.{held, leaving, stores, keptRows, pending, imageless, storing, boxed, settledAt, openAt, refusesBy, counted}
+use Rattle.protocol.proofs.cases.Cases.{Script, scripted, Case, script, Computed, shows, move, condition, Holds, AllHold, _also_, _first_, usual, one, two, many, textOf, fresh, start-one, sized-one}
+use Rattle.protocol.proofs.cases.Shown.{held, leaving, stores, keptRows, pending, imageless, storing, boxed, settledAt, openAt, refusesBy, counted, Windows}
 
 -- Moves of a box of four slots, its images left out.
 abbrev pub four : List ℕ → ℕ → ℕ → Phase → Bool → List Slot → Box
@@ -134,23 +134,23 @@ cuts =
 
 Wide : AllHold wide
 unfolding known textOf
-Wide = (refl, (refl, (refl, (refl, (refl, tt)))))
+Wide = Windows first (refl, (refl, (refl, (refl, (refl, tt)))))
 
 Narrow : AllHold narrow
 unfolding known
-Narrow = (refl, (refl, (refl, tt)))
+Narrow = Wide first (refl, (refl, (refl, tt)))
 
 Flushed : Holds flushed
 unfolding known keptRows
-Flushed = refl
+Flushed = Narrow first refl
 
 Stamps : AllHold stamps
 unfolding known textOf
-Stamps = (refl, (refl, (refl, (refl, tt))))
+Stamps = Flushed first (refl, (refl, (refl, (refl, tt))))
 
 Edge-refusals : AllHold edge-refusals
 unfolding known textOf
-Edge-refusals = counted _ _ _ _ refl refl also counted _ _ _ _ refl refl also counted _ _ _ _ refl refl also tt
+Edge-refusals = Stamps first counted _ _ _ _ refl refl also counted _ _ _ _ refl refl also counted _ _ _ _ refl refl also tt
 
 sized-held : Sized two (held (1 ∷ 1 ∷ 0 ∷ 0 ∷ []) 1 false [] .images)
 unfolding known
@@ -158,11 +158,11 @@ sized-held = record { ssd-size = refl; hdd-size = refl }
 
 computed-clean-viewed : Computed clean-viewed (held (1 ∷ 1 ∷ 0 ∷ 0 ∷ []) 1 false [])
 unfolding known
-computed-clean-viewed = refl
+computed-clean-viewed = Edge-refusals first refl
 
 computed-cuts : Computed cuts (fresh one (textOf 49 50))
 unfolding known textOf
-computed-cuts = refl
+computed-cuts = computed-clean-viewed first refl
 
 -- All of it holds.
 pub edges : List Case

@@ -13,8 +13,7 @@ use Rattle.layout.specs.declared.Label.{Label}
 use Rattle.layout.specs.declared.Entry.{Entry}
 use Rattle.layout.specs.Places.{labelOf}
 use Rattle.layout.specs.MetaPage.{decodeEntry, entryPart, rowsFrom}
-use Rattle.record.specs.Record.{recordOf}
-use Rattle.protocol.specs.Recovery.{entryIn, Newest, newestOf, eachLegal, stampsDiffer, noneTwice, allOpenIn, pagesTest, recovered, phaseOf, Recovered, recover, recoverIf, recoverFrom}
+use Rattle.protocol.specs.Recovery.{entryIn, Newest, newestOf, eachLegal, stampsDiffer, noneTwice, allOpenIn, pagesTest, recovered, Recovered, recover, recoverIf, recoverFrom}
 
 -- the rows of n entries from slot s on, each in its own 8 of the bytes, after a function of slot and entry
 unfoldable pub walked : (Slot → Entry → Entry) → ℕ → ℕ → List ℕ → List ℕ
@@ -100,10 +99,10 @@ pick false r = none
 
 unfoldable pub quickRecover : Label → List ℕ → List ℕ → Option Recovered
 quickRecover l page₀ page₁ =
-    let n = newestOf (page₀ ∷ page₁ ∷ []) in
+    let pages = page₀ ∷ page₁ ∷ [] in
     pick (quickTest l page₀ page₁) (record {
-      table = bothWalked (recovered (n .window)) page₀ page₁;
-      state = recordOf l (record { 0 = 0 }) (n .stamp) (phaseOf (n .window)) false (n .window);
+      table = bothWalked (recovered (newestOf pages .window)) page₀ page₁;
+      state = recover l pages .state;
     })
 
 picked : (b : Bool) (l : Label) (pages : List (List ℕ)) → recoverIf b l pages ≡ pick b (recover l pages)
@@ -122,9 +121,5 @@ quick-recover blocks page₀ page₁ =
     pick (eachLegal l 0 pages && (stampsDiffer pages && (noneTwice rows && allOpenIn pages (n .window)))) (recover l pages))
     (both-rows (λ s e. e) page₀ page₁)
     ∙ ap (λ (rows : List ℕ).
-    pick (quickTest l page₀ page₁) (record {
-      table = rows;
-      state =
-          recordOf l (record { 0 = 0 }) (n .stamp) (phaseOf (n .window)) false (n .window);
-    }))
+    pick (quickTest l page₀ page₁) (record { table = rows; state = recover l pages .state }))
     (both-rows (recovered (n .window)) page₀ page₁)

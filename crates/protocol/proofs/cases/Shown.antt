@@ -24,7 +24,7 @@ use Rattle.protocol.proofs.cases.Report.{nothing, meta, slot, line, dis
 use Rattle.layout.proofs.PlaceLaws.{sameLabel}
 use Rattle.protocol.proofs.cases.Known.{effectKnown, effect-known, known}
 use Rattle.protocol.proofs.cases.QuickRows.{walked, bothWalked, quickTest, quickRecover, quick-recover}
-use Rattle.protocol.proofs.cases.Cases.{Script, scripted, Case, script, Computed, shows, recovery, effect, move, condition, Holds, AllHold, _also_, usual, one, two, many, textOf, fresh, start-one, start-two, sized-one, sized-two}
+use Rattle.protocol.proofs.cases.Cases.{Script, scripted, Case, script, Computed, shows, recovery, effect, move, condition, Holds, AllHold, _also_, _first_, computed-10, usual, one, two, many, textOf, fresh, start-one, start-two, sized-one, sized-two}
 
 -- Scripts.
 
@@ -99,15 +99,15 @@ unserved =
 
 computed-both-open : Computed both-open (fresh two (textOf 50 51))
 unfolding known textOf
-computed-both-open = refl
+computed-both-open = computed-10 first refl
 
 computed-overwritten : Computed overwritten (fresh one (textOf 49 50))
 unfolding known textOf
-computed-overwritten = refl
+computed-overwritten = computed-both-open first refl
 
 computed-unserved : Computed unserved (fresh one (textOf 49 50))
 unfolding known textOf
-computed-unserved = refl
+computed-unserved = computed-overwritten first refl
 
 -- Moves: what a call does to a box of two slots where nothing refuses it. The used flag (8) outlives an offer of a clean block,
 -- the landing and the writing back; neither that offer nor the writing back moves the hand, which is on slot 1.
@@ -159,7 +159,7 @@ moves =
 
 Moves : AllHold moves
 unfolding known
-Moves = (refl, (refl, (refl, (refl, (refl, (refl, (refl, (refl, (refl, (refl, (refl, tt)))))))))))
+Moves = computed-unserved first (refl, (refl, (refl, (refl, (refl, (refl, (refl, (refl, (refl, (refl, (refl, tt)))))))))))
 
 -- Mending over two metadata pages, of 241 slots. Page 0 has stamp 1, slot 0 in its window, entry 0 block 5 flags 7 and entry 1
 -- block 3 flags 3; page 1 has stamp 2, slots 0 and 240 in its window, entry 240 block 6 flags 7. So slots 0 and 240 are pending.
@@ -220,23 +220,23 @@ cut-after = recovery many (mended₀ ∷ mended₁ ∷ []) (some (pending 4 Read
 
 Opened : Holds opened
 unfolding known walked bothWalked quickTest quickRecover keptRows
-Opened = quick-recover 8 older newer ∙ refl
+Opened = Moves first quick-recover 8 older newer ∙ refl
 
 First-step : Holds first-step
 unfolding known keptRows
-First-step = refl
+First-step = Opened first refl
 
 Cut-between : Holds cut-between
 unfolding known walked bothWalked quickTest quickRecover keptRows
-Cut-between = quick-recover 8 mended₀ newer ∙ refl
+Cut-between = First-step first quick-recover 8 mended₀ newer ∙ refl
 
 Second-step : Holds second-step
 unfolding known keptRows
-Second-step = refl
+Second-step = Cut-between first refl
 
 Cut-after : Holds cut-after
 unfolding known walked bothWalked quickTest quickRecover keptRows
-Cut-after = quick-recover 8 mended₀ mended₁ ∙ refl
+Cut-after = Second-step first quick-recover 8 mended₀ mended₁ ∙ refl
 
 -- Refusals, each of which leaves everything as it was: of a box of one slot and two blocks, with this table and record.
 abbrev pub boxed : List ℕ → Record → Box
@@ -377,12 +377,12 @@ counted c table state wanted e h = effect-known one c (boxed table state) sized-
 
 Refusals : AllHold refusals
 unfolding known textOf effectOf judged lengthTest lengthsTest
-Refusals = (refl, (refl, (refl, (refl, (refl, (refl, (refl, (refl, (refl, (refl, tt))))))))))
+Refusals = Cut-after first (refl, (refl, (refl, (refl, (refl, (refl, (refl, (refl, (refl, (refl, tt))))))))))
 
 Row-refusals : AllHold row-refusals
 unfolding known textOf
 Row-refusals =
-    counted _ _ _ _ refl refl
+    Refusals first counted _ _ _ _ refl refl
     also counted _ _ _ _ refl refl
     also counted _ _ _ _ refl refl
     also counted _ _ _ _ refl refl
@@ -394,7 +394,7 @@ Row-refusals =
 Call-refusals : AllHold call-refusals
 unfolding known textOf
 Call-refusals =
-    counted _ _ _ _ refl refl
+    Row-refusals first counted _ _ _ _ refl refl
     also counted _ _ _ _ refl refl
     also counted _ _ _ _ refl refl
     also counted _ _ _ _ refl refl
@@ -411,15 +411,15 @@ Call-refusals =
 
 Page-refusals : AllHold page-refusals
 unfolding known
-Page-refusals = (refl, (refl, (refl, (refl, (refl, (refl, (refl, (refl, (refl, (refl, (refl, (refl, (refl, (refl, (refl, tt)))))))))))))))
+Page-refusals = Call-refusals first (refl, (refl, (refl, (refl, (refl, (refl, (refl, (refl, (refl, (refl, (refl, (refl, (refl, (refl, (refl, tt)))))))))))))))
 
 Same-stamps : Holds same-stamps
 unfolding known walked bothWalked quickTest quickRecover
-Same-stamps = quick-recover 8 (metaPage (1 ∷ []) [] []) (metaPage (1 ∷ []) [] []) ∙ refl
+Same-stamps = Page-refusals first quick-recover 8 (metaPage (1 ∷ []) [] []) (metaPage (1 ∷ []) [] []) ∙ refl
 
-Windows : AllHold windows
+pub Windows : AllHold windows
 unfolding known openRowsFrom
-Windows = (refl, (refl, (refl, (refl, (refl, (refl, (refl, (refl, tt))))))))
+Windows = Same-stamps first (refl, (refl, (refl, (refl, (refl, (refl, (refl, (refl, tt))))))))
 
 -- All of it holds.
 pub shown : List Case
