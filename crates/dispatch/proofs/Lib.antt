@@ -1,1 +1,2 @@
 pub mod DispatchLaws
+pub mod ViewReads

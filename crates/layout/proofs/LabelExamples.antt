@@ -5,7 +5,7 @@ use mathlib.Core.Path.{_≡_, refl}
 use mathlib.Core.List.{List, [], _∷_, _++_}
 use Rattle.pages.specs.Pages.{padded}
 use Rattle.layout.specs.declared.LabelRead.the-variants.{Legal, Illegal}
-use Rattle.layout.specs.Places.{labelOf, withinLimits}
+use Rattle.layout.specs.Places.{labelOf, withinLimits, metaPages}
 use Rattle.layout.specs.LabelPage.{cacheLine, layoutLine, slotsKey, blocksKey, after, numberFrom, number, allZero, decodeLabel}
 
 -- the bytes after the second line
@@ -33,3 +33,9 @@ past-limit = refl
 byte-after : decodeLabel (padded 4096 (cacheLine ++ (layoutLine ++ (rest ++ (10 ∷ []))))) ≡ Illegal
 unfolding decodeLabel after number numberFrom allZero withinLimits padded
 byte-after = refl
+
+-- "M metadata pages, M = slots/240 rounded up", where it is a whole number and one past it
+rounded-up : (metaPages (labelOf 240 8) ≡ 1) × (metaPages (labelOf 241 8) ≡ 2) × (metaPages (labelOf 480 8) ≡ 2)
+    × (metaPages (labelOf 57600 8) ≡ 240)
+unfolding metaPages
+rounded-up = (refl, refl, refl, refl)

@@ -10,6 +10,7 @@ use Rattle.layout.specs.declared.Slot.{Slot}
 use Rattle.layout.specs.declared.Label.{Label}
 use Rattle.layout.specs.Places.{labelOf, Limits, withinLimits, metaPages, metaOf}
 use Rattle.layout.proofs.Booleans.{and-parts}
+use Rattle.layout.proofs.LabelExamples as computed-first
 
 -- a test from its fact
 pub ruleset tests = (eq-eqb, ne-eqb, le-leb, lt-leb, le-ltb, lt-ltb)
