@@ -6,7 +6,6 @@ use layout::Label;
 use layout::Slot;
 use layout::places;
 use protocol::Condition;
-use serving::judge;
 ghost use mathlib.Core.Path.{_≡_};
 ghost use Rattle.layout.specs.Places.{dataPlace, blockPlace};
 ghost use Rattle.ferjulm.specs.View.{pageOf, placeFor, cView};
@@ -61,7 +60,7 @@ pub extern "C" fn ferjulm_view(
         return 3;
     }
     let state = words::unpack(words);
-    let judged = judge::judge_block(ssd.len(), hdd.len(), 4096, table, state, Block(block));
+    let judged = judging::judge_block(ssd.len(), hdd.len(), 4096, table, state, Block(block));
     let number = judged.number;
     if number != 0 {
         return number;

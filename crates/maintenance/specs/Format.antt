@@ -6,7 +6,7 @@ use lib.ListN.{length, replicate}
 use Rattle.layout.specs.declared.Label.{Label}
 use Rattle.layout.specs.Places.{withinLimits}
 use Rattle.protocol.specs.Judge.{lengthsTest}
-use Rattle.serving.specs.Judging.{refuseIf}
+use Rattle.judging.specs.Judging.{refuseIf}
 
 -- 1, 4, or 0 where nothing refuses it, by the lengths of both images and the table
 abbrev pub formatNumber : Label → ℕ → ℕ → ℕ → ℕ

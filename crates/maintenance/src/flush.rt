@@ -1,19 +1,17 @@
 // "Flush: if unsettled, store metadata page 0; else "nothing to do"."
 use layout::Block;
+use moves::answers;
 use protocol::Answer;
 use protocol::Outcome;
 use record::LARGEST_STAMP;
 use record::Record;
-use serving::answers;
-use serving::judge;
-use serving::moves;
 ghost use mathlib.Core.Path.{_≡_};
 ghost use Rattle.protocol.specs.Calls.{leaves, flushOf};
 
 pub fn flush(ssd: &mut [u8], hdd: &[u8], table: &[u32], state: Record) -> Outcome
     ensures { λ q. ⌜ leaves q (now (ssd .exit)) (now (hdd .entry)) (now (table .entry)) ≡ flushOf (now (ssd .entry)) (now (hdd .entry)) (now (table .entry)) state ⌝ }
 {
-    let seen = judge::judge_ready(ssd.len(), hdd.len(), 4096, table, state, Block(0));
+    let seen = judging::judge_ready(ssd.len(), hdd.len(), 4096, table, state, Block(0));
     let number = seen.number;
     if number != 0 {
         return answers::refused(number, state);

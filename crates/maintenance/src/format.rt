@@ -3,15 +3,13 @@ use layout::Label;
 use layout::Slot;
 use layout::label_page;
 use layout::places;
+use moves::answers;
 use protocol::Answer;
 use protocol::Outcome;
 use record::Phase;
 use record::Record;
 use record::state;
 use record::window;
-use serving::answers;
-use serving::judge;
-use serving::moves;
 ghost use mathlib.Core.Path.{_≡_};
 ghost use mathlib.Core.Bool.{true, false};
 ghost use Prim.Native.Nat.{_+_, _≤_, _<_};
@@ -24,7 +22,7 @@ ghost use Rattle.record.specs.declared.Phase.the-variants.{Formatting};
 ghost use Rattle.record.specs.Record.{labelIn, windowIn, recordOf};
 ghost use Rattle.protocol.specs.Perform.{formatStore, formatState};
 ghost use Rattle.protocol.specs.Calls.{leaves, formatOf};
-ghost use Rattle.serving.specs.Moves.{FitsRecord};
+ghost use Rattle.judging.specs.Fits.{FitsRecord};
 ghost use Rattle.maintenance.specs.Format.{formatNumber, tableAfter};
 
 // Zeroes the table.
@@ -45,7 +43,7 @@ pub fn begin(l: Label, ssd: usize, hdd: usize, table: &mut [u32]) -> u32
     if !places::within_limits(l) {
         return 1;
     }
-    if !judge::lengths_ok(l, ssd, hdd, table.len()) {
+    if !judging::lengths_ok(l, ssd, hdd, table.len()) {
         return 4;
     }
     clear_table(table);

@@ -1,12 +1,10 @@
 // "Write back a block: if dirty, copy to HDD and mark clean; uncached or clean: "nothing to do"."
 use layout::Block;
+use moves::answers;
 use protocol::Answer;
 use protocol::Condition;
 use protocol::Outcome;
 use record::Record;
-use serving::answers;
-use serving::judge;
-use serving::moves;
 ghost use mathlib.Core.Path.{_≡_};
 ghost use Rattle.protocol.specs.Calls.{leaves, writeBackOf};
 
@@ -19,7 +17,7 @@ pub fn write_back(
 ) -> Outcome
     ensures { λ q. ⌜ leaves q (now (ssd .entry)) (now (hdd .exit)) (now (table .exit)) ≡ writeBackOf (now (ssd .entry)) (now (hdd .entry)) (now (table .entry)) state block ⌝ }
 {
-    let seen = judge::judge_block(ssd.len(), hdd.len(), 4096, table, state, block);
+    let seen = judging::judge_block(ssd.len(), hdd.len(), 4096, table, state, block);
     let number = seen.number;
     if number != 0 {
         return answers::refused(number, state);

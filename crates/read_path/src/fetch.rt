@@ -1,11 +1,10 @@
 // "Fetch a block not cached: as an offer by sweep, with flags 5."
 use layout::Block;
+use moves::answers;
 use protocol::Outcome;
 use record::Record;
-use serving::answers;
-use serving::judge;
-use serving::perform;
-use serving::turn;
+use turns::perform;
+use turns::turn;
 ghost use mathlib.Core.Path.{_≡_};
 ghost use Rattle.protocol.specs.Calls.{leaves, fetchOf};
 
@@ -18,7 +17,7 @@ pub fn fetch(
 ) -> Outcome
     ensures { λ q. ⌜ leaves q (now (ssd .exit)) (now (hdd .exit)) (now (table .exit)) ≡ fetchOf (now (ssd .entry)) (now (hdd .entry)) (now (table .entry)) state block ⌝ }
 {
-    let seen = judge::judge_block(ssd.len(), hdd.len(), 4096, table, state, block);
+    let seen = judging::judge_block(ssd.len(), hdd.len(), 4096, table, state, block);
     let number = seen.number;
     if number != 0 {
         return answers::refused(number, state);

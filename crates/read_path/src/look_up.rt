@@ -1,19 +1,17 @@
 // "Look up a block: its slot, if cached and not open, and set its used flag; else "on disk"."
 use layout::Block;
+use moves::answers;
 use protocol::Answer;
 use protocol::Condition;
 use protocol::Outcome;
 use record::Record;
-use serving::answers;
-use serving::judge;
-use serving::moves;
 ghost use mathlib.Core.Path.{_≡_};
 ghost use Rattle.protocol.specs.Calls.{leaves, lookUpOf};
 
 pub fn look_up(ssd: &[u8], hdd: &[u8], table: &mut [u32], state: Record, block: Block) -> Outcome
     ensures { λ q. ⌜ leaves q (now (ssd .entry)) (now (hdd .entry)) (now (table .exit)) ≡ lookUpOf (now (ssd .entry)) (now (hdd .entry)) (now (table .entry)) state block ⌝ }
 {
-    let seen = judge::judge_block(ssd.len(), hdd.len(), 4096, table, state, block);
+    let seen = judging::judge_block(ssd.len(), hdd.len(), 4096, table, state, block);
     let number = seen.number;
     if number != 0 {
         return answers::refused(number, state);

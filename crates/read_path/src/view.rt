@@ -3,7 +3,6 @@ use layout::Block;
 use layout::places;
 use protocol::Condition;
 use record::Record;
-use serving::judge;
 ghost use mathlib.Core.Path.{_≡_};
 ghost use Rattle.pages.specs.Parts.{part};
 ghost use Rattle.protocol.specs.Calls.{viewOf};
@@ -19,7 +18,7 @@ pub fn view<'a>(
 ) -> &'a [u8]
     ensures { λ r. ⌜ record { number = now (refusal .exit); handed = part r } ≡ viewOf (part (ssd .entry)) (part (hdd .entry)) (now (table .entry)) state block ⌝ }
 {
-    let seen = judge::judge_block(ssd.len(), hdd.len(), 4096, table, state, block);
+    let seen = judging::judge_block(ssd.len(), hdd.len(), 4096, table, state, block);
     let number = seen.number;
     *refusal = number;
     if number != 0 {

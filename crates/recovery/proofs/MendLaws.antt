@@ -26,7 +26,7 @@ use Rattle.protocol.specs.Perform.{mendedAt}
 use Rattle.record.specs.Rule.{recordTest}
 use Rattle.record.proofs.WindowLaws.{take-array, window-left, window-end}
 use Rattle.record.proofs.RecordLaws.{parts, window-is, window-length}
-use Rattle.serving.specs.Moves.{FitsRecord}
+use Rattle.judging.specs.Fits.{FitsRecord}
 use Rattle.layout.proofs.PlaceLaws.{meta-of-low}
 use Rattle.layout.specs.Numbers.{choose, least}
 use Rattle.layout.specs.declared.Window.{Window}

@@ -22,10 +22,10 @@ use Rattle.protocol.specs.Judge.{badRecord, wrongLength, badRows, wrongPhase, s
 use Rattle.record.specs.Rule.{stepsTest}
 use Rattle.protocol.specs.Calls.{boxOf, stepOf}
 use Rattle.layout.proofs.Booleans.{Told, told, told-true, told-false, clash, and-parts}
-use Rattle.serving.specs.Judging.{soundThen}
-use Rattle.serving.proofs.ServeLaws.{Judges, numbers, end, judged-on}
+use Rattle.judging.specs.Judging.{soundThen}
+use Rattle.judging.proofs.ServeLaws.{Judges, numbers, end, judged-on}
 use Rattle.protocol.proofs.Judged.{first-yes, first-no, performs, refused-as}
-use Rattle.serving.proofs.ReadyLaws.{SoundBox}
+use Rattle.judging.proofs.ReadyLaws.{SoundBox}
 
 -- what a step of a format leaves: its store is one of the SSD image
 abbrev formatted : List ℕ → List ℕ → List ℕ → Record → ℕ → Result

@@ -1,11 +1,10 @@
 // "Reopen: fill the table from the pages." Everything is judged before anything is changed.
 use crate::fill;
 use layout::LabelRead;
+use moves::answers;
 use protocol::Answer;
 use protocol::Outcome;
 use record::Record;
-use serving::answers;
-use serving::judge;
 use stored::image;
 use stored::rules;
 ghost use mathlib.Core.Path.{_≡_};
@@ -17,7 +16,7 @@ pub fn reopen(ssd: &[u8], hdd: &[u8], table: &mut [u32], state: Record) -> Outco
     let LabelRead::Legal(l) = image::label_of(ssd) else {
         return answers::refused(2, state);
     };
-    if !judge::lengths_ok(l, ssd.len(), hdd.len(), table.len()) {
+    if !judging::lengths_ok(l, ssd.len(), hdd.len(), table.len()) {
         return answers::refused(4, state);
     }
     if !rules::pages_ok(ssd, l) {

@@ -5,6 +5,7 @@ use layout::Window;
 use layout::numbers::least;
 use layout::places;
 use maintenance::format;
+use moves::answers;
 use protocol::Answer;
 use protocol::Outcome;
 use record::LARGEST_STAMP;
@@ -12,9 +13,6 @@ use record::Phase;
 use record::Record;
 use record::state;
 use record::window;
-use serving::answers;
-use serving::judge;
-use serving::moves;
 ghost use mathlib.Core.Path.{_≡_};
 ghost use mathlib.Core.Bool.{true};
 ghost use Prim.Native.Nat.{_+_, _≤_, _<_};
@@ -28,7 +26,7 @@ ghost use Rattle.protocol.specs.Plan.{lowestPage};
 ghost use Rattle.protocol.specs.Perform.{mendedAt};
 ghost use Rattle.record.specs.Rule.{recordTest};
 ghost use Rattle.protocol.specs.Calls.{leaves, stepOf};
-ghost use Rattle.serving.specs.Moves.{FitsRecord};
+ghost use Rattle.judging.specs.Fits.{FitsRecord};
 ghost use Rattle.layout.specs.Window.{windowMost, slotsIn, windowFrom, ZeroPast};
 ghost use Rattle.recovery.specs.Pending.{moreOff, phaseAt};
 
@@ -115,7 +113,7 @@ fn mend(ssd: &mut [u8], table: &[u32], state: Record) -> Record
 pub fn step(ssd: &mut [u8], hdd: &[u8], table: &[u32], state: Record) -> Outcome
     ensures { λ q. ⌜ leaves q (now (ssd .exit)) (now (hdd .entry)) (now (table .entry)) ≡ stepOf (now (ssd .entry)) (now (hdd .entry)) (now (table .entry)) state ⌝ }
 {
-    let judged = judge::judge_box(ssd.len(), hdd.len(), 4096, table, state, Block(0));
+    let judged = judging::judge_box(ssd.len(), hdd.len(), 4096, table, state, Block(0));
     let number = judged.number;
     if number != 0 {
         return answers::refused(number, state);

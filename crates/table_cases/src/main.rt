@@ -10,7 +10,6 @@ use protocol::Condition;
 use record::Phase;
 use record::Record;
 use record::state;
-use serving::judge;
 use table::Swept;
 use table::rows;
 use table::sweep;
@@ -136,7 +135,7 @@ fn condition(k: Condition) {
 // A box with such a record judged, as far as table and block go.
 fn judged(table: &[u32], hand: u32, block: u32) {
     let l = places::label(57600, 16777216);
-    let found = judge::judge_block(
+    let found = judging::judge_block(
         places::ssd_length(l),
         places::hdd_length(l),
         4096,

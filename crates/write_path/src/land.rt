@@ -2,13 +2,11 @@
 use layout::Block;
 use layout::Slot;
 use layout::places;
+use moves::answers;
 use protocol::Answer;
 use protocol::Condition;
 use protocol::Outcome;
 use record::Record;
-use serving::answers;
-use serving::judge;
-use serving::moves;
 ghost use mathlib.Core.Path.{_≡_};
 ghost use Rattle.protocol.specs.Calls.{leaves, landOf};
 
@@ -22,7 +20,7 @@ pub fn land(
 ) -> Outcome
     ensures { λ q. ⌜ leaves q (now (ssd .exit)) (now (hdd .entry)) (now (table .exit)) ≡ landOf (now (ssd .entry)) (now (hdd .entry)) (now (table .entry)) state block (now (page .entry)) ⌝ }
 {
-    let seen = judge::judge_block(ssd.len(), hdd.len(), page.len(), table, state, block);
+    let seen = judging::judge_block(ssd.len(), hdd.len(), page.len(), table, state, block);
     let number = seen.number;
     if number != 0 {
         return answers::refused(number, state);

@@ -1,12 +1,11 @@
 // "Offer a write of a block": dirty and not open "overwrite", clean "announced", not cached swept for.
 use layout::Block;
+use moves::answers;
 use protocol::Answer;
 use protocol::Outcome;
 use record::Record;
-use serving::answers;
-use serving::judge;
-use serving::perform;
-use serving::turn;
+use turns::perform;
+use turns::turn;
 ghost use mathlib.Core.Path.{_≡_};
 ghost use Rattle.protocol.specs.Calls.{leaves, offerOf};
 
@@ -19,7 +18,7 @@ pub fn offer(
 ) -> Outcome
     ensures { λ q. ⌜ leaves q (now (ssd .exit)) (now (hdd .exit)) (now (table .exit)) ≡ offerOf (now (ssd .entry)) (now (hdd .entry)) (now (table .entry)) state block ⌝ }
 {
-    let seen = judge::judge_block(ssd.len(), hdd.len(), 4096, table, state, block);
+    let seen = judging::judge_block(ssd.len(), hdd.len(), 4096, table, state, block);
     let number = seen.number;
     if number != 0 {
         return answers::refused(number, state);

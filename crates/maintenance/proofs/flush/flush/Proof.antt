@@ -5,12 +5,12 @@ use Rattle.record.specs.Record.{labelIn}
 use Rattle.protocol.specs.Plan.{flush}
 use Rattle.protocol.specs.Perform.{confirmed, perform}
 use Rattle.protocol.specs.Calls.{boxOf}
-use Rattle.serving.specs.Judging.{readyThen}
-use Rattle.serving.proofs.JudgingLaws.{found, looked}
-use Rattle.serving.proofs.ServeLaws.{refused-by, flush-judges}
-use Rattle.serving.proofs.ReadyLaws.{ready}
+use Rattle.judging.specs.Judging.{readyThen}
+use Rattle.judging.proofs.JudgingLaws.{found, looked}
+use Rattle.judging.proofs.ServeLaws.{refused-by, flush-judges}
+use Rattle.judging.proofs.ReadyLaws.{ready}
 use Rattle.layout.proofs.PlaceLaws.{meta-of-low}
-use Rattle.serving.proofs.CallLaws.{flush-idle, flush-spent, flush-done}
+use Rattle.judging.proofs.CallLaws.{flush-idle, flush-spent, flush-done}
 use borrow.Author.Needs.{needs}
 use Rattle.maintenance.proofs.flush.flush.Statement.{statement}
 use Rattle.maintenance.proofs.flush.flush.Tie as tie

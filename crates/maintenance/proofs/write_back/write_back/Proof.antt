@@ -6,10 +6,10 @@ use Rattle.protocol.specs.Plan.{writeBack, writingBack}
 use Rattle.protocol.specs.Perform.{perform}
 use Rattle.protocol.specs.Condition.{isOpen}
 use Rattle.protocol.specs.Calls.{boxOf, writeBackOf}
-use Rattle.serving.proofs.JudgingLaws.{found}
-use Rattle.serving.proofs.ServeLaws.{refused-by, write-back-judges}
-use Rattle.serving.proofs.ServedLaws.{Served, served}
-use Rattle.serving.proofs.CallLaws.{write-back-open, write-back-is}
+use Rattle.judging.proofs.JudgingLaws.{found}
+use Rattle.judging.proofs.ServeLaws.{refused-by, write-back-judges}
+use Rattle.judging.proofs.ServedLaws.{Served, served}
+use Rattle.judging.proofs.CallLaws.{write-back-open, write-back-is}
 use borrow.Author.Needs.{needs}
 use Rattle.maintenance.proofs.write_back.write_back.Statement.{statement}
 use Rattle.maintenance.proofs.write_back.write_back.Tie as tie

@@ -2,12 +2,12 @@ use mathlib.Core.Path.{refl, sym, ap, _∙_}
 use Rattle.protocol.specs.Box.{Effect, left}
 use Rattle.protocol.specs.Plan.{fetch}
 use Rattle.protocol.specs.Calls.{boxOf}
-use Rattle.serving.specs.declared.turn.Turn.{Turn}
-use Rattle.serving.specs.Turns.{fetchTurn, turned}
-use Rattle.serving.proofs.JudgingLaws.{found}
-use Rattle.serving.proofs.ServeLaws.{refused-by, fetch-judges}
-use Rattle.serving.proofs.ServedLaws.{Served, served}
-use Rattle.serving.proofs.TurnLaws.{seen, fetch-performs, fetch-turned}
+use Rattle.turns.specs.declared.turn.Turn.{Turn}
+use Rattle.turns.specs.Turns.{fetchTurn, turned}
+use Rattle.judging.proofs.JudgingLaws.{found}
+use Rattle.judging.proofs.ServeLaws.{refused-by, fetch-judges}
+use Rattle.judging.proofs.ServedLaws.{Served, served}
+use Rattle.turns.proofs.TurnLaws.{seen, fetch-performs, fetch-turned}
 use borrow.Author.Needs.{needs}
 use Rattle.read_path.proofs.fetch.fetch.Statement.{statement}
 use Rattle.read_path.proofs.fetch.fetch.Tie as tie

@@ -6,11 +6,11 @@ use Rattle.protocol.specs.Plan.{landFetch, landingFetch}
 use Rattle.protocol.specs.Perform.{perform}
 use Rattle.protocol.specs.Condition.{takesFetch}
 use Rattle.protocol.specs.Calls.{boxOf, landFetchOf}
-use Rattle.serving.proofs.JudgingLaws.{found}
-use Rattle.serving.proofs.ServeLaws.{refused-by, land-fetch-judges}
-use Rattle.serving.proofs.ReadyLaws.{open-listed}
-use Rattle.serving.proofs.ServedLaws.{Served, served}
-use Rattle.serving.proofs.CallLaws.{land-fetch-wrong, land-fetch-is}
+use Rattle.judging.proofs.JudgingLaws.{found}
+use Rattle.judging.proofs.ServeLaws.{refused-by, land-fetch-judges}
+use Rattle.judging.proofs.ReadyLaws.{open-listed}
+use Rattle.judging.proofs.ServedLaws.{Served, served}
+use Rattle.judging.proofs.CallLaws.{land-fetch-wrong, land-fetch-is}
 use borrow.Author.Needs.{needs}
 use Rattle.read_path.proofs.land_fetch.land_fetch.Statement.{statement}
 use Rattle.read_path.proofs.land_fetch.land_fetch.Tie as tie

@@ -5,11 +5,11 @@ use Rattle.protocol.specs.Box.{left}
 use Rattle.protocol.specs.Plan.{lookUp, lookingUp}
 use Rattle.protocol.specs.Perform.{perform}
 use Rattle.protocol.specs.Calls.{boxOf, lookUpOf}
-use Rattle.serving.proofs.JudgingLaws.{found}
-use Rattle.serving.proofs.ServeLaws.{refused-by, look-up-judges}
-use Rattle.serving.proofs.SlotLaws.{flags-low}
-use Rattle.serving.proofs.ServedLaws.{Served, served}
-use Rattle.serving.proofs.CallLaws.{look-up-is}
+use Rattle.judging.proofs.JudgingLaws.{found}
+use Rattle.judging.proofs.ServeLaws.{refused-by, look-up-judges}
+use Rattle.judging.proofs.SlotLaws.{flags-low}
+use Rattle.judging.proofs.ServedLaws.{Served, served}
+use Rattle.judging.proofs.CallLaws.{look-up-is}
 use Rattle.read_path.proofs.look_up.look_up.Statement.{statement}
 use Rattle.read_path.proofs.look_up.look_up.Tie as tie
 

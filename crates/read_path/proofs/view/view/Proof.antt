@@ -4,10 +4,10 @@ use Rattle.pages.specs.Parts.{part}
 use Rattle.protocol.specs.declared.Condition.{Condition}
 use Rattle.record.specs.Record.{labelIn}
 use Rattle.protocol.specs.Calls.{viewPart, viewOf}
-use Rattle.serving.proofs.JudgingLaws.{found}
-use Rattle.serving.proofs.ServedLaws.{Served, served}
-use Rattle.serving.proofs.MoveLaws.{data-holds, block-holds}
-use Rattle.serving.proofs.CallLaws.{view-refused, view-is}
+use Rattle.judging.proofs.JudgingLaws.{found}
+use Rattle.judging.proofs.ServedLaws.{Served, served}
+use Rattle.moves.proofs.MoveLaws.{data-holds, block-holds}
+use Rattle.judging.proofs.CallLaws.{view-refused, view-is}
 use borrow.Author.Needs.{needs}
 use Rattle.read_path.proofs.view.view.Statement.{statement}
 use Rattle.read_path.proofs.view.view.Tie as tie

@@ -5,10 +5,10 @@ use Rattle.layout.proofs.PlaceLaws.{within}
 use Rattle.protocol.specs.Plan.{step}
 use Rattle.protocol.specs.Perform.{confirmed, perform}
 use Rattle.protocol.specs.Calls.{boxOf}
-use Rattle.serving.specs.Judging.{soundThen}
-use Rattle.serving.proofs.JudgingLaws.{found, looked}
-use Rattle.serving.proofs.ServeLaws.{refused-by}
-use Rattle.serving.proofs.ReadyLaws.{SoundBox, sound}
+use Rattle.judging.specs.Judging.{soundThen}
+use Rattle.judging.proofs.JudgingLaws.{found, looked}
+use Rattle.judging.proofs.ServeLaws.{refused-by}
+use Rattle.judging.proofs.ReadyLaws.{SoundBox, sound}
 use Rattle.recovery.proofs.StepLaws.{step-judges, step-ready, step-formats, step-spent, step-mends, steps-low, some-pending}
 use borrow.Author.Needs.{needs}
 use Rattle.recovery.proofs.step.step.Statement.{statement}

@@ -7,11 +7,11 @@ use Rattle.protocol.specs.Plan.{land, landing}
 use Rattle.protocol.specs.Perform.{perform}
 use Rattle.protocol.specs.Condition.{takesWrite}
 use Rattle.protocol.specs.Calls.{boxOf, landOf}
-use Rattle.serving.proofs.JudgingLaws.{found}
-use Rattle.serving.proofs.ServeLaws.{refused-by, land-judges}
-use Rattle.serving.proofs.ReadyLaws.{open-listed}
-use Rattle.serving.proofs.ServedLaws.{Served, served}
-use Rattle.serving.proofs.CallLaws.{land-wrong, land-is}
+use Rattle.judging.proofs.JudgingLaws.{found}
+use Rattle.judging.proofs.ServeLaws.{refused-by, land-judges}
+use Rattle.judging.proofs.ReadyLaws.{open-listed}
+use Rattle.judging.proofs.ServedLaws.{Served, served}
+use Rattle.judging.proofs.CallLaws.{land-wrong, land-is}
 use borrow.Author.Needs.{needs}
 use Rattle.write_path.proofs.land.land.Statement.{statement}
 use Rattle.write_path.proofs.land.land.Tie as tie

@@ -3,12 +3,12 @@ use Rattle.protocol.specs.Box.{Effect, left}
 use Rattle.protocol.specs.Plan.{offer}
 use Rattle.protocol.specs.Perform.{confirmed, perform}
 use Rattle.protocol.specs.Calls.{boxOf, offerOf}
-use Rattle.serving.specs.declared.turn.Turn.{Turn}
-use Rattle.serving.specs.Turns.{Within, offerTurn, turned}
-use Rattle.serving.proofs.JudgingLaws.{found}
-use Rattle.serving.proofs.ServeLaws.{refused-by, offer-judges}
-use Rattle.serving.proofs.ServedLaws.{Served, served}
-use Rattle.serving.proofs.TurnLaws.{pass-is, seen, where-within, offer-performs, offer-turned}
+use Rattle.turns.specs.declared.turn.Turn.{Turn}
+use Rattle.turns.specs.Turns.{Within, offerTurn, turned}
+use Rattle.judging.proofs.JudgingLaws.{found}
+use Rattle.judging.proofs.ServeLaws.{refused-by, offer-judges}
+use Rattle.judging.proofs.ServedLaws.{Served, served}
+use Rattle.turns.proofs.TurnLaws.{pass-is, seen, where-within, offer-performs, offer-turned}
 use borrow.Author.Needs.{needs}
 use Rattle.write_path.proofs.offer.offer.Statement.{statement}
 use Rattle.write_path.proofs.offer.offer.Tie as tie

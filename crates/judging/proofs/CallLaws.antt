@@ -1,0 +1,117 @@
+-- Each call by the block's condition, once 3 to 7 are passed.
+use Prim.Native.Nat.{ℕ}
+use mathlib.Core.Path.{_≡_, sym, ap, _∙_}
+use mathlib.Core.Logic.{_≢_}
+use mathlib.Core.Bool.{Bool, true, false, not, _&&_}
+use mathlib.Core.List.{List, [], _∷_}
+use mathlib.Core.Option.{Option}
+use lib.ListN.{length}
+use lib.Dec.{leb}
+use Rattle.pages.specs.Parts.{Part}
+use Rattle.layout.specs.declared.Block.{Block}
+use Rattle.record.specs.declared.Record.{Record}
+use Rattle.protocol.specs.declared.Condition.{Condition}
+use Rattle.protocol.specs.Reply.{nothingToDo}
+use Rattle.record.specs.Record.{labelIn, largestStamp}
+use Rattle.protocol.specs.Box.{Box, refusing, left}
+use Rattle.protocol.specs.Condition.{conditionOf, isOpen, takesWrite, takesFetch}
+use Rattle.protocol.specs.Plan.{flush, landFetch, lookUp, view, writeBack, land, stay, confirms, lookingUp, writingBack, landing, landingFetch, flushing, storesMeta, plan}
+use Rattle.protocol.specs.Perform.{perform}
+use Rattle.protocol.specs.Judge.{Reason, slotOpen, wrongState, stampsSpent, test, firstOf, judged}
+use Rattle.protocol.specs.Calls.{boxOf, lookUpOf, writeBackOf, landOf, landFetchOf, flushOf, viewed, viewPart, viewOf}
+use Rattle.judging.specs.Judging.{readyThen, servesThen}
+use Rattle.protocol.proofs.Judged.{first-yes, first-no, performs, refused-as}
+use Rattle.judging.proofs.ServeLaws.{end, first-judged, judged-on, flush-judges, look-up-judges, view-judges, write-back-judges, land-judges, land-fetch-judges}
+
+module _ (ssd hdd t : List ℕ) (r : Record) (b : Block) (k : Condition) (e : conditionOf t b ≡ k) where
+  abbrev x : Box
+  x = boxOf ssd hdd t r
+
+  module _ (z : servesThen (length ssd) (length hdd) 4096 t r b 0 ≡ 0) where
+    pub look-up-is : left (perform (lookingUp k) x) (x .images) ≡ lookUpOf ssd hdd t r b
+    unfolding plan
+    look-up-is = performs (lookUp b) x (lookingUp k) (judged-on (lookUp b) x _ [] (look-up-judges ssd hdd t r b) z ∙ end _) (ap lookingUp e)
+
+    pub write-back-open : isOpen k ≡ true → left (refusing 8 x) (x .images) ≡ writeBackOf ssd hdd t r b
+    unfolding test
+    write-back-open o = refused-as (writeBack b) x slotOpen
+        (judged-on (writeBack b) x _ (slotOpen ∷ []) (write-back-judges ssd hdd t r b) z ∙ first-yes _ slotOpen [] (ap isOpen e ∙ o))
+
+    pub write-back-is : isOpen k ≡ false → left (perform (writingBack x k) x) (x .images) ≡ writeBackOf ssd hdd t r b
+    unfolding test plan
+    write-back-is o = performs (writeBack b) x (writingBack x k)
+        (judged-on (writeBack b) x _ (slotOpen ∷ []) (write-back-judges ssd hdd t r b) z ∙ first-no _ slotOpen [] (ap isOpen e ∙ o) ∙ end _)
+        (ap (writingBack x) e)
+
+    pub land-fetch-wrong : takesFetch k ≡ false → left (refusing 9 x) (x .images) ≡ landFetchOf ssd hdd t r b
+    unfolding test
+    land-fetch-wrong o = refused-as (landFetch b) x wrongState
+        (judged-on (landFetch b) x _ (wrongState ∷ []) (land-fetch-judges ssd hdd t r b) z
+        ∙ first-yes _ wrongState [] (ap not (ap takesFetch e ∙ o)))
+
+    pub land-fetch-is : takesFetch k ≡ true → left (perform (landingFetch x b k) x) (x .images) ≡ landFetchOf ssd hdd t r b
+    unfolding test plan
+    land-fetch-is o = performs (landFetch b) x (landingFetch x b k)
+        (judged-on (landFetch b) x _ (wrongState ∷ []) (land-fetch-judges ssd hdd t r b) z
+        ∙ first-no _ wrongState [] (ap not (ap takesFetch e ∙ o)) ∙ end _)
+        (ap (landingFetch x b) e)
+
+  module _ (page : List ℕ) (z : servesThen (length ssd) (length hdd) (length page) t r b 0 ≡ 0) where
+    pub land-wrong : takesWrite k ≡ false → left (refusing 9 x) (x .images) ≡ landOf ssd hdd t r b page
+    unfolding test
+    land-wrong o = refused-as (land b page) x wrongState
+        (judged-on (land b page) x _ (wrongState ∷ []) (land-judges ssd hdd t r b page) z
+        ∙ first-yes _ wrongState [] (ap not (ap takesWrite e ∙ o)))
+
+    pub land-is : takesWrite k ≡ true → left (perform (landing page k) x) (x .images) ≡ landOf ssd hdd t r b page
+    unfolding test plan
+    land-is o = performs (land b page) x (landing page k)
+        (judged-on (land b page) x _ (wrongState ∷ []) (land-judges ssd hdd t r b page) z
+        ∙ first-no _ wrongState [] (ap not (ap takesWrite e ∙ o)) ∙ end _)
+        (ap (landing page) e)
+
+-- flush, by the record's unconfirmed
+module _ (ssd hdd t : List ℕ) (r : Record) (z : readyThen (length ssd) (length hdd) 4096 t r 0 ≡ 0) where
+  abbrev y : Box
+  y = boxOf ssd hdd t r
+
+  asked : judged flush y ≡ firstOf (stampsSpent ∷ []) (λ q. test q flush y)
+  asked = judged-on flush y _ (stampsSpent ∷ []) (flush-judges ssd hdd t r) z
+
+  pub flush-idle : r .unconfirmed ≡ false → left (perform (stay nothingToDo) y) (y .images) ≡ flushOf ssd hdd t r
+  unfolding test plan
+  flush-idle u = performs flush y (stay nothingToDo)
+      (asked ∙ first-no _ stampsSpent [] (ap (λ (b : Bool). storesMeta (flushing b) && leb largestStamp (r .newest)) u) ∙ end _)
+      (ap flushing u)
+
+  pub flush-spent : r .unconfirmed ≡ true → leb largestStamp (r .newest) ≡ true → left (refusing 13 y) (y .images) ≡ flushOf ssd hdd t r
+  unfolding test plan
+  flush-spent u s = refused-as flush y stampsSpent
+      (asked ∙ first-yes _ stampsSpent [] (ap (λ (b : Bool). storesMeta (flushing b) && leb largestStamp (r .newest)) u ∙ s))
+
+  pub flush-done : r .unconfirmed ≡ true → leb largestStamp (r .newest) ≡ false → left (perform confirms y) (y .images) ≡ flushOf ssd hdd t r
+  unfolding test plan
+  flush-done u s = performs flush y confirms
+      (asked ∙ first-no _ stampsSpent [] (ap (λ (b : Bool). storesMeta (flushing b) && leb largestStamp (r .newest)) u ∙ s) ∙ end _)
+      (ap flushing u)
+
+-- view
+module _ (S H : Part) (t : List ℕ) (r : Record) (b : Block) where
+  abbrev v : Box
+  v = boxOf (S .bytes) (H .bytes) t r
+
+  pub view-refused : (m : ℕ) → m ≡ servesThen (length (S .bytes)) (length (H .bytes)) 4096 t r b 0 → m ≢ 0
+      → record { number = m; handed = record { bytes = []; place = S .place } } ≡ viewOf S H t r b
+  unfolding viewOf
+  view-refused m e z =
+      let f = first-judged (view b) v _ [] (view-judges (S .bytes) (H .bytes) t r b) (λ q. z (e ∙ q)) in
+      ap (λ (n : ℕ). record { number = n; handed = record { bytes = []; place = S .place } }) (e ∙ sym (f .2))
+      ∙ ap (λ (o : Option Reason). viewed o S H (labelIn r) b (conditionOf t b)) (sym (f .1))
+
+  pub view-is : (k : Condition) → conditionOf t b ≡ k → servesThen (length (S .bytes)) (length (H .bytes)) 4096 t r b 0 ≡ 0
+      → record { number = 0; handed = viewPart S H (labelIn r) b k } ≡ viewOf S H t r b
+  unfolding viewOf
+  view-is k e z =
+      ap (λ (c : Condition). record { number = 0; handed = viewPart S H (labelIn r) b c }) (sym e)
+      ∙ ap (λ (o : Option Reason). viewed o S H (labelIn r) b (conditionOf t b))
+      (sym (judged-on (view b) v _ [] (view-judges (S .bytes) (H .bytes) t r b) z ∙ end _))

@@ -1,0 +1,40 @@
+-- Judging, by numbers: the same tests, in the same order, as in protocol's chains.
+use Prim.Native.Nat.{ℕ, zero, suc}
+use mathlib.Core.Bool.{Bool, true, false, not, _&&_}
+use mathlib.Core.List.{List}
+use lib.ListN.{length}
+use lib.Dec.{eqb, leb}
+use Rattle.layout.specs.declared.Block.{Block}
+use Rattle.record.specs.declared.Record.{Record}
+use Rattle.protocol.specs.declared.Condition.the-variants.{NotCached}
+use Rattle.record.specs.Record.{labelIn}
+use Rattle.protocol.specs.Rows.{openRows}
+use Rattle.protocol.specs.Condition.{conditionOf}
+use Rattle.record.specs.Rule.{recordTest}
+use Rattle.protocol.specs.Judge.{lengthsTest, rowsTest, isReady}
+use Rattle.judging.specs.declared.Judged.{Judged}
+
+-- refused by n, or the rest
+abbrev pub refuseIf : Bool → ℕ → ℕ → ℕ
+refuseIf true n rest = n
+refuseIf false n rest = rest
+
+-- 3, 4 and 5 of a call that is lent a page of so many bytes (4,096 where it is lent none), then the rest
+unfoldable pub soundThen : ℕ → ℕ → ℕ → List ℕ → Record → ℕ → ℕ
+soundThen ssd hdd page table state rest =
+    refuseIf (not (recordTest state)) 3
+    (refuseIf (not (lengthsTest (labelIn state) ssd hdd (length table) && eqb page 4096)) 4
+    (refuseIf (not (rowsTest state table)) 5 rest))
+
+-- and 6
+abbrev pub readyThen : ℕ → ℕ → ℕ → List ℕ → Record → ℕ → ℕ
+readyThen ssd hdd page table state rest = soundThen ssd hdd page table state (refuseIf (not (isReady (state .phase))) 6 rest)
+
+-- and 7
+abbrev pub servesThen : ℕ → ℕ → ℕ → List ℕ → Record → Block → ℕ → ℕ
+servesThen ssd hdd page table state b rest = readyThen ssd hdd page table state (refuseIf (leb (state .label .blocks) (b .0)) 7 rest)
+
+-- what judging finds of a number
+abbrev pub judgedBy : ℕ → List ℕ → Block → Judged
+judgedBy zero table b = record { number = 0; condition = conditionOf table b; writing = openRows table }
+judgedBy (suc n) table b = record { number = suc n; condition = NotCached; writing = 0 }

@@ -1,0 +1,28 @@
+use mathlib.Core.Path.{_∙_}
+use borrow.Author.Needs.{needs}
+use Rattle.moves.proofs.MoveLaws.{data-holds}
+use Rattle.moves.proofs.store_page.Statement.{statement}
+use Rattle.moves.proofs.store_page.Tie as tie
+
+data-place-requires : tie.Need-data-place-requires
+data-place-requires c κs = search needs
+
+store-requires : tie.Need-store-requires
+store-requires c κs =
+    let s = c .before .before .before .before .before in
+    let a = s .args in (
+      data-holds (a .ssd .now) (a .state .label) (a .s) _ (s .pre .0) (s .pre .1 .1) (c .data-place .ensures),
+      s .pre .1 .0,
+    )
+
+same-length : tie.Need-same-length
+same-length c = search needs
+
+returns : tie.Need-returns
+returns c =
+    let d = c .before .before .before in
+    c .before .before .store .ensures ∙ rw (d .data-place .ensures)
+
+pub store-page-spec : {M : Type 1} → statement M
+store-page-spec =
+    tie.close (tie.spec data-place-requires store-requires same-length returns)

@@ -1,0 +1,190 @@
+// What the calls do to table, record and images, once they are judged; answers builds what they return.
+pub mod answers;
+
+use layout::Block;
+use layout::Slot;
+use layout::places;
+use metadata::page;
+use record::Record;
+use record::state;
+ghost use mathlib.Core.Path.{_≡_};
+ghost use mathlib.Core.Bool.{true};
+ghost use Prim.Native.Nat.{_+_, _-_, _*_, _%_, _≤_, _<_};
+ghost use lib.ListN.{length};
+ghost use Rattle.pages.specs.Pages.{pageAt, putPage};
+ghost use Rattle.layout.specs.Places.{metaPages, metaPlace, dataPlace, blockPlace, metaOf, hddLength, ssdLength};
+ghost use Rattle.layout.specs.MetaPage.{encodeMeta, rowsOn};
+ghost use Rattle.layout.specs.PageRule.{listed};
+ghost use Rattle.protocol.specs.Rows.{rowBlock, rowFlags, setFlags, setRow, dirty, writing, withUsed, withoutWriting, withoutDirty};
+ghost use Rattle.layout.specs.Window.{windowMost};
+ghost use Rattle.record.specs.Record.{largestStamp, labelIn, windowIn, withStamp, withWindow};
+ghost use Rattle.record.specs.Window.{without};
+ghost use Rattle.record.specs.Rule.{recordTest};
+ghost use Rattle.protocol.specs.Perform.{joined};
+ghost use Rattle.judging.specs.Fits.{FitsRecord};
+ghost use Rattle.moves.specs.Moves.{rowsEnd};
+
+// Where the rows of a metadata page end that begin at `start`.
+fn rows_end(len: usize, start: usize) -> usize
+    requires { ⌜ (start ≤ len) × (len ≤ 115200) × (start % 2 ≡ 0) × (len % 2 ≡ 0) ⌝ }
+    ensures { λ r. ⌜ (r ≡ rowsEnd len start) × (start ≤ r) × (r ≤ len) × (r ≤ start + 480) × (r % 2 ≡ 0) ⌝ }
+{
+    if len - start < 480 {
+        return len;
+    }
+    start + 480
+}
+
+// Stores metadata page p: a stamp, the record's window and the rows of the page's slots.
+pub fn store_meta(ssd: &mut [u8], table: &[u32], state: Record, stamp: u32, p: u32)
+    requires { ⌜ FitsRecord (length (now ssd)) (length (now table)) state ⌝ }
+    requires { ⌜ p < metaPages (labelIn state) ⌝ }
+    ensures { λ _. ⌜ now (ssd .exit) ≡ putPage (now (ssd .entry)) (metaPlace (labelIn state) p) (encodeMeta stamp (windowIn state) (rowsOn p (now (table .entry)))) ⌝ }
+{
+    let l = state.label;
+    let start = 480 * (p as usize);
+    let end = rows_end(table.len(), start);
+    let page = page::encode_meta(stamp, state::window_of(state), &table[start..end]);
+    pages::store(ssd, places::meta_place(l, p), &page);
+}
+
+// Stores metadata page p with the newest stamp plus 1, and gives the record after it.
+pub fn confirm(ssd: &mut [u8], table: &[u32], state: Record, p: u32) -> Record
+    requires { ⌜ FitsRecord (length (now ssd)) (length (now table)) state ⌝ }
+    requires { ⌜ p < metaPages (labelIn state) ⌝ }
+    requires { ⌜ state .newest < largestStamp ⌝ }
+    ensures { λ q. ⌜ (q ≡ withStamp state (state .newest + 1)) × (now (ssd .exit) ≡ putPage (now (ssd .entry)) (metaPlace (labelIn state) p) (encodeMeta (state .newest + 1) (windowIn state) (rowsOn p (now (table .entry))))) ⌝ }
+{
+    let stamp = state.newest + 1;
+    store_meta(ssd, table, state, stamp, p);
+    state::with_stamp(state, stamp)
+}
+
+// Sets a row.
+fn set_row(table: &mut [u32], s: Slot, b: Block, flags: u32)
+    requires { ⌜ 2 * s .0 + 1 < length (now table) ⌝ }
+    ensures { λ _. ⌜ now (table .exit) ≡ setRow (now (table .entry)) s b flags ⌝ }
+{
+    let k = 2 * (s.0 as usize);
+    table[k] = b.0;
+    table[k + 1] = flags;
+}
+
+// A slot joins the window, and the hand moves.
+fn join(state: Record, s: Slot, hand: Slot) -> Record
+    requires { ⌜ recordTest state ≡ true ⌝ }
+    requires { ⌜ state .count < windowMost ⌝ }
+    ensures { λ q. ⌜ q ≡ joined s hand state ⌝ }
+{
+    let next = state::joined(state, s);
+    state::with_hand(next, hand)
+}
+
+// Opens a slot for a block: its row, the window, and then the metadata page.
+pub fn open_slot(
+    ssd: &mut [u8],
+    table: &mut [u32],
+    state: Record,
+    s: Slot,
+    b: Block,
+    flags: u32,
+    hand: Slot,
+) -> Record
+    requires { ⌜ FitsRecord (length (now ssd)) (length (now table)) state ⌝ }
+    requires { ⌜ recordTest state ≡ true ⌝ }
+    requires { ⌜ state .count < windowMost ⌝ }
+    requires { ⌜ state .newest < largestStamp ⌝ }
+    requires { ⌜ s .0 < state .label .slots ⌝ }
+    ensures { λ q. ⌜ (q ≡ withStamp (joined s hand state) (state .newest + 1)) × (now (table .exit) ≡ setRow (now (table .entry)) s b flags) × (now (ssd .exit) ≡ putPage (now (ssd .entry)) (metaPlace (labelIn state) (metaOf s)) (encodeMeta (state .newest + 1) (windowIn (joined s hand state)) (rowsOn (metaOf s) (setRow (now (table .entry)) s b flags)))) ⌝ }
+{
+    set_row(table, s, b, flags);
+    let next = join(state, s, hand);
+    confirm(ssd, table, next, places::meta_of(s))
+}
+
+// Closes an open slot: it loses the writing flag and leaves the window.
+pub fn close_slot(table: &mut [u32], state: Record, s: Slot) -> Record
+    requires { ⌜ recordTest state ≡ true ⌝ }
+    requires { ⌜ listed s (windowIn state) ≡ true ⌝ }
+    requires { ⌜ 2 * s .0 + 1 < length (now table) ⌝ }
+    requires { ⌜ writing (rowFlags (now table) s) ≡ true ⌝ }
+    ensures { λ q. ⌜ (q ≡ withWindow state true (without s (windowIn state))) × (now (table .exit) ≡ setFlags (now (table .entry)) s (withoutWriting (rowFlags (now (table .entry)) s))) ⌝ }
+{
+    let k = 2 * (s.0 as usize) + 1;
+    let flags = table[k];
+    table[k] = flags - 4;
+    state::left(state, s)
+}
+
+// Stores a slot's page.
+pub fn store_page(ssd: &mut [u8], state: Record, s: Slot, page: &[u8])
+    requires { ⌜ length (now ssd) ≡ ssdLength (labelIn state) ⌝ }
+    requires { ⌜ length (now page) ≡ 4096 ⌝ }
+    requires { ⌜ s .0 < state .label .slots ⌝ }
+    ensures { λ _. ⌜ now (ssd .exit) ≡ putPage (now (ssd .entry)) (dataPlace (labelIn state) s) (now (page .entry)) ⌝ }
+{
+    let l = state.label;
+    pages::store(ssd, places::data_place(l, s), page);
+}
+
+// Copies a block's page into a slot.
+pub fn copy_in(ssd: &mut [u8], hdd: &[u8], state: Record, s: Slot, b: Block)
+    requires { ⌜ length (now ssd) ≡ ssdLength (labelIn state) ⌝ }
+    requires { ⌜ length (now hdd) ≡ hddLength (labelIn state) ⌝ }
+    requires { ⌜ s .0 < state .label .slots ⌝ }
+    requires { ⌜ b .0 < state .label .blocks ⌝ }
+    ensures { λ _. ⌜ now (ssd .exit) ≡ putPage (now (ssd .entry)) (dataPlace (labelIn state) s) (pageAt (now (hdd .entry)) (blockPlace (labelIn state) b)) ⌝ }
+{
+    let l = state.label;
+    pages::copy_page(
+        ssd,
+        places::data_place(l, s),
+        hdd,
+        places::block_place(l, b),
+    );
+}
+
+// Copies a dirty slot's page to its block, and marks the slot clean.
+pub fn copy_out(ssd: &[u8], hdd: &mut [u8], table: &mut [u32], state: Record, s: Slot)
+    requires { ⌜ FitsRecord (length (now ssd)) (length (now table)) state ⌝ }
+    requires { ⌜ length (now hdd) ≡ hddLength (labelIn state) ⌝ }
+    requires { ⌜ state .label .blocks ≤ 16777216 ⌝ }
+    requires { ⌜ s .0 < state .label .slots ⌝ }
+    requires { ⌜ rowBlock (now table) s .0 < state .label .blocks ⌝ }
+    requires { ⌜ dirty (rowFlags (now table) s) ≡ true ⌝ }
+    ensures { λ _. ⌜ (now (hdd .exit) ≡ putPage (now (hdd .entry)) (blockPlace (labelIn state) (rowBlock (now (table .entry)) s)) (pageAt (now (ssd .entry)) (dataPlace (labelIn state) s))) × (now (table .exit) ≡ setFlags (now (table .entry)) s (withoutDirty (rowFlags (now (table .entry)) s))) ⌝ }
+{
+    let l = state.label;
+    let k = 2 * (s.0 as usize);
+    let block = table[k];
+    let flags = table[k + 1];
+    pages::copy_page(
+        hdd,
+        places::block_place(l, Block(block)),
+        ssd,
+        places::data_place(l, s),
+    );
+    table[k + 1] = flags - 2;
+}
+
+// Flags with used.
+fn with_used(flags: u32) -> u32
+    requires { ⌜ flags < 16 ⌝ }
+    ensures { λ r. ⌜ r ≡ withUsed flags ⌝ }
+{
+    if flags / 8 % 2 == 1 {
+        return flags;
+    }
+    flags + 8
+}
+
+// Sets a slot's used flag.
+pub fn use_slot(table: &mut [u32], s: Slot)
+    requires { ⌜ 2 * s .0 + 1 < length (now table) ⌝ }
+    requires { ⌜ rowFlags (now table) s < 16 ⌝ }
+    ensures { λ _. ⌜ now (table .exit) ≡ setFlags (now (table .entry)) s (withUsed (rowFlags (now (table .entry)) s)) ⌝ }
+{
+    let k = 2 * (s.0 as usize) + 1;
+    let flags = table[k];
+    table[k] = with_used(flags);
+}

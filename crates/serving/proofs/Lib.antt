@@ -1,9 +1,0 @@
-pub mod JudgingLaws
-pub mod ServeLaws
-pub mod ReadyLaws
-pub mod SlotLaws
-pub mod ServedLaws
-pub mod MoveLaws
-pub mod SweepingLaws
-pub mod TurnLaws
-pub mod CallLaws

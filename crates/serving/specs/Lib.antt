@@ -1,3 +1,0 @@
-pub mod Judging
-pub mod Moves
-pub mod Turns

@@ -1,0 +1,2 @@
+pub mod SweepingLaws
+pub mod TurnLaws

@@ -1,0 +1,268 @@
+-- The turn of an offer or a fetch: performed, it is what protocol's chain and plan say; and it can be performed.
+use Prim.Native.Nat.{ℕ, _<_}
+use mathlib.Core.Path.{_≡_, refl, sym, ap, _∙_}
+use mathlib.Core.Bool.{Bool, true, false, not, _&&_}
+use mathlib.Core.List.{List, [], _∷_}
+use native.Mathlib.Omega.{arith}
+use lib.ListN.{length}
+use lib.Dec.{leb}
+use borrow.Author.Tests.{leb-false, ltb-true}
+use Rattle.layout.specs.declared.Slot.{Slot}
+use Rattle.layout.specs.declared.Block.{Block}
+use Rattle.layout.specs.declared.Label.{Label}
+use Rattle.layout.specs.Places.{Limits, tableLength}
+use Rattle.layout.proofs.Booleans.{Told, told, told-true, told-false, clash}
+use Rattle.layout.proofs.PlaceLaws.{within}
+use Rattle.record.specs.declared.Record.{Record}
+use Rattle.record.specs.Record.{labelIn}
+use Rattle.record.specs.Rule.{recordTest}
+use Rattle.record.proofs.RecordLaws.{parts}
+use Rattle.protocol.specs.declared.Condition.{Condition}
+use Rattle.protocol.specs.declared.Condition.the-variants.{NotCached, Clean, Dirty, Writing, Fetching}
+use Rattle.protocol.specs.Reply.{overwrite, copiedOut}
+use Rattle.protocol.specs.Rows.{rowFlags, dirty, withWriting, openRows, allWriting}
+use Rattle.protocol.specs.Box.{Box, refusing}
+use Rattle.protocol.specs.Condition.{conditionOf, isOpen, isCached}
+use Rattle.protocol.specs.Sweep.{nextSlot}
+use Rattle.protocol.specs.Kinds.{toWrite, toFetch}
+use Rattle.protocol.specs.Plan.{Call, Move, offer, fetch, stay, opens, copies, takesAs, takes, sweeps, offering, fetching, storesMeta, plan}
+use Rattle.protocol.specs.Perform.{perform}
+use Rattle.protocol.specs.Judge.{slotOpen, hasSlot, windowFull, allOpen, stampsSpent, opensAnother, rowTest, test, firstOf, judged}
+use Rattle.protocol.specs.Calls.{effectOf, boxOf}
+use Rattle.protocol.proofs.refine.Flags.{legal-row}
+use Rattle.protocol.proofs.refine.Tables.{Rows, each-get}
+use Rattle.table.specs.declared.Swept.{Swept}
+use Rattle.table.specs.declared.Swept.the-variants.{Took, Stuck}
+use Rattle.table.specs.Scan.{legalRows}
+use Rattle.table.specs.Sweeps.{sweptOf, clearedFrom}
+use Rattle.turns.specs.declared.turn.Turn.{Turn}
+use Rattle.turns.specs.declared.turn.Turn.the-variants.{Refused, Passes, Opens, CopiesOut}
+use Rattle.judging.specs.declared.Judged.{Judged}
+use Rattle.judging.specs.Judging.{servesThen}
+use Rattle.turns.specs.Turns.{Seen, Within, isPass, ifRoom, takeTurn, sweepTurn, cleanTurn, offerTurn, fetchTurn, Performable, spent, tableAfter, turned}
+use Rattle.protocol.proofs.Judged.{refuses, does, first-yes, first-no}
+use Rattle.judging.proofs.ServeLaws.{end, judged-on, offer-judges, fetch-judges}
+use Rattle.judging.proofs.ReadyLaws.{ReadyBox, serves, open-count}
+use Rattle.judging.proofs.SlotLaws.{Where}
+use Rattle.judging.proofs.ServedLaws.{Served}
+use Rattle.turns.proofs.SweepingLaws.{stuck-all, swept-is, took-is, not-all, passed-is}
+
+-- of a record that keeps its rule
+pub record-limits : (r : Record) → recordTest r ≡ true → Limits (labelIn r)
+record-limits r e = within (labelIn r) .0 (parts r e .in-limits)
+
+pub hand-low : (r : Record) → recordTest r ≡ true → r .hand .0 < r .label .slots
+hand-low r e = ltb-true _ _ (parts r e .hand)
+
+-- of a table whose rows are legal
+pub rows-of : (l : Label) (t : List ℕ) → length t ≡ tableLength l → legalRows l t ≡ true → Rows l t
+rows-of l t size h = λ s k. legal-row l _ _ (each-get (λ s block flags. rowTest l block flags) 0 t h s (omega (arith, size)))
+
+-- the slot that a condition names
+pub where-within : (r : Record) (t : List ℕ) (b : Block) (k : Condition) → Where r t b k → Within (r .label .slots) k
+where-within r t b NotCached w = tt
+where-within r t b (Clean s) w = w .low
+where-within r t b (Dirty s) w = w .low
+where-within r t b (Writing s) w = w .low
+where-within r t b (Fetching s) w = w .low
+
+-- there is one turn that passes
+pub pass-is : (T : Turn) → isPass T ≡ true → T ≡ Passes
+pass-is (Refused n) e = clash e refl
+pass-is Passes e = refl
+pass-is (Opens s flags passed hand) e = clash e refl
+pass-is (CopiesOut s passed) e = clash e refl
+
+-- what judging found is what a turn is decided on
+pub seen : (ssd hdd : List ℕ) (page : ℕ) (t : List ℕ) (r : Record) (b : Block) (j : Judged) → Served ssd hdd page t r b j
+    → Seen t r (j .writing)
+seen ssd hdd page t r b j S = let B = S .box .box in
+    record { size = B .sound .table-size; record-kept = B .record-kept; rows = B .rows; counted = S .writing-is }
+
+-- 11, or there is room
+module _ (t : List ℕ) (T : Turn) where
+  pub turn-full : leb 63 (openRows t) ≡ true → Refused 11 ≡ ifRoom t T
+  turn-full a = rw (a, ifRoom)
+
+  pub turn-room : leb 63 (openRows t) ≡ false → T ≡ ifRoom t T
+  turn-room a = rw (a, ifRoom)
+
+-- 13, or a slot is opened
+module _ (s : Slot) (flags passed : ℕ) (hand : Slot) (b : Block) (x : Box) where
+  pub turn-spent : spent (x .state .newest) ≡ true → refusing 13 x ≡ turned (Opens s flags passed hand) b x
+  turn-spent n = rw (n, turned)
+
+  pub turn-opens : spent (x .state .newest) ≡ false
+      → perform (opens s b flags (tableAfter passed x) hand) x ≡ turned (Opens s flags passed hand) b x
+  turn-opens n = rw (n, turned)
+
+-- 13 alone is left to ask of a call: it opens a slot, or it copies one out
+module _ (c : Call) (x : Box) (b : Block) (passed : ℕ)
+    (j : judged c x ≡ firstOf (stampsSpent ∷ []) (λ q. test q c x))
+    (e : test stampsSpent c x ≡ (storesMeta (plan c x) && spent (x .state .newest))) where
+  opening : (s : Slot) (flags : ℕ) (hand : Slot) → plan c x ≡ opens s b flags (tableAfter passed x) hand
+      → effectOf c x ≡ turned (Opens s flags passed hand) b x
+  opening s flags hand p = go (told (spent (x .state .newest)))
+    where
+      asks : test stampsSpent c x ≡ spent (x .state .newest)
+      asks = e ∙ ap (λ (m : Move). storesMeta m && spent (x .state .newest)) p
+
+      go : Told (spent (x .state .newest)) → effectOf c x ≡ turned (Opens s flags passed hand) b x
+      go (told-true n) = refuses c x stampsSpent (j ∙ first-yes _ stampsSpent [] (asks ∙ n)) ∙ turn-spent s flags passed hand b x n
+      go (told-false n) = does c x _ (j ∙ first-no _ stampsSpent [] (asks ∙ n) ∙ end _) p ∙ turn-opens s flags passed hand b x n
+
+  copying : (s : Slot) → plan c x ≡ copies s copiedOut (tableAfter passed x) s → effectOf c x ≡ turned (CopiesOut s passed) b x
+  copying s p = does c x _
+      (j ∙ first-no _ stampsSpent [] (e ∙ ap (λ (m : Move). storesMeta m && spent (x .state .newest)) p) ∙ end _) p
+
+-- a call that sweeps for a slot: 11, 12 and 13 are left to ask of it
+module _ (c : Call) (x : Box) (b : Block) (flags : ℕ) (size : length (x .table) ≡ tableLength (labelIn (x .state)))
+    (R : Rows (labelIn (x .state)) (x .table)) (low : x .state .hand .0 < x .state .label .slots)
+    (j : judged c x ≡ firstOf (windowFull ∷ allOpen ∷ stampsSpent ∷ []) (λ q. test q c x))
+    (e11 : test windowFull c x ≡ leb 63 (openRows (x .table))) (e12 : test allOpen c x ≡ allWriting (x .table))
+    (e13 : test stampsSpent c x ≡ (storesMeta (plan c x) && spent (x .state .newest))) (p : plan c x ≡ sweeps x b flags) where
+  abbrev l : Label
+  l = labelIn (x .state)
+
+  sweeping : effectOf c x ≡ turned (sweepTurn (x .table) (x .state) flags) b x
+  sweeping = go (told (leb 63 (openRows (x .table)))) (sweptOf l (x .table) (x .state .hand)) refl
+    where
+      turn-is : leb 63 (openRows (x .table)) ≡ false → (w : Swept) → sweptOf l (x .table) (x .state .hand) ≡ w
+          → turned (takeTurn l (x .table) flags w) b x ≡ turned (sweepTurn (x .table) (x .state) flags) b x
+      turn-is a w f = ap (λ (T : Turn). turned T b x) (ap (takeTurn l (x .table) flags) (sym f) ∙ turn-room (x .table) _ a)
+
+      took : (s : Slot) (k : ℕ) → Told (dirty (rowFlags (x .table) s)) → sweptOf l (x .table) (x .state .hand) ≡ Took s k
+          → judged c x ≡ firstOf (stampsSpent ∷ []) (λ q. test q c x)
+          → effectOf c x ≡ turned (takeTurn l (x .table) flags (Took s k)) b x
+      took s k d f n =
+          go d (p ∙ ap (takes l b flags) (swept-is l (x .table) (x .state .hand) s k size R low (sym f))
+          ∙ ap (λ (d : Bool). takesAs d l b flags (record { slot = s; table = tableAfter k x })) dirty-is)
+        where
+          dirty-is : dirty (rowFlags (tableAfter k x) s) ≡ dirty (rowFlags (x .table) s)
+          dirty-is = passed-is k l (x .table) (x .state .hand) size R low .dirty-is s
+              (took-is l (x .table) (x .state .hand) s k size R low (sym f) .low)
+
+          go : Told (dirty (rowFlags (x .table) s))
+              → plan c x ≡ takesAs (dirty (rowFlags (x .table) s)) l b flags (record { slot = s; table = tableAfter k x })
+              → effectOf c x ≡ turned (takeTurn l (x .table) flags (Took s k)) b x
+          go (told-true d) q = copying c x b k n e13 s (q ∙ rw (d, takesAs)) ∙ rw (d, takeTurn, turned)
+          go (told-false d) q = opening c x b k n e13 s flags (nextSlot l s) (q ∙ rw (d, takesAs)) ∙ rw (d, takeTurn, turned)
+
+      go : Told (leb 63 (openRows (x .table))) → (w : Swept) → sweptOf l (x .table) (x .state .hand) ≡ w
+          → effectOf c x ≡ turned (sweepTurn (x .table) (x .state) flags) b x
+      go (told-true a) w f = refuses c x windowFull (j ∙ first-yes _ windowFull _ (e11 ∙ a)) ∙ ap (λ (T : Turn). turned T b x) (turn-full (x .table) _ a)
+      go (told-false a) Stuck f =
+          refuses c x allOpen (j ∙ first-no _ windowFull _ (e11 ∙ a)
+          ∙ first-yes _ allOpen _ (e12 ∙ stuck-all l (x .table) (x .state .hand) size low f))
+          ∙ turn-is a Stuck f
+      go (told-false a) (Took s k) f =
+          took s k (told (dirty (rowFlags (x .table) s))) f
+          (j ∙ first-no _ windowFull _ (e11 ∙ a)
+          ∙ first-no _ allOpen _ (e12 ∙ not-all l (x .table) (x .state .hand) s k size R low (sym f)))
+          ∙ turn-is a (Took s k) f
+
+-- where 3 to 7 are passed, an offer or a fetch is its turn
+module _ (ssd hdd t : List ℕ) (r : Record) (b : Block) (z : servesThen (length ssd) (length hdd) 4096 t r b 0 ≡ 0) where
+  abbrev x : Box
+  x = boxOf ssd hdd t r
+
+  B : ReadyBox ssd hdd 4096 t r
+  B = serves ssd hdd 4096 t r b z .0
+
+  abbrev size : length t ≡ tableLength (labelIn r)
+  size = B .box .sound .table-size
+
+  R : Rows (labelIn r) t
+  R = rows-of (labelIn r) t size (B .box .rows)
+
+  low : r .hand .0 < r .label .slots
+  low = hand-low r (B .box .record-kept)
+
+  pub offer-turned : effectOf (offer b) x ≡ turned (offerTurn t r (conditionOf t b)) b x
+  unfolding test plan clearedFrom
+  offer-turned = go (conditionOf t b) refl
+    where
+      asked : judged (offer b) x ≡ firstOf (slotOpen ∷ windowFull ∷ allOpen ∷ stampsSpent ∷ []) (λ q. test q (offer b) x)
+      asked = judged-on (offer b) x _ _ (offer-judges ssd hdd t r b) z
+
+      go : (k : Condition) → conditionOf t b ≡ k → effectOf (offer b) x ≡ turned (offerTurn t r k) b x
+      go NotCached e = sweeping (offer b) x b 7 size R low (asked ∙ first-no _ slotOpen _ (ap isOpen e))
+          (ap (λ (k : Condition). opensAnother toWrite k && leb 63 (openRows t)) e)
+          (ap (λ (k : Condition). not (isCached k) && allWriting t) e) refl (ap (offering x b) e)
+      go (Clean s) e = clean (told (leb 63 (openRows t)))
+        where
+          shut : judged (offer b) x ≡ firstOf (windowFull ∷ allOpen ∷ stampsSpent ∷ []) (λ q. test q (offer b) x)
+          shut = asked ∙ first-no _ slotOpen _ (ap isOpen e)
+
+          full : test windowFull (offer b) x ≡ leb 63 (openRows t)
+          full = ap (λ (k : Condition). opensAnother toWrite k && leb 63 (openRows t)) e
+
+          clean : Told (leb 63 (openRows t)) → effectOf (offer b) x ≡ turned (cleanTurn t r s) b x
+          clean (told-true a) = refuses (offer b) x windowFull (shut ∙ first-yes _ windowFull _ (full ∙ a)) ∙ ap (λ (T : Turn). turned T b x) (turn-full t _ a)
+          clean (told-false a) =
+              opening (offer b) x b 0
+              (shut ∙ first-no _ windowFull _ (full ∙ a) ∙ first-no _ allOpen _ (ap (λ (k : Condition). not (isCached k) && allWriting t) e))
+              refl s (withWriting (rowFlags t s)) (r .hand) (ap (offering x b) e)
+              ∙ ap (λ (T : Turn). turned T b x) (turn-room t _ a)
+      go (Dirty s) e = does (offer b) x (stay overwrite)
+          (asked ∙ first-no _ slotOpen _ (ap isOpen e)
+          ∙ first-no _ windowFull _ (ap (λ (k : Condition). opensAnother toWrite k && leb 63 (openRows t)) e)
+          ∙ first-no _ allOpen _ (ap (λ (k : Condition). not (isCached k) && allWriting t) e)
+          ∙ first-no _ stampsSpent _ (ap (λ (k : Condition). storesMeta (offering x b k) && spent (r .newest)) e) ∙ end _)
+          (ap (offering x b) e)
+      go (Writing s) e = refuses (offer b) x slotOpen (asked ∙ first-yes _ slotOpen _ (ap isOpen e))
+      go (Fetching s) e = refuses (offer b) x slotOpen (asked ∙ first-yes _ slotOpen _ (ap isOpen e))
+
+  pub fetch-turned : effectOf (fetch b) x ≡ turned (fetchTurn t r (conditionOf t b)) b x
+  unfolding test plan
+  fetch-turned = go (conditionOf t b) refl
+    where
+      asked : judged (fetch b) x ≡ firstOf (slotOpen ∷ hasSlot ∷ windowFull ∷ allOpen ∷ stampsSpent ∷ []) (λ q. test q (fetch b) x)
+      asked = judged-on (fetch b) x _ _ (fetch-judges ssd hdd t r b) z
+
+      go : (k : Condition) → conditionOf t b ≡ k → effectOf (fetch b) x ≡ turned (fetchTurn t r k) b x
+      go NotCached e = sweeping (fetch b) x b 5 size R low
+          (asked ∙ first-no _ slotOpen _ (ap isOpen e) ∙ first-no _ hasSlot _ (ap isCached e))
+          (ap (λ (k : Condition). opensAnother toFetch k && leb 63 (openRows t)) e)
+          (ap (λ (k : Condition). not (isCached k) && allWriting t) e) refl (ap (fetching x b) e)
+      go (Clean s) e = refuses (fetch b) x hasSlot (asked ∙ first-no _ slotOpen _ (ap isOpen e) ∙ first-yes _ hasSlot _ (ap isCached e))
+      go (Dirty s) e = refuses (fetch b) x hasSlot (asked ∙ first-no _ slotOpen _ (ap isOpen e) ∙ first-yes _ hasSlot _ (ap isCached e))
+      go (Writing s) e = refuses (fetch b) x slotOpen (asked ∙ first-yes _ slotOpen _ (ap isOpen e))
+      go (Fetching s) e = refuses (fetch b) x slotOpen (asked ∙ first-yes _ slotOpen _ (ap isOpen e))
+
+  -- and it can be performed
+  room : (T : Turn) → (leb 63 (openRows t) ≡ false → Performable T t r) → Performable (ifRoom t T) t r
+  room T f = go (told (leb 63 (openRows t)))
+    where
+      go : Told (leb 63 (openRows t)) → Performable (ifRoom t T) t r
+      go (told-true a) = rw (ifRoom, a) tt
+      go (told-false a) = rw (ifRoom, a) (f a)
+
+  few : leb 63 (openRows t) ≡ false → r .count < 63
+  few a = rw (open-count ssd hdd 4096 t r B) (leb-false 63 (openRows t) a)
+
+  sweep-performs : (flags : ℕ) → Performable (sweepTurn t r flags) t r
+  sweep-performs flags = room _ (λ a. take (few a) (sweptOf (labelIn r) t (r .hand)) refl)
+    where
+      took : (s : Slot) (k : ℕ) → r .count < 63 → s .0 < r .label .slots → Told (dirty (rowFlags t s))
+          → Performable (takeTurn (labelIn r) t flags (Took s k)) t r
+      took s k c h (told-true d) = rw (d, takeTurn, Performable) (h, d)
+      took s k c h (told-false d) = rw (d, takeTurn, Performable) (h, c)
+
+      take : r .count < 63 → (w : Swept) → sweptOf (labelIn r) t (r .hand) ≡ w → Performable (takeTurn (labelIn r) t flags w) t r
+      take c Stuck e = tt
+      take c (Took s k) e = took s k c (took-is (labelIn r) t (r .hand) s k size R low (sym e) .low) (told (dirty (rowFlags t s)))
+
+  pub offer-performs : (k : Condition) → Within (r .label .slots) k → Performable (offerTurn t r k) t r
+  offer-performs NotCached w = sweep-performs 7
+  offer-performs (Clean s) w = room _ (λ a. (w, few a))
+  offer-performs (Dirty s) w = tt
+  offer-performs (Writing s) w = tt
+  offer-performs (Fetching s) w = tt
+
+  pub fetch-performs : (k : Condition) → Performable (fetchTurn t r k) t r
+  fetch-performs NotCached = sweep-performs 5
+  fetch-performs (Clean s) = tt
+  fetch-performs (Dirty s) = tt
+  fetch-performs (Writing s) = tt
+  fetch-performs (Fetching s) = tt

@@ -1,0 +1,113 @@
+-- The turn of an offer or a fetch that 3 to 7 do not refuse: decided with nothing changed, 13 apart; and what it leaves, performed.
+use Prim.Native.Nat.{ℕ, _-_, _<_}
+use mathlib.Core.Path.{_≡_}
+use mathlib.Core.Bool.{Bool, true, false}
+use mathlib.Core.List.{List}
+use lib.ListN.{length}
+use lib.Dec.{leb}
+use Rattle.layout.specs.declared.Slot.{Slot}
+use Rattle.layout.specs.declared.Block.{Block}
+use Rattle.layout.specs.declared.Label.{Label}
+use Rattle.layout.specs.Places.{tableLength}
+use Rattle.layout.specs.Window.{windowMost}
+use Rattle.record.specs.declared.Record.{Record}
+use Rattle.record.specs.Record.{labelIn, largestStamp}
+use Rattle.record.specs.Rule.{recordTest}
+use Rattle.protocol.specs.declared.Condition.{Condition}
+use Rattle.protocol.specs.declared.Condition.the-variants.{NotCached, Clean, Dirty, Writing, Fetching}
+use Rattle.protocol.specs.Reply.{overwrite, copiedOut}
+use Rattle.protocol.specs.Rows.{rowFlags, dirty, withWriting, openRows}
+use Rattle.protocol.specs.Box.{Box, Effect, refusing}
+use Rattle.protocol.specs.Sweep.{nextSlot}
+use Rattle.protocol.specs.Plan.{stay, opens, copies}
+use Rattle.protocol.specs.Perform.{perform}
+use Rattle.protocol.specs.Judge.{slotOpen, hasSlot, windowFull, allOpen, stampsSpent, numberOf}
+use Rattle.table.specs.declared.Swept.{Swept}
+use Rattle.table.specs.declared.Swept.the-variants.{Took, Stuck}
+use Rattle.table.specs.Scan.{legalRows}
+use Rattle.table.specs.Sweeps.{sweptOf, clearedFrom}
+use Rattle.turns.specs.declared.turn.Turn.{Turn}
+use Rattle.turns.specs.declared.turn.Turn.the-variants.{Refused, Passes, Opens, CopiesOut}
+
+-- what a turn is decided on: a table and a record that 3 to 5 do not refuse, and how many rows are writing
+pub record Seen (table : List ℕ) (r : Record) (writing : ℕ) : Type 0 where
+  pub size : length table ≡ tableLength (labelIn r)
+  pub record-kept : recordTest r ≡ true
+  pub rows : legalRows (labelIn r) table ≡ true
+  pub counted : writing ≡ openRows table
+
+-- the slot that a condition names is one of so many
+abbrev pub Within : ℕ → Condition → Type 0
+Within n NotCached = Unit {0}
+Within n (Clean s) = s .0 < n
+Within n (Dirty s) = s .0 < n
+Within n (Writing s) = s .0 < n
+Within n (Fetching s) = s .0 < n
+
+-- 11, "while 63 are open", or the turn
+abbrev pub ifRoom : List ℕ → Turn → Turn
+ifRoom table t = elim (leb windowMost (openRows table)) [ true ↦ Refused (numberOf windowFull) | false ↦ t ]
+
+-- "if that slot is dirty, copy its page ..": a slot that the sweep took, after it passed so many; "Otherwise .. the hand moves one past
+-- it"; 12 where all are open
+abbrev pub takeTurn : Label → List ℕ → ℕ → Swept → Turn
+takeTurn l table flags (Took s passed) =
+    elim (dirty (rowFlags table s)) [ true ↦ CopiesOut s passed | false ↦ Opens s flags passed (nextSlot l s) ]
+takeTurn l table flags Stuck = Refused (numberOf allOpen)
+
+-- a block not cached is swept for, its row to have these flags
+abbrev pub sweepTurn : List ℕ → Record → ℕ → Turn
+sweepTurn table r flags = ifRoom table (takeTurn (labelIn r) table flags (sweptOf (labelIn r) table (r .hand)))
+
+-- a clean block's slot is opened where it is
+abbrev pub cleanTurn : List ℕ → Record → Slot → Turn
+cleanTurn table r s = ifRoom table (Opens s (withWriting (rowFlags table s)) 0 (r .hand))
+
+-- "Offer": dirty and not open "overwrite", clean "announced", not cached swept for, with flags 7
+abbrev pub offerTurn : List ℕ → Record → Condition → Turn
+offerTurn table r NotCached = sweepTurn table r 7
+offerTurn table r (Clean s) = cleanTurn table r s
+offerTurn table r (Dirty s) = Passes
+offerTurn table r (Writing s) = Refused (numberOf slotOpen)
+offerTurn table r (Fetching s) = Refused (numberOf slotOpen)
+
+-- "Fetch a block not cached: as an offer by sweep, with flags 5"
+abbrev pub fetchTurn : List ℕ → Record → Condition → Turn
+fetchTurn table r NotCached = sweepTurn table r 5
+fetchTurn table r (Clean s) = Refused (numberOf hasSlot)
+fetchTurn table r (Dirty s) = Refused (numberOf hasSlot)
+fetchTurn table r (Writing s) = Refused (numberOf slotOpen)
+fetchTurn table r (Fetching s) = Refused (numberOf slotOpen)
+
+-- a turn that leaves everything as it is, and is no refusal
+abbrev pub isPass : Turn → Bool
+isPass (Refused n) = false
+isPass Passes = true
+isPass (Opens s flags passed hand) = false
+isPass (CopiesOut s passed) = false
+
+-- what a turn asks of table and record where it is performed
+abbrev pub Performable : Turn → List ℕ → Record → Type 0
+Performable (Refused n) table r = Unit {0}
+Performable Passes table r = Unit {0}
+Performable (Opens s flags passed hand) table r = (s .0 < r .label .slots) × (r .count < windowMost)
+Performable (CopiesOut s passed) table r = (s .0 < r .label .slots) × (dirty (rowFlags table s) ≡ true)
+
+-- 13, "for an offer or fetch 4,294,967,232 or more"
+abbrev pub spent : ℕ → Bool
+spent newest = leb (largestStamp - windowMost) newest
+
+-- the table once so many slots were passed, from the hand on: they lose their used flags
+abbrev pub tableAfter : ℕ → Box → List ℕ
+tableAfter passed x = clearedFrom passed (labelIn (x .state)) (x .table) (x .state .hand)
+
+-- a turn performed: 13 is judged where a slot is opened
+abbrev pub turned : Turn → Block → Box → Effect
+turned (Refused n) b x = refusing n x
+turned Passes b x = perform (stay overwrite) x
+turned (Opens s flags passed hand) b x =
+    elim (spent (x .state .newest)) [
+      | true ↦ refusing (numberOf stampsSpent) x
+      | false ↦ perform (opens s b flags (tableAfter passed x) hand) x
+    ]
+turned (CopiesOut s passed) b x = perform (copies s copiedOut (tableAfter passed x) s) x

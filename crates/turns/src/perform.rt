@@ -1,0 +1,68 @@
+// The turn of an offer or a fetch, performed on images, table and record.
+use crate::turn::Turn;
+use layout::Block;
+use layout::WINDOW;
+use moves::answers;
+use protocol::Answer;
+use protocol::Outcome;
+use record::LARGEST_STAMP;
+use record::Record;
+use record::state;
+use table::sweep;
+ghost use mathlib.Core.Path.{_≡_};
+ghost use mathlib.Core.Bool.{true};
+ghost use Prim.Native.Nat.{_-_};
+ghost use lib.ListN.{length};
+ghost use Rattle.layout.specs.Places.{hddLength};
+ghost use Rattle.record.specs.Record.{labelIn};
+ghost use Rattle.record.specs.Rule.{recordTest};
+ghost use Rattle.protocol.specs.Box.{left};
+ghost use Rattle.protocol.specs.Calls.{leaves, boxOf};
+ghost use Rattle.table.specs.Scan.{legalRows};
+ghost use Rattle.judging.specs.Fits.{FitsRecord};
+ghost use Rattle.turns.specs.Turns.{Performable, spent, turned};
+
+// Whether 13 refuses an offer or a fetch that would open a slot.
+pub fn is_spent(newest: u32) -> bool
+    ensures { λ r. ⌜ r ≡ spent newest ⌝ }
+{
+    LARGEST_STAMP - (WINDOW as u32) <= newest
+}
+
+// Performs a turn of a block: where it opens a slot or copies one out, the slots that were passed lose their used flags first.
+pub fn perform(
+    ssd: &mut [u8],
+    hdd: &mut [u8],
+    table: &mut [u32],
+    state: Record,
+    b: Block,
+    turn: Turn,
+) -> Outcome
+    requires { ⌜ FitsRecord (length (now ssd)) (length (now table)) state ⌝ }
+    requires { ⌜ length (now hdd) ≡ hddLength (labelIn state) ⌝ }
+    requires { ⌜ recordTest state ≡ true ⌝ }
+    requires { ⌜ legalRows (labelIn state) (now table) ≡ true ⌝ }
+    requires { ⌜ Performable turn (now table) state ⌝ }
+    ensures { λ q. ⌜ leaves q (now (ssd .exit)) (now (hdd .exit)) (now (table .exit)) ≡ left (turned turn b (boxOf (now (ssd .entry)) (now (hdd .entry)) (now (table .entry)) state)) (record { ssd = now (ssd .entry); hdd = now (hdd .entry) }) ⌝ }
+{
+    let l = state.label;
+    let from = state.hand;
+    match turn {
+        Turn::Refused(number) => answers::refused(number, state),
+        Turn::Passes => answers::answered(Answer::Overwrite, state),
+        Turn::Opens(s, flags, passed, hand) => {
+            if is_spent(state.newest) {
+                return answers::refused(13, state);
+            }
+            sweep::clear_used(l, table, from, passed);
+            let next = moves::open_slot(ssd, table, state, s, b, flags, hand);
+            answers::answered(Answer::Announced(s), next)
+        }
+        Turn::CopiesOut(s, passed) => {
+            sweep::clear_used(l, table, from, passed);
+            moves::copy_out(ssd, hdd, table, state, s);
+            let next = state::with_hand(state, s);
+            answers::answered(Answer::CopiedOut, next)
+        }
+    }
+}
