@@ -7,10 +7,11 @@ use mathlib.Core.List.{List, [], _∷_, _++_}
 use native.Mathlib.Omega.{arith}
 use native.Mathlib.Nat.{zero-add}
 use native.Mathlib.Numerals.{add-one}
-use lib.ListN.{length, getD, set, take, drop, replicate, drop-of-length-le}
+use lib.ListN.{length, getD, set, take, drop, replicate, length-drop, drop-of-length-le}
 use lib.Dec.{ltb}
 use Rattle.layout.proofs.Booleans.{and-parts}
 use Rattle.pages.specs.Pages.{pageAt}
+use Rattle.pages.specs.Parts.{Part, pagePart}
 use Rattle.pages.proofs.PageLaws.{length-page}
 use Rattle.layout.specs.declared.Slot.{Slot}
 use Rattle.layout.specs.declared.Label.{Label}
@@ -27,19 +28,20 @@ use Rattle.record.proofs.WindowLaws.{take-array, array-more}
 use Rattle.protocol.proofs.refine.Metas.{length-metas, metas-at}
 use Rattle.stored.specs.declared.Newest.{Newest as Numbered}
 use Rattle.layout.specs.declared.Window.{Window}
-use Rattle.stored.specs.Stored.{newestAt, newerIf, newerAt, Found}
+use Rattle.stored.specs.Stored.{newestAt, newerIf, newerAt, numberedFrom, numberedOf}
 
 pub pages-most : (l : Label) → Limits l → metaPages l ≤ 240
 unfolding metaPages
 pages-most l h = omega (arith, h .slots-most)
 
--- a page that was read
-pub page-read : (l : Label) (ssd page : List ℕ) (p place : ℕ) → length ssd ≡ ssdLength l → p < metaPages l → place ≡ metaPlace l p
-    → page ≡ pageAt ssd place
-    → (page ≡ getD (metasOf l ssd) p []) × (length page ≡ 4096)
-page-read l ssd page p place size h f e =
-    let g : page ≡ pageAt ssd (1 + p) = e ∙ ap (pageAt ssd) f in
-    (g ∙ sym (metas-at l ssd p h), ap length g ∙ length-page ssd (1 + p) (omega arith))
+-- a page that was read: its bytes, and how many they are
+pub page-read : (l : Label) (ssd page : Part) (p : ℕ) → length (ssd .bytes) ≡ ssdLength l → p < metaPages l
+    → page ≡ pagePart ssd (metaPlace l p)
+    → (page .bytes ≡ getD (metasOf l (ssd .bytes)) p []) × (length (page .bytes) ≡ 4096)
+unfolding pagePart
+page-read l ssd page p size h e =
+    let g : page .bytes ≡ pageAt (ssd .bytes) (1 + p) = ap (λ (x : Part). x .bytes) e in
+    (g ∙ sym (metas-at l (ssd .bytes) p h), ap length g ∙ length-page (ssd .bytes) (1 + p) (omega arith))
 
 -- the pages that are left
 pub metas-left : (l : Label) (ssd : List ℕ) (p : ℕ) → p < metaPages l
@@ -49,13 +51,31 @@ metas-left l ssd p h = left (metasOf l ssd) p [] (rw (length-metas l ssd) h)
 pub metas-end : (l : Label) (ssd : List ℕ) (p : ℕ) → metaPages l ≤ p → drop p (metasOf l ssd) ≡ []
 metas-end l ssd p h = drop-of-length-le (metasOf l ssd) {i = p} (rw (length-metas l ssd) h)
 
--- what the search for the newest page knows by page p
-pub record Seen (pages : List (List ℕ)) (n : Numbered) (p : ℕ) : Type 0 where
-  pub rest : newestFrom (newestAt pages (n .at)) (drop p pages) ≡ newestOf pages
-  pub stamp-is : n .stamp ≡ newestAt pages (n .at) .stamp
-  pub on-page : n .at ≤ p
+-- the search for the newest page: a page more, and all of them
+pub numbered-more : (pages : List (List ℕ)) (n next : Numbered) (p stamp : ℕ) → p < length pages → stamp ≡ stampOf (getD pages p [])
+    → next ≡ newerAt n stamp p → numberedFrom n p (drop p pages) ≡ numberedOf pages
+    → numberedFrom next (p + 1) (drop (p + 1) pages) ≡ numberedOf pages
+unfolding numberedFrom
+numbered-more pages n next p stamp h f e i = rw (e, f) (rw (left pages p [] h) at i)
 
-pub seen-none : (pages : List (List ℕ)) → Seen pages (record { stamp = 0; at = 0 }) 0
+pub numbered-all : (pages : List (List ℕ)) (n : Numbered) (p : ℕ) → length pages ≤ p
+    → numberedFrom n p (drop p pages) ≡ numberedOf pages → n ≡ numberedOf pages
+unfolding numberedFrom
+numbered-all pages n p h i = rw (drop-of-length-le pages {i = p} h) at i
+
+-- what is known of the newest page, found by its number
+pub record Found (pages : List (List ℕ)) (n : Numbered) : Type 0 where
+  pub newest-is : newestAt pages (n .at) ≡ newestOf pages
+  pub stamp-is : n .stamp ≡ newestOf pages .stamp
+  pub on-page : n .at ≤ length pages
+
+-- and by page p
+record Seen (pages : List (List ℕ)) (n : Numbered) (p : ℕ) : Type 0 where
+  rest : newestFrom (newestAt pages (n .at)) (drop p pages) ≡ newestOf pages
+  stamp-is : n .stamp ≡ newestAt pages (n .at) .stamp
+  on-page : n .at ≤ p
+
+seen-none : (pages : List (List ℕ)) → Seen pages (record { stamp = 0; at = 0 }) 0
 seen-none pages = record { rest = refl; stamp-is = refl; on-page = omega arith }
 
 -- a page more: what was found before, or it
@@ -70,14 +90,14 @@ seen-if pages n p true e s m r = record {
 }
 seen-if pages n p false e s m r = record { rest = rw (newer, ← s, e) at r; stamp-is = s; on-page = omega arith }
 
-pub seen-more : (pages : List (List ℕ)) (n next : Numbered) (p stamp : ℕ) → p < length pages → stamp ≡ stampOf (getD pages p [])
+seen-more : (pages : List (List ℕ)) (n next : Numbered) (p stamp : ℕ) → p < length pages → stamp ≡ stampOf (getD pages p [])
     → next ≡ newerAt n stamp p → Seen pages n p → Seen pages next (p + 1)
 unfolding newestFrom
 seen-more pages n next p stamp h f e S =
     rw (e, f) (seen-if pages n p (ltb (n .stamp) (stampOf (getD pages p []))) refl (S .stamp-is) (S .on-page)
     (rw (left pages p [] h) at (S .rest)))
 
-pub seen-all : (pages : List (List ℕ)) (n : Numbered) (p : ℕ) → length pages ≤ p → p ≤ length pages → Seen pages n p → Found pages n
+seen-all : (pages : List (List ℕ)) (n : Numbered) (p : ℕ) → length pages ≤ p → p ≤ length pages → Seen pages n p → Found pages n
 unfolding newestFrom
 seen-all pages n p h k S =
     let e : newestAt pages (n .at) ≡ newestOf pages = rw (drop-of-length-le pages {i = p} h) at (S .rest) in
@@ -86,6 +106,19 @@ seen-all pages n p h k S =
       stamp-is = S .stamp-is ∙ ap (λ (m : Newest). m .stamp) e;
       on-page = omega (arith, S .on-page);
     }
+
+found-from : (pages rest : List (List ℕ)) (n : Numbered) (p : ℕ) → drop p pages ≡ rest → p ≤ length pages → Seen pages n p
+    → Found pages (numberedFrom n p rest)
+unfolding numberedFrom
+found-from pages [] n p e h S = seen-all pages n p (omega (arith, length-drop p pages, ap length e)) h S
+found-from pages (page ∷ rest) n p e h S =
+    let k : p < length pages = omega (arith, length-drop p pages, ap length e) in
+    let d = left pages p [] k in
+    found-from pages rest (newerAt n (stampOf page) p) (p + 1) (cc) (omega arith)
+    (seen-more pages n _ p (stampOf page) k (cc) refl S)
+
+pub found : (pages : List (List ℕ)) (n : Numbered) → n ≡ numberedOf pages → Found pages n
+found pages n e = rw e (found-from pages pages _ 0 refl (omega arith) (seen-none pages))
 
 -- a window, place by place
 firsts-more : {A : Type 0} (k : ℕ) (f : ℕ → A) → firsts (suc k) f ≡ firsts k f ++ (f k ∷ [])

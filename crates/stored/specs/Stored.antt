@@ -1,8 +1,7 @@
 -- The label of an image, and the newest of its metadata pages, found by its number; its window in an array.
-use Prim.Native.Nat.{ℕ, zero, suc, _+_, _≤_}
-use mathlib.Core.Path.{_≡_}
+use Prim.Native.Nat.{ℕ, zero, suc, _+_}
 use mathlib.Core.Bool.{Bool, true, false}
-use mathlib.Core.List.{List, []}
+use mathlib.Core.List.{List, [], _∷_}
 use lib.ListN.{length, getD}
 use lib.Dec.{leb, ltb}
 use Rattle.pages.specs.Pages.{pageAt}
@@ -11,7 +10,7 @@ use Rattle.layout.specs.declared.LabelRead.the-variants.{Illegal}
 use Rattle.layout.specs.Places.{labelPlace}
 use Rattle.layout.specs.LabelPage.{decodeLabel}
 use Rattle.layout.specs.MetaPage.{stampOf, windowOf}
-use Rattle.protocol.specs.Recovery.{Newest, newestOf}
+use Rattle.protocol.specs.Recovery.{Newest}
 use Rattle.stored.specs.declared.Newest.{Newest as Numbered}
 
 -- what the first page of an image is read as, where the image has a page
@@ -35,8 +34,11 @@ newerIf false n stamp p = n
 abbrev pub newerAt : Numbered → ℕ → ℕ → Numbered
 newerAt n stamp p = newerIf (ltb (n .stamp) stamp) n stamp p
 
--- the newest of the pages was found
-pub record Found (pages : List (List ℕ)) (n : Numbered) : Type 0 where
-  pub newest-is : newestAt pages (n .at) ≡ newestOf pages
-  pub stamp-is : n .stamp ≡ newestOf pages .stamp
-  pub on-page : n .at ≤ length pages
+-- the newest of what was found before and the pages from page p on: the first with the largest stamp
+unfoldable pub numberedFrom : Numbered → ℕ → List (List ℕ) → Numbered
+numberedFrom n p [] = n
+numberedFrom n p (page ∷ pages) = numberedFrom (newerAt n (stampOf page) p) (p + 1) pages
+
+-- the newest of all pages; where every stamp is 0, none
+abbrev pub numberedOf : List (List ℕ) → Numbered
+numberedOf pages = numberedFrom (record { stamp = 0; at = 0 }) 0 pages

@@ -1,5 +1,5 @@
 -- A block in two entries, found by a bit for each block of a range of 524,288.
-use Prim.Native.Nat.{ℕ, _-_, _/_, _%_, _^_}
+use Prim.Native.Nat.{ℕ, _+_, _-_, _/_, _%_, _^_, min}
 use mathlib.Core.Bool.{Bool, true, false, _&&_}
 use mathlib.Core.List.{List, [], _∷_}
 use lib.ListN.{getD, set}
@@ -34,6 +34,10 @@ visitedIf false map b = record { fresh = true; map = map }
 -- only a valid row's block in the range counts
 abbrev pub visited : ℕ → List ℕ → ℕ → ℕ → Visit
 visited start map block flags = visitedIf (valid flags && inSpan start block) map (block - start)
+
+-- the slot after the last one of the page that begins with slot s
+abbrev pub pageEnd : ℕ → ℕ → ℕ
+pageEnd s slots = min (s + 240) slots
 
 unfoldable pub allFresh : ℕ → List ℕ → List ℕ → Bool
 allFresh start map [] = true

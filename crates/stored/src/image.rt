@@ -15,10 +15,11 @@ ghost use mathlib.Core.Bool.{true};
 ghost use mathlib.Core.List.{[]};
 ghost use Prim.Native.Nat.{_+_, _≤_, _<_};
 ghost use lib.ListN.{length, getD};
-ghost use Rattle.layout.specs.Places.{Limits, metaPages, ssdLength};
+ghost use Rattle.pages.specs.Parts.{part, pagePart};
+ghost use Rattle.layout.specs.Places.{Limits, metaPages, metaPlace, ssdLength};
 ghost use Rattle.layout.specs.MetaPage.{stampOf, countOf, windowOf};
 ghost use Rattle.protocol.specs.Recovery.{metasOf, entryIn, eachLegal};
-ghost use Rattle.stored.specs.Stored.{labelIf, newestAt, newerAt, Found};
+ghost use Rattle.stored.specs.Stored.{labelIf, newestAt, newerAt, numberedOf};
 ghost use Rattle.layout.specs.Window.{windowMost, windowFrom};
 
 // The label of an SSD image, if its first page is one.
@@ -31,11 +32,11 @@ pub fn label_of(ssd: &[u8]) -> LabelRead
     label_page::decode_label(pages::page_at(ssd, 0))
 }
 
-// Metadata page p of an SSD image.
+// Metadata page p of an SSD image: the image's own bytes.
 pub fn meta_page(ssd: &[u8], l: Label, p: u32) -> &[u8]
     requires { ⌜ length (now ssd) ≡ ssdLength l ⌝ }
     requires { ⌜ p < metaPages l ⌝ }
-    ensures { λ r. ⌜ (now r ≡ getD (metasOf l (now (ssd .entry))) p []) × (length (now r) ≡ 4096) ⌝ }
+    ensures { λ r. ⌜ part r ≡ pagePart (part (ssd .entry)) (metaPlace l p) ⌝ }
 {
     pages::page_at(ssd, places::meta_place(l, p))
 }
@@ -69,11 +70,11 @@ fn newer(n: Newest, stamp: u32, p: u32) -> Newest
     n
 }
 
-// The page with the largest stamp.
+// The first page with the largest stamp; none where every stamp is 0.
 pub fn newest(ssd: &[u8], l: Label) -> Newest
     requires { ⌜ length (now ssd) ≡ ssdLength l ⌝ }
     requires { ⌜ Limits l ⌝ }
-    ensures { λ r. ⌜ Found (metasOf l (now (ssd .entry))) r ⌝ }
+    ensures { λ r. ⌜ r ≡ numberedOf (metasOf l (now (ssd .entry))) ⌝ }
 {
     let m = places::meta_pages(l);
     let mut n = Newest { stamp: 0, at: 0 };

@@ -9,7 +9,7 @@ ghost use Prim.Native.Nat.{ℕ, _+_, _*_, _%_, _≤_, _<_};
 ghost use lib.ListN.{length, replicate};
 ghost use Rattle.layout.specs.Places.{Limits, ssdLength};
 ghost use Rattle.protocol.specs.Recovery.{metasOf, eachLegal, noneTwice, storedRows};
-ghost use Rattle.stored.specs.Twice.{bitOf, marked, Visit, visited, allFresh};
+ghost use Rattle.stored.specs.Twice.{bitOf, marked, Visit, visited, pageEnd, allFresh};
 
 // Whether bit b is set.
 fn is_marked(map: &[u32], b: u32) -> bool
@@ -55,7 +55,7 @@ fn visit(map: &mut [u32], start: u32, block: u32, flags: u32) -> bool
 fn page_end(s: u32, slots: u32) -> u32
     requires { ⌜ s < slots ⌝ }
     requires { ⌜ slots ≤ 57600 ⌝ }
-    ensures { λ r. ⌜ (s < r) × (r ≤ slots) × (r ≤ s + 240) × (r < slots → r ≡ s + 240) ⌝ }
+    ensures { λ r. ⌜ r ≡ pageEnd s slots ⌝ }
 {
     if slots - s < 240 {
         return slots;

@@ -3,7 +3,7 @@ use Rattle.protocol.specs.Recovery.{metasOf}
 use Rattle.protocol.proofs.refine.Metas.{length-metas}
 use Rattle.protocol.proofs.refine.Entries.{length-rows}
 use Rattle.stored.specs.Stored.{newestAt}
-use Rattle.stored.proofs.StoredLaws.{newest-bounded, pending-bounded}
+use Rattle.stored.proofs.StoredLaws.{found, newest-bounded, pending-bounded}
 use Rattle.stored.proofs.RuleLaws.{passed}
 use Rattle.recovery.specs.Fill.{freed}
 use Rattle.recovery.proofs.FillLaws.{recovered-is}
@@ -22,14 +22,14 @@ pending-requires : tie.Need-pending-requires
 pending-requires c κs =
     let s = c .before .before .before .before .before .before .before in
     let k = passed (s .args .l) (metasOf (s .args .l) (s .args .ssd .now)) (s .pre .1 .1 .1) in
-    (s .pre .0, (k .legal, rw (← length-metas (s .args .l) (s .args .ssd .now)) (c .newest .ensures .on-page)))
+    (s .pre .0, (k .legal, rw (← length-metas (s .args .l) (s .args .ssd .now)) (found _ _ (c .newest .ensures) .on-page)))
 
 free-rows-requires : tie.Need-free-rows-requires
 free-rows-requires c κs =
     let s = c .before .before .before .before .before .before .before .before .before in
     let k = passed (s .args .l) (metasOf (s .args .l) (s .args .ssd .now)) (s .pre .1 .1 .1) in
     let w = newest-bounded (s .args .l) (metasOf (s .args .l) (s .args .ssd .now)) _ (k .legal)
-    (c .before .before .newest .ensures .on-page) in
+    (found _ _ (c .before .before .newest .ensures) .on-page) in
     let z = pending-bounded (s .args .l) _ _ (c .before .pending .ensures) w in
     (ap length (c .before .before .before .before .before .fill .ensures) ∙ length-rows _ _, (z .0, z .1))
 
@@ -50,9 +50,10 @@ returns c =
     let s = d .before .before .before .before .before .before .before .before in
     let pages = metasOf (s .args .l) (s .args .ssd .now) in
     let k = passed (s .args .l) pages (s .pre .1 .1 .1) in
-    let w = newest-bounded (s .args .l) pages _ (k .legal) (n .ensures .on-page) in
+    let g = found pages (n .result) (n .ensures) in
+    let w = newest-bounded (s .args .l) pages _ (k .legal) (g .on-page) in
     recovered-is (s .args .l) pages (newestAt pages (n .result .at)) (n .result .stamp) (d .pending .result) _ _ _
-    (n .ensures .newest-is) (n .ensures .stamp-is) (d .pending .ensures) (w .ranged) (rw (n .ensures .newest-is) (k .opened))
+    (g .newest-is) (g .stamp-is) (d .pending .ensures) (w .ranged) (rw (g .newest-is) (k .opened))
     (f .free-rows .ensures ∙ ap (freed _) (d .before .before .before .before .fill .ensures)) (c .before .phase-of .ensures)
     (c .fresh .ensures)
 

@@ -2,7 +2,7 @@ use mathlib.Core.List.{[]}
 use borrow.Author.Tests.{not-true, not-false}
 use Rattle.layout.specs.PageRule.{pageTest}
 use Rattle.layout.proofs.Loops.{go-on, stop}
-use Rattle.stored.proofs.StoredLaws.{pages-most}
+use Rattle.stored.proofs.StoredLaws.{page-read, pages-most}
 use Rattle.stored.proofs.RuleLaws.{legal-left, legal-end}
 use Prim.Native.Nat.{_-_, _≤_, _<_}
 use mathlib.Core.Path.{_≡_, sym, ap, _∙_}
@@ -32,7 +32,9 @@ meta-page-requires c κs = search needs
 legal-page-requires : tie.Need-legal-page-requires Inv-loop μ-loop
 legal-page-requires c κs =
     let s = c .before .before .before .before .before in
-    (c .meta-page .ensures .1, omega (arith, pages-most (s .args .l) (s .pre .1), c .before .before .loop .inv .0))
+    let l = c .before .before .loop in
+    let h : l .p < metaPages (s .args .l) = omega (arith, l .inv .0) in
+    (page-read (s .args .l) _ _ _ (s .pre .0) h (c .meta-page .ensures) .1, omega (arith, pages-most (s .args .l) (s .pre .1), c .before .before .loop .inv .0))
 
 returns : tie.Need-returns Inv-loop μ-loop
 returns c =
@@ -41,7 +43,7 @@ returns c =
     let h : l .p < metaPages (s .args .l) = omega (arith, l .inv .0) in
     stop (pageTest (s .args .l) (l .p) (getD (metasOf (s .args .l) (s .args .ssd .now)) (l .p) [])) _ (l .inv .2)
     (legal-left (s .args .l) (s .args .ssd .now) (l .p) h)
-    (ap (pageTest (s .args .l) (l .p)) (sym (c .before .before .meta-page .ensures .0)) ∙ sym (c .before .legal-page .ensures)
+    (ap (pageTest (s .args .l) (l .p)) (sym (page-read (s .args .l) _ _ _ (s .pre .0) h (c .before .before .meta-page .ensures) .0)) ∙ sym (c .before .legal-page .ensures)
     ∙ not-true _ (c .if1 .taken))
 
 add-p : tie.Need-add-p Inv-loop μ-loop
@@ -59,7 +61,7 @@ loop-again c =
       omega arith,
       go-on (pageTest (s .args .l) (l .p) (getD (metasOf (s .args .l) (s .args .ssd .now)) (l .p) [])) _ (l .inv .2)
           (legal-left (s .args .l) (s .args .ssd .now) (l .p) h)
-          (ap (pageTest (s .args .l) (l .p)) (sym (c .before .before .meta-page .ensures .0)) ∙ sym (c .before .legal-page .ensures)
+          (ap (pageTest (s .args .l) (l .p)) (sym (page-read (s .args .l) _ _ _ (s .pre .0) h (c .before .before .meta-page .ensures) .0)) ∙ sym (c .before .legal-page .ensures)
           ∙ not-false _ (c .if1 .left)),
     )
 

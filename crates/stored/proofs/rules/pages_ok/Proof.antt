@@ -5,7 +5,7 @@ use Rattle.protocol.specs.Recovery.{metasOf, Newest, newestOf, allOpenIn}
 use Rattle.record.proofs.WindowLaws.{take-array}
 use Rattle.protocol.proofs.refine.Metas.{length-metas}
 use Rattle.layout.specs.declared.Window.{Window}
-use Rattle.stored.proofs.StoredLaws.{newest-bounded, pending-bounded}
+use Rattle.stored.proofs.StoredLaws.{found, newest-bounded, pending-bounded}
 use Rattle.stored.proofs.RuleLaws.{page-bad, stamps-bad, blocks-bad, by-open}
 use borrow.Author.Needs.{needs}
 use Rattle.stored.proofs.rules.pages_ok.Statement.{statement}
@@ -46,7 +46,7 @@ pending-requires c κs =
         sym (c .before .before .before .before .before .before .all-legal .ensures) ∙ not-false _
             (c .before .before .before .before .before .if1 .left),
         rw (← length-metas (s .args .l) (s .args .ssd .now))
-            (c .newest .ensures .on-page),
+            (found _ _ (c .newest .ensures) .on-page),
       ),
     )
 
@@ -55,7 +55,7 @@ all-open-requires c κs =
     let s = c .before .before .before .before .before .before .before .before .before in
     let w = newest-bounded (s .args .l) (metasOf (s .args .l) (s .args .ssd .now)) _
     (sym (c .before .before .before .before .before .before .before .all-legal .ensures) ∙ not-false _
-    (c .before .before .before .before .before .before .if1 .left)) (c .before .newest .ensures .on-page) in
+    (c .before .before .before .before .before .before .if1 .left)) (found _ _ (c .before .newest .ensures) .on-page) in
     let z = pending-bounded (s .args .l) _ _ (c .pending .ensures) w in
     (s .pre .0, (z .0, z .1))
 
@@ -63,7 +63,7 @@ returns-4 : tie.Need-returns-4
 returns-4 c =
     let s = c .before .before .before .before .before .before .before .before .before .before in
     let pages = metasOf (s .args .l) (s .args .ssd .now) in
-    let n = c .before .before .newest .ensures in
+    let n = found _ _ (c .before .before .newest .ensures) in
     let w : take (c .before .pending .result .count) (c .before .pending .result .slots) ≡ newestOf pages .window =
     ap (λ (v : Window). take (v .count) (v .slots)) (c .before .pending .ensures) ∙ take-array _ ∙ ap
     (λ (m : Newest). m .window) (n .newest-is) in

@@ -8,6 +8,7 @@ use Rattle.layout.specs.MetaPage.{entryAt, rowsFrom}
 use Rattle.layout.proofs.Loops.{go-on, stop}
 use Rattle.protocol.specs.Recovery.{metasOf, entryIn, storedRows}
 use Rattle.stored.specs.Twice.{Visit, visited, allFresh}
+use Rattle.stored.proofs.StoredLaws.{page-read}
 use Rattle.stored.proofs.TwiceLaws.{entry-on, page-low, fresh-left, fresh-end}
 use borrow.Author.Needs.{needs}
 use native.Mathlib.Omega.{arith}
@@ -44,10 +45,18 @@ page-end-requires c κs = search needs
 loop2-holds : tie.Need-loop2-holds Inv-loop2 μ-loop2 Inv-loop μ-loop
 loop2-holds c =
     let l = c .before .before .before .loop in
-    (omega arith, omega (arith, c .page-end .ensures .0), l .inv .3, refl)
+    (omega arith, omega (arith, c .page-end .ensures), l .inv .3, refl)
 
 entry-at-requires : tie.Need-entry-at-requires Inv-loop2 μ-loop2 Inv-loop μ-loop
-entry-at-requires c κs = search needs
+entry-at-requires c κs =
+    let q = c .before .before .before in
+    let l = q .before .before .loop in
+    let s = q .before .before .before .before .before in
+    let h : l .s < s .args .l .slots = omega (arith, l .inv .0) in
+    let k = c .before .loop2 in (
+      page-read (s .args .l) _ _ (l .p) (s .pre .1 .0) (page-low (s .args .l) (l .s) (l .p) (l .inv .2 h) h) (q .meta-page .ensures) .1,
+      omega (arith, k .inv .0, c .before .before .page-end .ensures),
+    )
 
 visit-requires : tie.Need-visit-requires Inv-loop2 μ-loop2 Inv-loop μ-loop
 visit-requires c κs = search needs
@@ -67,10 +76,11 @@ returns c =
     let at : l .s ≡ 240 * l .p = l .inv .2 h in
     let z = c .before .before .before .before .before .before .before .before .before .page-end .ensures in
     let e = c .before .before .before .before .before .before .entry-at .ensures ∙ ap (λ (x : List ℕ). entryAt x (k .i))
-    (c .before .before .before .before .before .before .before .before .before .before .meta-page .ensures .0)
-    ∙ entry-on pages (k .s) (l .p) (k .i) (omega (arith, k .inv .0)) (omega (arith, k .inv .0, z .2)) in
+    (page-read (s .args .l) _ _ (l .p) (s .pre .1 .0) (page-low (s .args .l) (l .s) (l .p) at h)
+    (c .before .before .before .before .before .before .before .before .before .before .meta-page .ensures) .0)
+    ∙ entry-on pages (k .s) (l .p) (k .i) (omega (arith, k .inv .0)) (omega (arith, k .inv .0, z)) in
     let v = c .before .before .before .visit .ensures ∙ ap (λ (x : Entry). visited (s .args .start) (k .map) (x .block .0) (x .flags)) e in
-    let o = fresh-left (s .args .start) (k .map) (s .args .l .slots) f (k .s) (omega (arith, l .inv .0, z .1)) in
+    let o = fresh-left (s .args .start) (k .map) (s .args .l .slots) f (k .s) (omega (arith, l .inv .0, z)) in
     stop _ _ (k .inv .3 ∙ l .inv .4) o (ap (λ (x : Visit). x .fresh) (sym v) ∙ not-true _ (c .if1 .taken))
 
 add-i : tie.Need-add-i Inv-loop2 μ-loop2 Inv-loop μ-loop
@@ -94,10 +104,11 @@ loop2-again c =
     let at : l .s ≡ 240 * l .p = l .inv .2 h in
     let z = c .before .before .before .before .before .before .before .before .before .page-end .ensures in
     let e = c .before .before .before .before .before .before .entry-at .ensures ∙ ap (λ (x : List ℕ). entryAt x (k .i))
-    (c .before .before .before .before .before .before .before .before .before .before .meta-page .ensures .0)
-    ∙ entry-on pages (k .s) (l .p) (k .i) (omega (arith, k .inv .0)) (omega (arith, k .inv .0, z .2)) in
+    (page-read (s .args .l) _ _ (l .p) (s .pre .1 .0) (page-low (s .args .l) (l .s) (l .p) at h)
+    (c .before .before .before .before .before .before .before .before .before .before .meta-page .ensures) .0)
+    ∙ entry-on pages (k .s) (l .p) (k .i) (omega (arith, k .inv .0)) (omega (arith, k .inv .0, z)) in
     let v = c .before .before .before .visit .ensures ∙ ap (λ (x : Entry). visited (s .args .start) (k .map) (x .block .0) (x .flags)) e in
-    let o = fresh-left (s .args .start) (k .map) (s .args .l .slots) f (k .s) (omega (arith, l .inv .0, z .1)) in (
+    let o = fresh-left (s .args .start) (k .map) (s .args .l .slots) f (k .s) (omega (arith, l .inv .0, z)) in (
       omega (arith, k .inv .0),
       omega arith,
       omega (arith, c .before .before .before .visit .kept, k .inv .2),
@@ -129,8 +140,8 @@ loop-again c =
     let at : l .s ≡ 240 * l .p = l .inv .2 h in
     let e : k .s ≡ c .before .before .page-end .result = omega (arith, k .inv .1) in (
       l .inv .0,
-      omega (arith, e, z .1),
-      (λ q. let r = z .3 (omega (arith, e, q)) in omega (arith, e, r, at)),
+      omega (arith, e, z),
+      (λ q. omega (arith, e, z, q, at)),
       k .inv .2,
       k .inv .3
           ∙ l .inv .4,
