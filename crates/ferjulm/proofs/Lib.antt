@@ -1,3 +1,4 @@
 pub mod CodeLaws
 pub mod CodesApart
+pub mod ListLaws
 pub mod ViewLaws
