@@ -7,3 +7,4 @@ pub mod Cases
 pub mod Rejected
 pub mod Shown
 pub mod Edges
+pub mod Disk
