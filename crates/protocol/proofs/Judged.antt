@@ -16,6 +16,7 @@ use Rattle.protocol.specs.Calls.{decided, effectOf, resultOf}
 use Rattle.protocol.proofs.Reasons.{number-is, belongs}
 use Rattle.protocol.proofs.cases.Edges as computed-first
 use Rattle.protocol.proofs.cases.Rejected as rejected-first
+use Rattle.protocol.proofs.cases.Disk as disk-first
 use Rattle.protocol.proofs.why.Same as stated-first
 
 -- no reason of a chain holds
