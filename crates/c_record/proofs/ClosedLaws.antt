@@ -1,4 +1,4 @@
--- What an answer leaves of words and slot, and how many words a record is.
+-- What an answer leaves of the words and of the place of a page, and how many words a record is.
 use Prim.Native.Nat.{ℕ}
 use mathlib.Core.Path.{_≡_, refl}
 use mathlib.Core.Bool.{true, false}
@@ -7,23 +7,32 @@ use lib.ListN.{length}
 use lib.Dec.{eqb}
 use borrow.Author.Tests.{eqb-true}
 use Rattle.record.specs.declared.Record.{Record}
+use Rattle.protocol.specs.declared.Stored.{Stored}
 use Rattle.protocol.specs.Reply.{Reply, refusal, answer, refused}
 use Rattle.layout.proofs.Booleans.{clash, and-parts}
 use Rattle.c_record.specs.Words.{wordsOf, isRecord}
-use Rattle.c_record.specs.Codes.{codeOf, slotAfter, closedBy}
+use Rattle.c_record.specs.declared.Place.{Place}
+use Rattle.c_record.specs.Codes.{codeOf, closedBy, placeOf, placeAfter}
 
--- a refusal leaves words and slot
-pub refused-closed : (said : Reply) (r : Record) (words : List ℕ) (slot code : ℕ) → code ≡ codeOf said → refused said ≡ true
-    → record { code = code; words = words; slot = slot } ≡ closedBy said r words slot
-refused-closed (refusal n) r words slot code e h = rw e
-refused-closed (answer n s) r words slot code e h = clash h refl
+-- a refusal leaves the words and the place
+pub refused-closed : (said : Reply) (r : Record) (words : List ℕ) (code : ℕ) → code ≡ codeOf said → refused said ≡ true
+    → record { code = code; words = words } ≡ closedBy said r words
+refused-closed (refusal n) r words code e h = rw e
+refused-closed (answer n s) r words code e h = clash h refl
 
--- any other answer packs the record, and sets the slot that it carries
-pub answered-closed : (said : Reply) (r : Record) (words after : List ℕ) (slot next code : ℕ) → code ≡ codeOf said → refused said ≡ false
-    → after ≡ wordsOf r → next ≡ slotAfter said slot
-    → record { code = code; words = after; slot = next } ≡ closedBy said r words slot
-answered-closed (refusal n) r words after slot next code e h p q = clash refl h
-answered-closed (answer n s) r words after slot next code e h p q = rw (e, p, q)
+pub refused-place : (said : Reply) (stored : Stored) (before : Place) → refused said ≡ true → before ≡ placeAfter said stored before
+refused-place (refusal n) stored before h = refl
+refused-place (answer n s) stored before h = clash h refl
+
+-- any other answer packs the record, and names the page that was stored
+pub answered-closed : (said : Reply) (r : Record) (words after : List ℕ) (code : ℕ) → code ≡ codeOf said → refused said ≡ false
+    → after ≡ wordsOf r → record { code = code; words = after } ≡ closedBy said r words
+answered-closed (refusal n) r words after code e h p = clash refl h
+answered-closed (answer n s) r words after code e h p = rw (e, p)
+
+pub answered-place : (said : Reply) (stored : Stored) (before : Place) → refused said ≡ false → placeOf stored ≡ placeAfter said stored before
+answered-place (refusal n) stored before h = clash refl h
+answered-place (answer n s) stored before h = refl
 
 -- words that are a record are 71
 pub record-length : (words : List ℕ) → isRecord words ≡ true → length words ≡ 71

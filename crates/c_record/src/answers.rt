@@ -1,8 +1,10 @@
 // What an answer becomes for C.
+use crate::Place;
 use protocol::Answer;
+use protocol::Stored;
 ghost use mathlib.Core.Path.{_≡_};
 ghost use Rattle.protocol.specs.Reply.{replyOf, refused};
-ghost use Rattle.c_record.specs.Codes.{codeOf, slotAfter};
+ghost use Rattle.c_record.specs.Codes.{codeOf, slotAfter, pageOf, placeOf};
 
 // Whether it is a refusal.
 pub fn is_refused(answer: Answer) -> bool
@@ -49,5 +51,29 @@ pub fn slot_of(answer: Answer, before: u32) -> u32
         Answer::OnDisk => before,
         Answer::NothingToDo => before,
         Answer::Done => before,
+    }
+}
+
+// Page `page` of an image.
+fn page_of(image: u32, page: u32) -> Place
+    ensures { λ r. ⌜ r ≡ pageOf image page ⌝ }
+{
+    Place {
+        image,
+        offset: 4096 * page as u64,
+    }
+}
+
+// Where the page lies that a call stored.
+pub fn place_of(stored: Stored) -> Place
+    ensures { λ r. ⌜ r ≡ placeOf stored ⌝ }
+{
+    match stored {
+        Stored::Nothing => Place {
+            image: 0,
+            offset: 0,
+        },
+        Stored::Ssd(page) => page_of(1, page),
+        Stored::Hdd(page) => page_of(2, page),
     }
 }

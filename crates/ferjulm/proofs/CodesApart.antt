@@ -10,14 +10,16 @@ use lib.Dec.{eqb, leb}
 use Rattle.record.specs.declared.Record.{Record}
 use Rattle.protocol.specs.declared.Answer.{Answer}
 use Rattle.protocol.specs.declared.Answer.the-variants.{Refused, Announced, Overwrite, CopiedOut, InSlot, OnDisk, NothingToDo, Done}
-use Rattle.protocol.specs.Reply.{replyOf, refused}
+use Rattle.protocol.specs.declared.Stored.{Stored}
+use Rattle.protocol.specs.Reply.{Reply, refusal, answer, replyOf, refused}
 use Rattle.protocol.specs.Box.{Box, left}
 use Rattle.protocol.specs.Plan.{Call}
 use Rattle.protocol.specs.Judge.{Reason, badLimits, noLabel, badRecord, wrongLength, badRows, wrongPhase, blockTooHigh, slotOpen, wrongState, hasSlot, windowFull, allOpen, stampsSpent, numberOf, judged}
 use Rattle.protocol.specs.Calls.{decided, effectOf, resultOf, boxOf}
 use Rattle.layout.proofs.Booleans.{clash}
 use Rattle.protocol.proofs.why.Answers.{plan-answers}
-use Rattle.c_record.specs.Codes.{codeOf, slotAfter}
+use Rattle.c_record.specs.declared.Place.{Place}
+use Rattle.c_record.specs.Codes.{codeOf, slotAfter, placeAfter}
 use Rattle.ferjulm.specs.Calls.{kept, leftBy}
 
 pub record IsRefusal (code : ℕ) : Type 0 where
@@ -49,19 +51,25 @@ refusal-code c x h = by-reason (judged c x) refl h
     by-reason none e h = clash h (plan-answers c x e)
 
 -- and changes nothing that was lent
-pub refusal-keeps : (c : Call) (ssd hdd table words : List ℕ) (slot : ℕ) (r : Record)
+pub refusal-keeps : (c : Call) (ssd hdd table words : List ℕ) (r : Record)
     → let R = resultOf c (boxOf ssd hdd table r) in refused (R .said) ≡ true
-    → leftBy R words slot ≡ kept (codeOf (R .said)) ssd hdd table words slot
+    → leftBy R words ≡ kept (codeOf (R .said)) ssd hdd table words
 unfolding effectOf
-refusal-keeps c ssd hdd table words slot r h = by-reason (judged c (boxOf ssd hdd table r)) refl h
+refusal-keeps c ssd hdd table words r h = by-reason (judged c (boxOf ssd hdd table r)) refl h
   where
     x : Box
     x = boxOf ssd hdd table r
 
     by-reason : (o : Option Reason) → judged c x ≡ o → let R = left (decided o c x) (x .images) in refused (R .said) ≡ true
-        → leftBy R words slot ≡ kept (codeOf (R .said)) ssd hdd table words slot
+        → leftBy R words ≡ kept (codeOf (R .said)) ssd hdd table words
     by-reason (some q) e h = refl
     by-reason none e h = clash h (plan-answers c x e)
+
+-- out-parameters included
+pub refusal-leaves : (said : Reply) (stored : Stored) (slot : ℕ) (place : Place) → refused said ≡ true
+    → (slotAfter said slot ≡ slot) × (placeAfter said stored place ≡ place)
+refusal-leaves (refusal n) stored slot place h = (refl, refl)
+refusal-leaves (answer n s) stored slot place h = clash h refl
 
 -- any other answer has 0 or a code from 101 on
 pub answer-code : (a : Answer) → refused (replyOf a) ≡ false → (eqb (codeOf (replyOf a)) 0 || leb 101 (codeOf (replyOf a))) ≡ true

@@ -46,7 +46,7 @@ use Rattle.c_record.specs.Codes.{wordsAfter}
 use Rattle.c_record.proofs.WordLaws.{slots-length}
 use Rattle.c_record.proofs.ClosedLaws.{record-length}
 use Rattle.c_record.proofs.RoundTrip.{packed-is, unpacked-is, unpacked-packed}
-use Rattle.ferjulm.specs.Calls.{Left, kept, leftBy, onRecord, cCall, cFresh}
+use Rattle.ferjulm.specs.Calls.{Left, kept, leftBy, resultBy, leftIn, cCall, cFresh}
 use Rattle.ferjulm.specs.Lists.{cServed, cMade, cRun, reaches, withIf, reached, boxIn, ranFrom, RunsAlike}
 
 -- The window keeps its 63 places.
@@ -145,7 +145,7 @@ module _ (c : Call) (k : Left) where
   R = resultOf c (boxIn k)
 
   abbrev by : Left
-  by = leftBy R (k .words) (k .slot)
+  by = leftBy R (k .words)
 
   after-unpacked : (said : Reply) (r : Record) → refused said ≡ false → unpacked (wordsAfter said r (k .words)) ≡ r
   after-unpacked (refusal n) r h = clash refl h
@@ -160,7 +160,7 @@ module _ (c : Call) (k : Left) where
   left-box = by-reason (judged c (boxIn k)) refl
     where
       by-reason : (o : Option Reason) → judged c (boxIn k) ≡ o
-          → let Q = left (decided o c (boxIn k)) (boxIn k .images) in boxIn (leftBy Q (k .words) (k .slot)) ≡ boxAfter Q
+          → let Q = left (decided o c (boxIn k)) (boxIn k .images) in boxIn (leftBy Q (k .words)) ≡ boxAfter Q
       by-reason (some r) e = refl
       by-reason none e = rw (after-unpacked _ _ (plan-answers c (boxIn k) e))
 
@@ -185,7 +185,7 @@ record Once (c : Call) (k : Left) : Type 0 where
 module _ (c : Call) (k : Left) where
   -- by words that must be a record
   served-as : (b : Bool) → isRecord (k .words) ≡ b
-      → cServed c k ≡ onRecord (cond b (some (unpacked (k .words))) none) c (k .ssd) (k .hdd) (k .table) (k .words) (k .slot)
+      → cServed c k ≡ leftIn (resultBy (cond b (some (unpacked (k .words))) none) c (k .ssd) (k .hdd) (k .table)) (k .ssd) (k .hdd) (k .table) (k .words)
   unfolding cCall
   served-as b h = rw h
 
@@ -199,11 +199,11 @@ module _ (c : Call) (k : Left) where
 
   -- by any 71 words
   fresh-as : (n : ℕ) (b : Bool) → eqb (length (k .words)) recordWords ≡ b
-      → cFresh n c (k .ssd) (k .hdd) (k .table) (k .words) (k .slot) ≡ cond b (by c k) (kept n (k .ssd) (k .hdd) (k .table) (k .words) (k .slot))
+      → cFresh n c (k .ssd) (k .hdd) (k .table) (k .words) ≡ cond b (by c k) (kept n (k .ssd) (k .hdd) (k .table) (k .words))
   unfolding cFresh
   fresh-as n b h = rw h
 
-  fresh-once : (n : ℕ) → cMade c k ≡ cFresh n c (k .ssd) (k .hdd) (k .table) (k .words) (k .slot)
+  fresh-once : (n : ℕ) → cMade c k ≡ cFresh n c (k .ssd) (k .hdd) (k .table) (k .words)
       → reaches c (k .words) ≡ eqb (length (k .words)) recordWords → Once c k
   fresh-once n m r = record {
     made = λ h. ap boxIn (m ∙ fresh-as n true (sym r ∙ h)) ∙ left-box c k;

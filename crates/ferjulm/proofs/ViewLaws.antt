@@ -24,7 +24,7 @@ use Rattle.judging.specs.declared.Judged.{Judged}
 use Rattle.judging.specs.Judging.{servesThen, judgedBy}
 use Rattle.judging.proofs.JudgingLaws.{found, looked}
 use Rattle.judging.proofs.ServeLaws.{view-judges, first-judged, judged-on}
-use Rattle.ferjulm.specs.declared.Place.{Place}
+use Rattle.c_record.specs.declared.Place.{Place}
 use Rattle.c_record.specs.Words.{unpacked, isRecord}
 use Rattle.ferjulm.specs.View.{placeFor, ViewLeft, placed, viewPlaceOf, cView}
 use Rattle.ferjulm.proofs.CodesApart.{number-refuses}

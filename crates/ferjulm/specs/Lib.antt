@@ -1,3 +1,4 @@
 pub mod Calls
 pub mod View
 pub mod Lists
+pub mod Label

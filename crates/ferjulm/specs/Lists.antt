@@ -1,4 +1,4 @@
--- Lists of C calls: each is given the words, the table, the images and the slot that the last one left.
+-- Lists of C calls: each is given the words, the table and the images that the last one left.
 use Prim.Native.Nat.{ℕ}
 use mathlib.Core.Path.{_≡_}
 use mathlib.Core.Bool.{Bool, true, false}
@@ -18,20 +18,19 @@ use Rattle.ferjulm.specs.View.{cView}
 
 -- a call by words that must be a record
 abbrev pub cServed : Call → Left → Left
-cServed c k = cCall c (k .ssd) (k .hdd) (k .table) (k .words) (k .slot)
+cServed c k = cCall c (k .ssd) (k .hdd) (k .table) (k .words)
 
 -- a view changes nothing of these: its number, from any place
 abbrev pub cViewed : Block → Left → Left
 cViewed b k =
     kept (cView (k .ssd) (k .hdd) (k .table) (k .words) b (record { image = 0; offset = 0 }) .code) (k .ssd) (k .hdd) (k .table) (k .words)
-    (k .slot)
 
 -- what a call's C function leaves of what the last one left, by its contract
 abbrev pub cMade : Call → Left → Left
-cMade (format slots blocks) k = cFormat slots blocks (k .ssd) (k .hdd) (k .table) (k .words) (k .slot)
+cMade (format slots blocks) k = cFormat slots blocks (k .ssd) (k .hdd) (k .table) (k .words)
 cMade step k = cServed step k
 cMade flush k = cServed flush k
-cMade reopen k = cReopen (k .ssd) (k .hdd) (k .table) (k .words) (k .slot)
+cMade reopen k = cReopen (k .ssd) (k .hdd) (k .table) (k .words)
 cMade (offer b) k = cServed (offer b) k
 cMade (fetch b) k = cServed (fetch b) k
 cMade (landFetch b) k = cServed (landFetch b) k

@@ -1,5 +1,5 @@
 -- What a view for C leaves: the result code, the image that the page lies in, and the page's first byte there.
-use Prim.Native.Nat.{ℕ, _*_}
+use Prim.Native.Nat.{ℕ}
 use mathlib.Core.List.{List}
 use mathlib.Core.Option.{Option, some, none}
 use Rattle.layout.specs.declared.Block.{Block}
@@ -13,12 +13,9 @@ use Rattle.protocol.specs.Condition.{conditionOf}
 use Rattle.protocol.specs.Plan.{view}
 use Rattle.protocol.specs.Judge.{Reason, numberOf, judged}
 use Rattle.protocol.specs.Calls.{boxOf}
-use Rattle.ferjulm.specs.declared.Place.{Place}
+use Rattle.c_record.specs.declared.Place.{Place}
 use Rattle.c_record.specs.Words.{recordIn}
-
--- page i of image 1, the SSD, or of image 2, the HDD
-abbrev pub pageOf : ℕ → ℕ → Place
-pageOf image i = record { image = image; offset = 4096 * i }
+use Rattle.c_record.specs.Codes.{pageOf}
 
 -- where a view's page lies: in the SSD, if cached and not open; else in the HDD
 abbrev pub placeFor : Label → Block → Condition → Place

@@ -1,5 +1,6 @@
 // The calls but a view: the words are judged and unpacked, the box's call is made, and what it leaves is packed.
 use c_record::RECORD_WORDS;
+use c_record::answers;
 use c_record::closing;
 use c_record::words;
 use layout::Block;
@@ -11,7 +12,7 @@ ghost use mathlib.Core.Path.{_≡_};
 ghost use mathlib.Core.Bool.{cond};
 ghost use Rattle.protocol.specs.Judge.{labelTest};
 ghost use Rattle.protocol.specs.Plan.{step, flush, offer, fetch, landFetch, lookUp, writeBack, land};
-ghost use Rattle.ferjulm.specs.Calls.{cCall, cFormat, cReopen};
+ghost use Rattle.ferjulm.specs.Calls.{cCall, cSlot, cPlace, cFormat, cReopen};
 
 // Begins a format. The words handed in are not judged, but for their number; the new record goes straight into them.
 #[no_mangle]
@@ -22,9 +23,8 @@ pub extern "C" fn ferjulm_format(
     words: &mut [u32],
     slots: u32,
     blocks: u32,
-    slot: &mut u32,
 ) -> u32
-    ensures { λ r. ⌜ record { code = r; words = now (words .exit); table = now (table .exit); ssd = now (ssd .entry); hdd = now (hdd .entry); slot = now (slot .exit) } ≡ cFormat slots blocks (now (ssd .entry)) (now (hdd .entry)) (now (table .entry)) (now (words .entry)) (now (slot .entry)) ⌝ }
+    ensures { λ r. ⌜ record { code = r; words = now (words .exit); table = now (table .exit); ssd = now (ssd .entry); hdd = now (hdd .entry) } ≡ cFormat slots blocks (now (ssd .entry)) (now (hdd .entry)) (now (table .entry)) (now (words .entry)) ⌝ }
 {
     let l = places::label(slots, blocks);
     if words.len() != RECORD_WORDS {
@@ -51,15 +51,21 @@ pub extern "C" fn ferjulm_offer(
     words: &mut [u32],
     block: u32,
     slot: &mut u32,
+    image: &mut u32,
+    offset: &mut u64,
 ) -> u32
-    ensures { λ r. ⌜ record { code = r; words = now (words .exit); table = now (table .exit); ssd = now (ssd .exit); hdd = now (hdd .exit); slot = now (slot .exit) } ≡ cCall (offer (record { 0 = block })) (now (ssd .entry)) (now (hdd .entry)) (now (table .entry)) (now (words .entry)) (now (slot .entry)) ⌝ }
+    ensures { λ r. ⌜ (record { code = r; words = now (words .exit); table = now (table .exit); ssd = now (ssd .exit); hdd = now (hdd .exit) } ≡ cCall (offer (record { 0 = block })) (now (ssd .entry)) (now (hdd .entry)) (now (table .entry)) (now (words .entry))) × (now (slot .exit) ≡ cSlot (offer (record { 0 = block })) (now (ssd .entry)) (now (hdd .entry)) (now (table .entry)) (now (words .entry)) (now (slot .entry))) × (record { image = now (image .exit); offset = now (offset .exit) } ≡ cPlace (offer (record { 0 = block })) (now (ssd .entry)) (now (hdd .entry)) (now (table .entry)) (now (words .entry)) (record { image = now (image .entry); offset = now (offset .entry) })) ⌝ }
 {
     if !words::is_record(words) {
         return 3;
     }
     let state = words::unpack(words);
     let outcome = write_path::offer::offer(ssd, hdd, table, state, Block(block));
-    closing::closed(words, slot, outcome)
+    let answer = outcome.answer;
+    *slot = answers::slot_of(answer, *slot);
+    let stored = outcome.stored;
+    closing::name(image, offset, answer, stored);
+    closing::closed(words, outcome)
 }
 
 // Lands a page for a block.
@@ -71,16 +77,20 @@ pub extern "C" fn ferjulm_land(
     words: &mut [u32],
     block: u32,
     page: &[u8],
-    slot: &mut u32,
+    image: &mut u32,
+    offset: &mut u64,
 ) -> u32
-    ensures { λ r. ⌜ record { code = r; words = now (words .exit); table = now (table .exit); ssd = now (ssd .exit); hdd = now (hdd .entry); slot = now (slot .exit) } ≡ cCall (land (record { 0 = block }) (now (page .entry))) (now (ssd .entry)) (now (hdd .entry)) (now (table .entry)) (now (words .entry)) (now (slot .entry)) ⌝ }
+    ensures { λ r. ⌜ (record { code = r; words = now (words .exit); table = now (table .exit); ssd = now (ssd .exit); hdd = now (hdd .entry) } ≡ cCall (land (record { 0 = block }) (now (page .entry))) (now (ssd .entry)) (now (hdd .entry)) (now (table .entry)) (now (words .entry))) × (record { image = now (image .exit); offset = now (offset .exit) } ≡ cPlace (land (record { 0 = block }) (now (page .entry))) (now (ssd .entry)) (now (hdd .entry)) (now (table .entry)) (now (words .entry)) (record { image = now (image .entry); offset = now (offset .entry) })) ⌝ }
 {
     if !words::is_record(words) {
         return 3;
     }
     let state = words::unpack(words);
     let outcome = write_path::land::land(ssd, hdd, table, state, Block(block), page);
-    closing::closed(words, slot, outcome)
+    let answer = outcome.answer;
+    let stored = outcome.stored;
+    closing::name(image, offset, answer, stored);
+    closing::closed(words, outcome)
 }
 
 // Fetches a block.
@@ -92,15 +102,21 @@ pub extern "C" fn ferjulm_fetch(
     words: &mut [u32],
     block: u32,
     slot: &mut u32,
+    image: &mut u32,
+    offset: &mut u64,
 ) -> u32
-    ensures { λ r. ⌜ record { code = r; words = now (words .exit); table = now (table .exit); ssd = now (ssd .exit); hdd = now (hdd .exit); slot = now (slot .exit) } ≡ cCall (fetch (record { 0 = block })) (now (ssd .entry)) (now (hdd .entry)) (now (table .entry)) (now (words .entry)) (now (slot .entry)) ⌝ }
+    ensures { λ r. ⌜ (record { code = r; words = now (words .exit); table = now (table .exit); ssd = now (ssd .exit); hdd = now (hdd .exit) } ≡ cCall (fetch (record { 0 = block })) (now (ssd .entry)) (now (hdd .entry)) (now (table .entry)) (now (words .entry))) × (now (slot .exit) ≡ cSlot (fetch (record { 0 = block })) (now (ssd .entry)) (now (hdd .entry)) (now (table .entry)) (now (words .entry)) (now (slot .entry))) × (record { image = now (image .exit); offset = now (offset .exit) } ≡ cPlace (fetch (record { 0 = block })) (now (ssd .entry)) (now (hdd .entry)) (now (table .entry)) (now (words .entry)) (record { image = now (image .entry); offset = now (offset .entry) })) ⌝ }
 {
     if !words::is_record(words) {
         return 3;
     }
     let state = words::unpack(words);
     let outcome = read_path::fetch::fetch(ssd, hdd, table, state, Block(block));
-    closing::closed(words, slot, outcome)
+    let answer = outcome.answer;
+    *slot = answers::slot_of(answer, *slot);
+    let stored = outcome.stored;
+    closing::name(image, offset, answer, stored);
+    closing::closed(words, outcome)
 }
 
 // Lands a fetch.
@@ -111,16 +127,20 @@ pub extern "C" fn ferjulm_land_fetch(
     table: &mut [u32],
     words: &mut [u32],
     block: u32,
-    slot: &mut u32,
+    image: &mut u32,
+    offset: &mut u64,
 ) -> u32
-    ensures { λ r. ⌜ record { code = r; words = now (words .exit); table = now (table .exit); ssd = now (ssd .exit); hdd = now (hdd .entry); slot = now (slot .exit) } ≡ cCall (landFetch (record { 0 = block })) (now (ssd .entry)) (now (hdd .entry)) (now (table .entry)) (now (words .entry)) (now (slot .entry)) ⌝ }
+    ensures { λ r. ⌜ (record { code = r; words = now (words .exit); table = now (table .exit); ssd = now (ssd .exit); hdd = now (hdd .entry) } ≡ cCall (landFetch (record { 0 = block })) (now (ssd .entry)) (now (hdd .entry)) (now (table .entry)) (now (words .entry))) × (record { image = now (image .exit); offset = now (offset .exit) } ≡ cPlace (landFetch (record { 0 = block })) (now (ssd .entry)) (now (hdd .entry)) (now (table .entry)) (now (words .entry)) (record { image = now (image .entry); offset = now (offset .entry) })) ⌝ }
 {
     if !words::is_record(words) {
         return 3;
     }
     let state = words::unpack(words);
     let outcome = read_path::land_fetch::land_fetch(ssd, hdd, table, state, Block(block));
-    closing::closed(words, slot, outcome)
+    let answer = outcome.answer;
+    let stored = outcome.stored;
+    closing::name(image, offset, answer, stored);
+    closing::closed(words, outcome)
 }
 
 // Looks a block up.
@@ -133,14 +153,16 @@ pub extern "C" fn ferjulm_look_up(
     block: u32,
     slot: &mut u32,
 ) -> u32
-    ensures { λ r. ⌜ record { code = r; words = now (words .exit); table = now (table .exit); ssd = now (ssd .entry); hdd = now (hdd .entry); slot = now (slot .exit) } ≡ cCall (lookUp (record { 0 = block })) (now (ssd .entry)) (now (hdd .entry)) (now (table .entry)) (now (words .entry)) (now (slot .entry)) ⌝ }
+    ensures { λ r. ⌜ (record { code = r; words = now (words .exit); table = now (table .exit); ssd = now (ssd .entry); hdd = now (hdd .entry) } ≡ cCall (lookUp (record { 0 = block })) (now (ssd .entry)) (now (hdd .entry)) (now (table .entry)) (now (words .entry))) × (now (slot .exit) ≡ cSlot (lookUp (record { 0 = block })) (now (ssd .entry)) (now (hdd .entry)) (now (table .entry)) (now (words .entry)) (now (slot .entry))) ⌝ }
 {
     if !words::is_record(words) {
         return 3;
     }
     let state = words::unpack(words);
     let outcome = read_path::look_up::look_up(ssd, hdd, table, state, Block(block));
-    closing::closed(words, slot, outcome)
+    let answer = outcome.answer;
+    *slot = answers::slot_of(answer, *slot);
+    closing::closed(words, outcome)
 }
 
 // Writes a block back.
@@ -151,16 +173,20 @@ pub extern "C" fn ferjulm_write_back(
     table: &mut [u32],
     words: &mut [u32],
     block: u32,
-    slot: &mut u32,
+    image: &mut u32,
+    offset: &mut u64,
 ) -> u32
-    ensures { λ r. ⌜ record { code = r; words = now (words .exit); table = now (table .exit); ssd = now (ssd .entry); hdd = now (hdd .exit); slot = now (slot .exit) } ≡ cCall (writeBack (record { 0 = block })) (now (ssd .entry)) (now (hdd .entry)) (now (table .entry)) (now (words .entry)) (now (slot .entry)) ⌝ }
+    ensures { λ r. ⌜ (record { code = r; words = now (words .exit); table = now (table .exit); ssd = now (ssd .entry); hdd = now (hdd .exit) } ≡ cCall (writeBack (record { 0 = block })) (now (ssd .entry)) (now (hdd .entry)) (now (table .entry)) (now (words .entry))) × (record { image = now (image .exit); offset = now (offset .exit) } ≡ cPlace (writeBack (record { 0 = block })) (now (ssd .entry)) (now (hdd .entry)) (now (table .entry)) (now (words .entry)) (record { image = now (image .entry); offset = now (offset .entry) })) ⌝ }
 {
     if !words::is_record(words) {
         return 3;
     }
     let state = words::unpack(words);
     let outcome = maintenance::write_back::write_back(ssd, hdd, table, state, Block(block));
-    closing::closed(words, slot, outcome)
+    let answer = outcome.answer;
+    let stored = outcome.stored;
+    closing::name(image, offset, answer, stored);
+    closing::closed(words, outcome)
 }
 
 // Flushes.
@@ -170,16 +196,20 @@ pub extern "C" fn ferjulm_flush(
     hdd: &[u8],
     table: &[u32],
     words: &mut [u32],
-    slot: &mut u32,
+    image: &mut u32,
+    offset: &mut u64,
 ) -> u32
-    ensures { λ r. ⌜ record { code = r; words = now (words .exit); table = now (table .entry); ssd = now (ssd .exit); hdd = now (hdd .entry); slot = now (slot .exit) } ≡ cCall flush (now (ssd .entry)) (now (hdd .entry)) (now (table .entry)) (now (words .entry)) (now (slot .entry)) ⌝ }
+    ensures { λ r. ⌜ (record { code = r; words = now (words .exit); table = now (table .entry); ssd = now (ssd .exit); hdd = now (hdd .entry) } ≡ cCall flush (now (ssd .entry)) (now (hdd .entry)) (now (table .entry)) (now (words .entry))) × (record { image = now (image .exit); offset = now (offset .exit) } ≡ cPlace flush (now (ssd .entry)) (now (hdd .entry)) (now (table .entry)) (now (words .entry)) (record { image = now (image .entry); offset = now (offset .entry) })) ⌝ }
 {
     if !words::is_record(words) {
         return 3;
     }
     let state = words::unpack(words);
     let outcome = maintenance::flush::flush(ssd, hdd, table, state);
-    closing::closed(words, slot, outcome)
+    let answer = outcome.answer;
+    let stored = outcome.stored;
+    closing::name(image, offset, answer, stored);
+    closing::closed(words, outcome)
 }
 
 // Makes a step, of a format or of mending.
@@ -189,16 +219,20 @@ pub extern "C" fn ferjulm_step(
     hdd: &[u8],
     table: &[u32],
     words: &mut [u32],
-    slot: &mut u32,
+    image: &mut u32,
+    offset: &mut u64,
 ) -> u32
-    ensures { λ r. ⌜ record { code = r; words = now (words .exit); table = now (table .entry); ssd = now (ssd .exit); hdd = now (hdd .entry); slot = now (slot .exit) } ≡ cCall step (now (ssd .entry)) (now (hdd .entry)) (now (table .entry)) (now (words .entry)) (now (slot .entry)) ⌝ }
+    ensures { λ r. ⌜ (record { code = r; words = now (words .exit); table = now (table .entry); ssd = now (ssd .exit); hdd = now (hdd .entry) } ≡ cCall step (now (ssd .entry)) (now (hdd .entry)) (now (table .entry)) (now (words .entry))) × (record { image = now (image .exit); offset = now (offset .exit) } ≡ cPlace step (now (ssd .entry)) (now (hdd .entry)) (now (table .entry)) (now (words .entry)) (record { image = now (image .entry); offset = now (offset .entry) })) ⌝ }
 {
     if !words::is_record(words) {
         return 3;
     }
     let state = words::unpack(words);
     let outcome = recovery::step::step(ssd, hdd, table, state);
-    closing::closed(words, slot, outcome)
+    let answer = outcome.answer;
+    let stored = outcome.stored;
+    closing::name(image, offset, answer, stored);
+    closing::closed(words, outcome)
 }
 
 // The number of a reopening with words that can't hold a record.
@@ -218,14 +252,13 @@ pub extern "C" fn ferjulm_reopen(
     hdd: &[u8],
     table: &mut [u32],
     words: &mut [u32],
-    slot: &mut u32,
 ) -> u32
-    ensures { λ r. ⌜ record { code = r; words = now (words .exit); table = now (table .exit); ssd = now (ssd .entry); hdd = now (hdd .entry); slot = now (slot .exit) } ≡ cReopen (now (ssd .entry)) (now (hdd .entry)) (now (table .entry)) (now (words .entry)) (now (slot .entry)) ⌝ }
+    ensures { λ r. ⌜ record { code = r; words = now (words .exit); table = now (table .exit); ssd = now (ssd .entry); hdd = now (hdd .entry) } ≡ cReopen (now (ssd .entry)) (now (hdd .entry)) (now (table .entry)) (now (words .entry)) ⌝ }
 {
     if words.len() != RECORD_WORDS {
         return unheld(ssd);
     }
     let state = words::unpack(words);
     let outcome = reopen::reopen(ssd, hdd, table, state);
-    closing::closed(words, slot, outcome)
+    closing::closed(words, outcome)
 }

@@ -1,5 +1,5 @@
 // A view: where a block's page lies.
-use crate::Place;
+use c_record::Place;
 use c_record::words;
 use layout::Block;
 use layout::Label;
@@ -8,7 +8,8 @@ use layout::places;
 use protocol::Condition;
 ghost use mathlib.Core.Path.{_≡_};
 ghost use Rattle.layout.specs.Places.{dataPlace, blockPlace};
-ghost use Rattle.ferjulm.specs.View.{pageOf, placeFor, cView};
+ghost use Rattle.c_record.specs.Codes.{pageOf};
+ghost use Rattle.ferjulm.specs.View.{placeFor, cView};
 
 // A slot's page.
 fn in_ssd(l: Label, s: Slot) -> Place

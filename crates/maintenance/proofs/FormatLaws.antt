@@ -18,7 +18,10 @@ use Rattle.layout.specs.LabelPage.{encodeLabel}
 use Rattle.layout.specs.MetaPage.{encodeMeta, rowsOn}
 use Rattle.record.specs.declared.Record.{Record}
 use Rattle.record.specs.declared.Phase.the-variants.{Formatting}
+use Rattle.protocol.specs.declared.Stored.{Stored}
+use Rattle.protocol.specs.declared.Stored.the-variants.{Nothing, Ssd}
 use Rattle.protocol.specs.Reply.{Reply, refusal, done}
+use Rattle.protocol.specs.Box.{Result}
 use Rattle.record.specs.Record.{labelIn, windowIn, recordOf}
 use Rattle.protocol.specs.Plan.{format, plan}
 use Rattle.protocol.specs.Perform.{formatStore, perform}
@@ -44,34 +47,36 @@ cleared-all table i n h k e f =
 -- the label page is the store of the last step
 pub label-stored : (ssd table after page : List ℕ) (state : Record) (pages d : ℕ) → d ≢ 0
     → pages ≡ metaPages (labelIn state) → pages ≤ d - 1 → page ≡ encodeLabel (labelIn state) → after ≡ putPage ssd 0 page
-    → after ≡ putPage ssd (formatStore (labelIn state) table (windowIn state) d .place)
-    (formatStore (labelIn state) table (windowIn state) d .bytes)
+    → let f = formatStore (labelIn state) table (windowIn state) d in (Ssd 0 ≡ Ssd (f .place)) × (after ≡ putPage ssd (f .place) (f .bytes))
 label-stored ssd table after page state pages zero n f h g k = absurd (n refl)
 label-stored ssd table after page state pages (suc p) n f h g k =
     let m : metaPages (labelIn state) ≤ p = rw (← f) (omega arith) in
-    rw (k, g, formatStore, le-leb _ _ m)
+    (rw (formatStore, le-leb _ _ m), rw (k, g, formatStore, le-leb _ _ m))
 
 -- a metadata page is the store of a step before it
-pub meta-step-stored : (ssd table after : List ℕ) (state : Record) (d : ℕ) → d ≢ 0 → d - 1 < metaPages (labelIn state)
+pub meta-step-stored : (ssd table after : List ℕ) (stored : Stored) (state : Record) (d : ℕ) → d ≢ 0 → d - 1 < metaPages (labelIn state)
+    → stored ≡ Ssd (metaPlace (labelIn state) (d - 1))
     → after ≡ putPage ssd (metaPlace (labelIn state) (d - 1)) (encodeMeta 0 (windowIn state) (rowsOn (d - 1) table))
-    → after ≡ putPage ssd (formatStore (labelIn state) table (windowIn state) d .place)
-    (formatStore (labelIn state) table (windowIn state) d .bytes)
-meta-step-stored ssd table after state zero n h k = absurd (n refl)
-meta-step-stored ssd table after state (suc p) n h k =
+    → let f = formatStore (labelIn state) table (windowIn state) d in (stored ≡ Ssd (f .place)) × (after ≡ putPage ssd (f .place) (f .bytes))
+meta-step-stored ssd table after stored state zero n h t k = absurd (n refl)
+meta-step-stored ssd table after stored state (suc p) n h t k =
     let q : suc p - 1 ≡ p = omega arith in
     let m : p < metaPages (labelIn state) = omega arith in
-    rw (k, q, formatStore, lt-leb _ _ m)
+    (rw (t, q, formatStore, lt-leb _ _ m), rw (k, q, formatStore, lt-leb _ _ m))
 
 -- a format: refused by 1, refused by 4, begun
 module _ (ssd hdd table : List ℕ) (state : Record) (slots blocks : ℕ) (l : Label) (L : l ≡ labelOf slots blocks) where
+  -- what a format leaves: it stores nothing
+  abbrev answering : Reply → Record → List ℕ → Result
+  answering said next after = record { said = said; stored = Nothing; state = next; table = after; ssd = ssd; hdd = hdd }
+
   limits-judged : withinLimits l ≡ false → judged (format slots blocks) (boxOf ssd hdd table state) ≡ some badLimits
   unfolding judged firstOf test
   limits-judged e = rw (firstOf, ← L, e)
 
-  limits-refused : (said : Reply) (next : Record) → withinLimits l ≡ false → said ≡ refusal 1 → next ≡ state
-      → record { said = said; state = next; table = table; ssd = ssd; hdd = hdd } ≡ formatOf ssd hdd table state slots blocks
+  limits-refused : withinLimits l ≡ false → answering (refusal 1) state table ≡ formatOf ssd hdd table state slots blocks
   unfolding effectOf
-  limits-refused said next e f g = rw (f, g, limits-judged e)
+  limits-refused e = rw (limits-judged e)
 
   module _ (e : withinLimits l ≡ true) where
     length-judged : lengthsTest l (length ssd) (length hdd) (length table) ≡ false
@@ -79,11 +84,10 @@ module _ (ssd hdd table : List ℕ) (state : Record) (slots blocks : ℕ) (l : L
     unfolding judged firstOf test lengthTest lengthsTest
     length-judged t = rw (firstOf, ← L, e) (rw (firstOf, rw L at t))
 
-    length-refused : (said : Reply) (next : Record) → lengthsTest l (length ssd) (length hdd) (length table) ≡ false
-        → said ≡ refusal 4 → next ≡ state
-        → record { said = said; state = next; table = table; ssd = ssd; hdd = hdd } ≡ formatOf ssd hdd table state slots blocks
+    length-refused : lengthsTest l (length ssd) (length hdd) (length table) ≡ false
+        → answering (refusal 4) state table ≡ formatOf ssd hdd table state slots blocks
     unfolding effectOf
-    length-refused said next t f g = rw (f, g, length-judged t)
+    length-refused t = rw (length-judged t)
 
     begun-judged : lengthsTest l (length ssd) (length hdd) (length table) ≡ true
         → judged (format slots blocks) (boxOf ssd hdd table state) ≡ none
@@ -96,38 +100,35 @@ module _ (ssd hdd table : List ℕ) (state : Record) (slots blocks : ℕ) (l : L
         let h = and-parts (eqb (length ssd) (ssdLength l)) _ t .1 in
         rw L at (eqb-true (length table) (tableLength l) (and-parts (eqb (length hdd) (hddLength l)) _ h .1))
 
-    format-begun : (said : Reply) (next : Record) (after : List ℕ) → lengthsTest l (length ssd) (length hdd) (length table) ≡ true
-        → said ≡ done → next ≡ recordOf l (record { 0 = 0 }) 0 (Formatting 0) false [] → after ≡ replicate (length table) 0
-        → record { said = said; state = next; table = after; ssd = ssd; hdd = hdd } ≡ formatOf ssd hdd table state slots blocks
+    format-begun : (after : List ℕ) → lengthsTest l (length ssd) (length hdd) (length table) ≡ true → after ≡ replicate (length table) 0
+        → answering done (recordOf l (record { 0 = 0 }) 0 (Formatting 0) false []) after ≡ formatOf ssd hdd table state slots blocks
     unfolding effectOf plan perform
-    format-begun said next after t f g h = rw (f, g, h, table-size t, begun-judged t, L)
+    format-begun after t h = rw (h, table-size t, begun-judged t, L)
 
   -- by its number
-  module _ (n : ℕ) (e : n ≡ formatNumber l (length ssd) (length hdd) (length table)) (said : Reply) (next : Record) (after : List ℕ)
-      (h : after ≡ tableAfter n table) where
-    pub format-refused : n ≢ 0 → said ≡ refusal n → next ≡ state
-        → record { said = said; state = next; table = after; ssd = ssd; hdd = hdd } ≡ formatOf ssd hdd table state slots blocks
-    format-refused z f g = go (told (withinLimits l)) (told (lengthsTest l (length ssd) (length hdd) (length table)))
+  module _ (n : ℕ) (e : n ≡ formatNumber l (length ssd) (length hdd) (length table)) (after : List ℕ) (h : after ≡ tableAfter n table) where
+    pub format-refused : n ≢ 0 → answering (refusal n) state after ≡ formatOf ssd hdd table state slots blocks
+    format-refused z = go (told (withinLimits l)) (told (lengthsTest l (length ssd) (length hdd) (length table)))
       where
         kept : (m : ℕ) → n ≡ suc m → after ≡ table
         kept m q = h ∙ ap (λ (k : ℕ). tableAfter k table) q
 
         go : Told (withinLimits l) → Told (lengthsTest l (length ssd) (length hdd) (length table))
-            → record { said = said; state = next; table = after; ssd = ssd; hdd = hdd } ≡ formatOf ssd hdd table state slots blocks
+            → answering (refusal n) state after ≡ formatOf ssd hdd table state slots blocks
         go (told-false a) t =
             let q : n ≡ 1 = e ∙ rw a in
-            rw (kept 0 q) (limits-refused said next a (f ∙ ap refusal q) g)
+            rw (kept 0 q, q) (limits-refused a)
         go (told-true a) (told-false t) =
             let q : n ≡ 4 = e ∙ rw (a, t) in
-            rw (kept 3 q) (length-refused a said next t (f ∙ ap refusal q) g)
+            rw (kept 3 q, q) (length-refused a t)
         go (told-true a) (told-true t) = absurd (z (e ∙ rw (a, t)))
 
-    pub format-begins : n ≡ 0 → said ≡ done → next ≡ recordOf l (record { 0 = 0 }) 0 (Formatting 0) false []
-        → record { said = said; state = next; table = after; ssd = ssd; hdd = hdd } ≡ formatOf ssd hdd table state slots blocks
-    format-begins z f g = go (told (withinLimits l)) (told (lengthsTest l (length ssd) (length hdd) (length table)))
+    pub format-begins : n ≡ 0
+        → answering done (recordOf l (record { 0 = 0 }) 0 (Formatting 0) false []) after ≡ formatOf ssd hdd table state slots blocks
+    format-begins z = go (told (withinLimits l)) (told (lengthsTest l (length ssd) (length hdd) (length table)))
       where
         go : Told (withinLimits l) → Told (lengthsTest l (length ssd) (length hdd) (length table))
-            → record { said = said; state = next; table = after; ssd = ssd; hdd = hdd } ≡ formatOf ssd hdd table state slots blocks
+            → answering done (recordOf l (record { 0 = 0 }) 0 (Formatting 0) false []) after ≡ formatOf ssd hdd table state slots blocks
         go (told-false a) t = let q : n ≡ 1 = e ∙ rw a in absurd (omega (arith, q, z))
         go (told-true a) (told-false t) = let q : n ≡ 4 = e ∙ rw (a, t) in absurd (omega (arith, q, z))
-        go (told-true a) (told-true t) = format-begun a said next after t f g (h ∙ ap (λ (k : ℕ). tableAfter k table) z)
+        go (told-true a) (told-true t) = format-begun a after t (h ∙ ap (λ (k : ℕ). tableAfter k table) z)

@@ -22,6 +22,5 @@ pub fn flush(ssd: &mut [u8], hdd: &[u8], table: &[u32], state: Record) -> Outcom
     if LARGEST_STAMP <= state.newest {
         return answers::refused(13, state);
     }
-    let next = moves::confirm(ssd, table, state, 0);
-    answers::answered(Answer::Done, next)
+    moves::confirm(ssd, table, state, 0, Answer::Done)
 }

@@ -6,6 +6,7 @@ use layout::places;
 use moves::answers;
 use protocol::Answer;
 use protocol::Outcome;
+use protocol::Stored;
 use record::Phase;
 use record::Record;
 use record::state;
@@ -23,6 +24,8 @@ ghost use Rattle.record.specs.Record.{labelIn, windowIn, recordOf};
 ghost use Rattle.protocol.specs.Perform.{formatStore, formatState};
 ghost use Rattle.protocol.specs.Calls.{leaves, formatOf};
 ghost use Rattle.judging.specs.Fits.{FitsRecord};
+ghost use Rattle.protocol.specs.declared.Answer.the-variants.{Done};
+ghost use Rattle.protocol.specs.declared.Stored.the-variants.{Ssd};
 ghost use Rattle.maintenance.specs.Format.{formatNumber, tableAfter};
 
 // Zeroes the table.
@@ -77,23 +80,23 @@ pub fn format(
 }
 
 // The store of a format's step, after so many of them.
-fn format_store(ssd: &mut [u8], table: &[u32], state: Record, done: u32)
+fn format_store(ssd: &mut [u8], table: &[u32], state: Record, done: u32) -> Stored
     requires { ⌜ FitsRecord (length (now ssd)) (length (now table)) state ⌝ }
     requires { ⌜ withinLimits (labelIn state) ≡ true ⌝ }
-    ensures { λ _. ⌜ now (ssd .exit) ≡ putPage (now (ssd .entry)) (formatStore (labelIn state) (now (table .entry)) (windowIn state) done .place) (formatStore (labelIn state) (now (table .entry)) (windowIn state) done .bytes) ⌝ }
+    ensures { λ r. ⌜ (r ≡ Ssd (formatStore (labelIn state) (now (table .entry)) (windowIn state) done .place)) × (now (ssd .exit) ≡ putPage (now (ssd .entry)) (formatStore (labelIn state) (now (table .entry)) (windowIn state) done .place) (formatStore (labelIn state) (now (table .entry)) (windowIn state) done .bytes)) ⌝ }
 {
     if done == 0 {
         pages::clear_page(ssd, 0);
-        return;
+        return Stored::Ssd(0);
     }
     let l = state.label;
     let p = done - 1;
     if places::meta_pages(l) <= p {
         let page = label_page::encode_label(l);
         pages::store(ssd, 0, &page);
-        return;
+        return Stored::Ssd(0);
     }
-    moves::store_meta(ssd, table, state, 0, p);
+    moves::store_meta(ssd, table, state, 0, p)
 }
 
 // The record after a format's step, after so many of them before it.
@@ -110,12 +113,13 @@ fn format_state(state: Record, done: u32) -> Record
 }
 
 // A step of a format, after so many of them.
-pub fn format_step(ssd: &mut [u8], table: &[u32], state: Record, done: u32) -> Record
+pub fn format_step(ssd: &mut [u8], table: &[u32], state: Record, done: u32) -> Outcome
     requires { ⌜ FitsRecord (length (now ssd)) (length (now table)) state ⌝ }
     requires { ⌜ withinLimits (labelIn state) ≡ true ⌝ }
     requires { ⌜ done ≤ metaPages (labelIn state) + 1 ⌝ }
-    ensures { λ r. ⌜ (r ≡ formatState (labelIn state) state done) × (now (ssd .exit) ≡ putPage (now (ssd .entry)) (formatStore (labelIn state) (now (table .entry)) (windowIn state) done .place) (formatStore (labelIn state) (now (table .entry)) (windowIn state) done .bytes)) ⌝ }
+    ensures { λ q. ⌜ (q ≡ record { answer = Done; state = formatState (labelIn state) state done; stored = Ssd (formatStore (labelIn state) (now (table .entry)) (windowIn state) done .place) }) × (now (ssd .exit) ≡ putPage (now (ssd .entry)) (formatStore (labelIn state) (now (table .entry)) (windowIn state) done .place) (formatStore (labelIn state) (now (table .entry)) (windowIn state) done .bytes)) ⌝ }
 {
-    format_store(ssd, table, state, done);
-    format_state(state, done)
+    let stored = format_store(ssd, table, state, done);
+    let next = format_state(state, done);
+    answers::stored(Answer::Done, next, stored)
 }

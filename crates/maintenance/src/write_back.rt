@@ -27,8 +27,8 @@ pub fn write_back(
         Condition::NotCached => answers::answered(Answer::NothingToDo, state),
         Condition::Clean(_) => answers::answered(Answer::NothingToDo, state),
         Condition::Dirty(s) => {
-            moves::copy_out(ssd, hdd, table, state, s);
-            answers::answered(Answer::Done, state)
+            let stored = moves::copy_out(ssd, hdd, table, state, s);
+            answers::stored(Answer::Done, state, stored)
         }
         Condition::Writing(_) => answers::refused(8, state),
         Condition::Fetching(_) => answers::refused(8, state),

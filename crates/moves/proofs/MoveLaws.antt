@@ -57,6 +57,10 @@ pub data-holds : (ssd : List ℕ) (l : Label) (s : Slot) (place : ℕ) → lengt
     → Holds ssd place
 data-holds ssd l s place size h e = rw e (omega arith)
 
+pub data-fits : (l : Label) (s : Slot) (place : ℕ) → l .slots ≤ 57600 → s .0 < l .slots → place ≡ dataPlace l s → place ≤ 4294967295
+unfolding metaPages
+data-fits l s place most h e = rw e (omega arith)
+
 pub block-holds : (hdd : List ℕ) (l : Label) (b : Block) (place : ℕ) → length hdd ≡ hddLength l → b .0 < l .blocks → place ≡ blockPlace l b
     → Holds hdd place
 block-holds hdd l b place size h e = omega arith

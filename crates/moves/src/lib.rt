@@ -1,10 +1,13 @@
-// What the calls do to table, record and images, once they are judged; answers builds what they return.
+// What the calls do to table, record and images, once they are judged: what stores says where. answers builds what they return.
 pub mod answers;
 
 use layout::Block;
 use layout::Slot;
 use layout::places;
 use metadata::page;
+use protocol::Answer;
+use protocol::Outcome;
+use protocol::Stored;
 use record::Record;
 use record::state;
 ghost use mathlib.Core.Path.{_≡_};
@@ -21,6 +24,8 @@ ghost use Rattle.record.specs.Record.{largestStamp, labelIn, windowIn, withStam
 ghost use Rattle.record.specs.Window.{without};
 ghost use Rattle.record.specs.Rule.{recordTest};
 ghost use Rattle.protocol.specs.Perform.{joined};
+ghost use Rattle.protocol.specs.declared.Answer.the-variants.{Announced};
+ghost use Rattle.protocol.specs.declared.Stored.the-variants.{Ssd, Hdd};
 ghost use Rattle.judging.specs.Fits.{FitsRecord};
 ghost use Rattle.moves.specs.Moves.{rowsEnd};
 
@@ -36,28 +41,32 @@ fn rows_end(len: usize, start: usize) -> usize
 }
 
 // Stores metadata page p: a stamp, the record's window and the rows of the page's slots.
-pub fn store_meta(ssd: &mut [u8], table: &[u32], state: Record, stamp: u32, p: u32)
+pub fn store_meta(ssd: &mut [u8], table: &[u32], state: Record, stamp: u32, p: u32) -> Stored
     requires { ⌜ FitsRecord (length (now ssd)) (length (now table)) state ⌝ }
     requires { ⌜ p < metaPages (labelIn state) ⌝ }
-    ensures { λ _. ⌜ now (ssd .exit) ≡ putPage (now (ssd .entry)) (metaPlace (labelIn state) p) (encodeMeta stamp (windowIn state) (rowsOn p (now (table .entry)))) ⌝ }
+    ensures { λ r. ⌜ (r ≡ Ssd (metaPlace (labelIn state) p)) × (now (ssd .exit) ≡ putPage (now (ssd .entry)) (metaPlace (labelIn state) p) (encodeMeta stamp (windowIn state) (rowsOn p (now (table .entry))))) ⌝ }
 {
     let l = state.label;
     let start = 480 * (p as usize);
     let end = rows_end(table.len(), start);
     let page = page::encode_meta(stamp, state::window_of(state), &table[start..end]);
-    pages::store(ssd, places::meta_place(l, p), &page);
+    let place = places::meta_place(l, p);
+    pages::store(ssd, place, &page);
+    let number = place as u32;
+    Stored::Ssd(number)
 }
 
-// Stores metadata page p with the newest stamp plus 1, and gives the record after it.
-pub fn confirm(ssd: &mut [u8], table: &[u32], state: Record, p: u32) -> Record
+// Stores metadata page p with the newest stamp plus 1, and answers.
+pub fn confirm(ssd: &mut [u8], table: &[u32], state: Record, p: u32, answer: Answer) -> Outcome
     requires { ⌜ FitsRecord (length (now ssd)) (length (now table)) state ⌝ }
     requires { ⌜ p < metaPages (labelIn state) ⌝ }
     requires { ⌜ state .newest < largestStamp ⌝ }
-    ensures { λ q. ⌜ (q ≡ withStamp state (state .newest + 1)) × (now (ssd .exit) ≡ putPage (now (ssd .entry)) (metaPlace (labelIn state) p) (encodeMeta (state .newest + 1) (windowIn state) (rowsOn p (now (table .entry))))) ⌝ }
+    ensures { λ q. ⌜ (q ≡ record { answer = answer; state = withStamp state (state .newest + 1); stored = Ssd (metaPlace (labelIn state) p) }) × (now (ssd .exit) ≡ putPage (now (ssd .entry)) (metaPlace (labelIn state) p) (encodeMeta (state .newest + 1) (windowIn state) (rowsOn p (now (table .entry))))) ⌝ }
 {
     let stamp = state.newest + 1;
-    store_meta(ssd, table, state, stamp, p);
-    state::with_stamp(state, stamp)
+    let stored = store_meta(ssd, table, state, stamp, p);
+    let next = state::with_stamp(state, stamp);
+    answers::stored(answer, next, stored)
 }
 
 // Sets a row.
@@ -80,7 +89,7 @@ fn join(state: Record, s: Slot, hand: Slot) -> Record
     state::with_hand(next, hand)
 }
 
-// Opens a slot for a block: its row, the window, and then the metadata page.
+// Opens a slot for a block: its row, the window, and then the metadata page. It is announced.
 pub fn open_slot(
     ssd: &mut [u8],
     table: &mut [u32],
@@ -89,17 +98,17 @@ pub fn open_slot(
     b: Block,
     flags: u32,
     hand: Slot,
-) -> Record
+) -> Outcome
     requires { ⌜ FitsRecord (length (now ssd)) (length (now table)) state ⌝ }
     requires { ⌜ recordTest state ≡ true ⌝ }
     requires { ⌜ state .count < windowMost ⌝ }
     requires { ⌜ state .newest < largestStamp ⌝ }
     requires { ⌜ s .0 < state .label .slots ⌝ }
-    ensures { λ q. ⌜ (q ≡ withStamp (joined s hand state) (state .newest + 1)) × (now (table .exit) ≡ setRow (now (table .entry)) s b flags) × (now (ssd .exit) ≡ putPage (now (ssd .entry)) (metaPlace (labelIn state) (metaOf s)) (encodeMeta (state .newest + 1) (windowIn (joined s hand state)) (rowsOn (metaOf s) (setRow (now (table .entry)) s b flags)))) ⌝ }
+    ensures { λ q. ⌜ (q ≡ record { answer = Announced s; state = withStamp (joined s hand state) (state .newest + 1); stored = Ssd (metaPlace (labelIn state) (metaOf s)) }) × (now (table .exit) ≡ setRow (now (table .entry)) s b flags) × (now (ssd .exit) ≡ putPage (now (ssd .entry)) (metaPlace (labelIn state) (metaOf s)) (encodeMeta (state .newest + 1) (windowIn (joined s hand state)) (rowsOn (metaOf s) (setRow (now (table .entry)) s b flags)))) ⌝ }
 {
     set_row(table, s, b, flags);
     let next = join(state, s, hand);
-    confirm(ssd, table, next, places::meta_of(s))
+    confirm(ssd, table, next, places::meta_of(s), Answer::Announced(s))
 }
 
 // Closes an open slot: it loses the writing flag and leaves the window.
@@ -117,54 +126,55 @@ pub fn close_slot(table: &mut [u32], state: Record, s: Slot) -> Record
 }
 
 // Stores a slot's page.
-pub fn store_page(ssd: &mut [u8], state: Record, s: Slot, page: &[u8])
+pub fn store_page(ssd: &mut [u8], state: Record, s: Slot, page: &[u8]) -> Stored
     requires { ⌜ length (now ssd) ≡ ssdLength (labelIn state) ⌝ }
     requires { ⌜ length (now page) ≡ 4096 ⌝ }
+    requires { ⌜ state .label .slots ≤ 57600 ⌝ }
     requires { ⌜ s .0 < state .label .slots ⌝ }
-    ensures { λ _. ⌜ now (ssd .exit) ≡ putPage (now (ssd .entry)) (dataPlace (labelIn state) s) (now (page .entry)) ⌝ }
+    ensures { λ r. ⌜ (r ≡ Ssd (dataPlace (labelIn state) s)) × (now (ssd .exit) ≡ putPage (now (ssd .entry)) (dataPlace (labelIn state) s) (now (page .entry))) ⌝ }
 {
     let l = state.label;
-    pages::store(ssd, places::data_place(l, s), page);
+    let place = places::data_place(l, s);
+    pages::store(ssd, place, page);
+    let number = place as u32;
+    Stored::Ssd(number)
 }
 
 // Copies a block's page into a slot.
-pub fn copy_in(ssd: &mut [u8], hdd: &[u8], state: Record, s: Slot, b: Block)
+pub fn copy_in(ssd: &mut [u8], hdd: &[u8], state: Record, s: Slot, b: Block) -> Stored
     requires { ⌜ length (now ssd) ≡ ssdLength (labelIn state) ⌝ }
     requires { ⌜ length (now hdd) ≡ hddLength (labelIn state) ⌝ }
+    requires { ⌜ state .label .slots ≤ 57600 ⌝ }
     requires { ⌜ s .0 < state .label .slots ⌝ }
     requires { ⌜ b .0 < state .label .blocks ⌝ }
-    ensures { λ _. ⌜ now (ssd .exit) ≡ putPage (now (ssd .entry)) (dataPlace (labelIn state) s) (pageAt (now (hdd .entry)) (blockPlace (labelIn state) b)) ⌝ }
+    ensures { λ r. ⌜ (r ≡ Ssd (dataPlace (labelIn state) s)) × (now (ssd .exit) ≡ putPage (now (ssd .entry)) (dataPlace (labelIn state) s) (pageAt (now (hdd .entry)) (blockPlace (labelIn state) b))) ⌝ }
 {
     let l = state.label;
-    pages::copy_page(
-        ssd,
-        places::data_place(l, s),
-        hdd,
-        places::block_place(l, b),
-    );
+    let place = places::data_place(l, s);
+    pages::copy_page(ssd, place, hdd, places::block_place(l, b));
+    let number = place as u32;
+    Stored::Ssd(number)
 }
 
 // Copies a dirty slot's page to its block, and marks the slot clean.
-pub fn copy_out(ssd: &[u8], hdd: &mut [u8], table: &mut [u32], state: Record, s: Slot)
+pub fn copy_out(ssd: &[u8], hdd: &mut [u8], table: &mut [u32], state: Record, s: Slot) -> Stored
     requires { ⌜ FitsRecord (length (now ssd)) (length (now table)) state ⌝ }
     requires { ⌜ length (now hdd) ≡ hddLength (labelIn state) ⌝ }
     requires { ⌜ state .label .blocks ≤ 16777216 ⌝ }
     requires { ⌜ s .0 < state .label .slots ⌝ }
     requires { ⌜ rowBlock (now table) s .0 < state .label .blocks ⌝ }
     requires { ⌜ dirty (rowFlags (now table) s) ≡ true ⌝ }
-    ensures { λ _. ⌜ (now (hdd .exit) ≡ putPage (now (hdd .entry)) (blockPlace (labelIn state) (rowBlock (now (table .entry)) s)) (pageAt (now (ssd .entry)) (dataPlace (labelIn state) s))) × (now (table .exit) ≡ setFlags (now (table .entry)) s (withoutDirty (rowFlags (now (table .entry)) s))) ⌝ }
+    ensures { λ r. ⌜ (r ≡ Hdd (blockPlace (labelIn state) (rowBlock (now (table .entry)) s))) × (now (hdd .exit) ≡ putPage (now (hdd .entry)) (blockPlace (labelIn state) (rowBlock (now (table .entry)) s)) (pageAt (now (ssd .entry)) (dataPlace (labelIn state) s))) × (now (table .exit) ≡ setFlags (now (table .entry)) s (withoutDirty (rowFlags (now (table .entry)) s))) ⌝ }
 {
     let l = state.label;
     let k = 2 * (s.0 as usize);
     let block = table[k];
     let flags = table[k + 1];
-    pages::copy_page(
-        hdd,
-        places::block_place(l, Block(block)),
-        ssd,
-        places::data_place(l, s),
-    );
+    let place = places::block_place(l, Block(block));
+    pages::copy_page(hdd, place, ssd, places::data_place(l, s));
     table[k + 1] = flags - 2;
+    let number = place as u32;
+    Stored::Hdd(number)
 }
 
 // Flags with used.

@@ -18,6 +18,7 @@ pub mod CopiesOnce
 pub mod Answered
 pub mod RoundTrip
 pub mod StoresLegally
+pub mod StoresThere
 pub mod ReadsAnywhere
 pub mod ReopensFrom
 pub mod why

@@ -5,7 +5,7 @@ use mathlib.Core.Logic.{_≢_, _⊎_}
 use mathlib.Core.Bool.{true, false}
 use mathlib.Core.List.{List}
 use mathlib.Core.Option.{Option, some, none}
-use Rattle.pages.specs.Pages.{pageAt, zeroPage, IsPage}
+use Rattle.pages.specs.Pages.{pageAt, putPage, zeroPage, IsPage}
 use Rattle.pages.specs.Parts.{Part}
 use Rattle.layout.specs.declared.Slot.{Slot}
 use Rattle.layout.specs.declared.Block.{Block}
@@ -17,6 +17,7 @@ use Rattle.record.specs.declared.Record.{Record}
 use Rattle.record.specs.declared.Phase.{Phase}
 use Rattle.record.specs.declared.Phase.the-variants.{Formatting, Recovering, Ready}
 use Rattle.protocol.specs.declared.Condition.the-variants.{Dirty, Writing, Fetching}
+use Rattle.protocol.specs.declared.Stored.the-variants.{Nothing, Ssd, Hdd}
 use Rattle.protocol.specs.Reply.{Reply, refused, announced, overwrite, copiedOut, done}
 use Rattle.protocol.specs.Rows.{rowBlock, rowFlags, valid, dirty, writing}
 use Rattle.record.specs.Record.{labelIn, windowIn}
@@ -43,6 +44,20 @@ pub record FormatStores (slots blocks : ℕ) (x : Box) : Type 0 where
 
 abbrev pub WholeFormat : Type 0
 WholeFormat = (slots blocks : ℕ) (x : Box) → refused (resultOf (format slots blocks) x .said) ≡ false → FormatStores slots blocks x
+
+-- Outside the page that a call names as stored the images are as they were handed in; where it names none, and where it refuses, all
+-- of them are.
+pub record OnePage (before after : List ℕ) (i : ℕ) : Type 0 where
+  pub bytes : List ℕ
+  pub stored : after ≡ putPage before i bytes
+
+pub record StoresThere (c : Call) (x : Box) : Type 0 where
+  pub nowhere : resultOf c x .stored ≡ Nothing → (resultOf c x .ssd ≡ x .images .ssd) × (resultOf c x .hdd ≡ x .images .hdd)
+  pub on-ssd : (i : ℕ) → resultOf c x .stored ≡ Ssd i
+      → OnePage (x .images .ssd) (resultOf c x .ssd) i × (resultOf c x .hdd ≡ x .images .hdd)
+  pub on-hdd : (i : ℕ) → resultOf c x .stored ≡ Hdd i
+      → (resultOf c x .ssd ≡ x .images .ssd) × OnePage (x .images .hdd) (resultOf c x .hdd) i
+  pub refused-nowhere : refused (resultOf c x .said) ≡ true → resultOf c x .stored ≡ Nothing
 
 -- the stamp that a metadata page is stored with: 0 while formatting, else the newest
 abbrev pub stampStored : Phase → ℕ → ℕ

@@ -4,6 +4,8 @@ use mathlib.Core.List.{List}
 use mathlib.Core.Option.{Option, some, none}
 use Rattle.pages.specs.Pages.{putPage}
 use Rattle.record.specs.declared.Record.{Record}
+use Rattle.protocol.specs.declared.Stored.{Stored}
+use Rattle.protocol.specs.declared.Stored.the-variants.{Nothing, Ssd, Hdd}
 use Rattle.protocol.specs.Reply.{Reply, refusal}
 
 pub record Images : Type 0 where
@@ -44,9 +46,19 @@ pub record Effect : Type 0 where
 abbrev pub refusing : ℕ → Box → Effect
 refusing n x = record { said = refusal n; state = x .state; table = x .table; store = none }
 
--- everything that a call leaves, in one record
+-- the page that a store is on, by its number in its image; where there is no store, none
+abbrev pub pageIn : Image → ℕ → Stored
+pageIn ssdImage place = Ssd place
+pageIn hddImage place = Hdd place
+
+abbrev pub storedOf : Option Store → Stored
+storedOf none = Nothing
+storedOf (some s) = pageIn (s .image) (s .place)
+
+-- everything that a call leaves, and the page that it stored, in one record
 pub record Result : Type 0 where
   pub said : Reply
+  pub stored : Stored
   pub state : Record
   pub table : List ℕ
   pub ssd : List ℕ
@@ -55,6 +67,7 @@ pub record Result : Type 0 where
 abbrev pub left : Effect → Images → Result
 left e im = record {
   said = e .said;
+  stored = storedOf (e .store);
   state = e .state;
   table = e .table;
   ssd = applied (e .store) im .ssd;

@@ -30,9 +30,16 @@ effectOf c x = decided (judged c x) c x
 abbrev pub resultOf : Call → Box → Result
 resultOf c x = left (effectOf c x) (x .images)
 
--- what a call in code leaves: what it returned, both images and the table
+-- what a call in code leaves: what it returned, the page that it names among it, both images and the table
 abbrev pub leaves : Outcome → List ℕ → List ℕ → List ℕ → Result
-leaves q ssd hdd table = record { said = replyOf (q .answer); state = q .state; table = table; ssd = ssd; hdd = hdd }
+leaves q ssd hdd table = record {
+  said = replyOf (q .answer);
+  stored = q .stored;
+  state = q .state;
+  table = table;
+  ssd = ssd;
+  hdd = hdd;
+}
 
 abbrev pub boxOf : List ℕ → List ℕ → List ℕ → Record → Box
 boxOf ssd hdd table state = record { images = record { ssd = ssd; hdd = hdd }; table = table; state = state }

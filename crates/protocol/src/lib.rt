@@ -15,10 +15,18 @@ pub enum Answer {
     Done,
 }
 
-// What a call returns: its answer, and the record.
+// Where a call stored: nowhere, or on a page of the SSD or of the HDD image, by its number.
+pub enum Stored {
+    Nothing,
+    Ssd(u32),
+    Hdd(u32),
+}
+
+// What a call returns: its answer, the record, and where it stored.
 pub struct Outcome {
     pub answer: Answer,
     pub state: Record,
+    pub stored: Stored,
 }
 
 // A block's condition: where it is, and how.

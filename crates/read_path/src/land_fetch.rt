@@ -31,9 +31,9 @@ pub fn land_fetch(
         Condition::Dirty(_) => answers::refused(9, state),
         Condition::Writing(_) => answers::refused(9, state),
         Condition::Fetching(s) => {
-            moves::copy_in(ssd, hdd, state, s, block);
+            let stored = moves::copy_in(ssd, hdd, state, s, block);
             let next = moves::close_slot(table, state, s);
-            answers::answered(Answer::Done, next)
+            answers::stored(Answer::Done, next, stored)
         }
     }
 }

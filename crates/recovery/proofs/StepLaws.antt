@@ -13,6 +13,7 @@ use Rattle.layout.specs.Places.{metaPages}
 use Rattle.record.specs.declared.Record.{Record}
 use Rattle.record.specs.declared.Phase.{Phase}
 use Rattle.record.specs.declared.Phase.the-variants.{Formatting, Recovering, Ready}
+use Rattle.protocol.specs.declared.Stored.the-variants.{Ssd}
 use Rattle.protocol.specs.Reply.{done}
 use Rattle.record.specs.Record.{labelIn, windowIn, largestStamp}
 use Rattle.protocol.specs.Box.{Box, Result, refusing, left}
@@ -33,6 +34,7 @@ formatted ssd hdd t r d =
     let store = formatStore (labelIn r) t (windowIn r) d in
     record {
       said = done;
+      stored = Ssd (store .place);
       state = formatState (labelIn r) r d;
       table = t;
       ssd = putPage ssd (store .place) (store .bytes);

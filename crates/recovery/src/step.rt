@@ -27,6 +27,8 @@ ghost use Rattle.protocol.specs.Perform.{mendedAt};
 ghost use Rattle.record.specs.Rule.{recordTest};
 ghost use Rattle.protocol.specs.Calls.{leaves, stepOf};
 ghost use Rattle.judging.specs.Fits.{FitsRecord};
+ghost use Rattle.protocol.specs.declared.Answer.the-variants.{Done};
+ghost use Rattle.protocol.specs.declared.Stored.the-variants.{Ssd};
 ghost use Rattle.layout.specs.Window.{windowMost, slotsIn, windowFrom, ZeroPast};
 ghost use Rattle.recovery.specs.Pending.{moreOff, phaseAt};
 
@@ -98,16 +100,16 @@ fn mended(state: Record, p: u32) -> Record
 }
 
 // Stores the lowest-numbered page with a pending slot, with the pending slots of other pages.
-fn mend(ssd: &mut [u8], table: &[u32], state: Record) -> Record
+fn mend(ssd: &mut [u8], table: &[u32], state: Record) -> Outcome
     requires { ⌜ FitsRecord (length (now ssd)) (length (now table)) state ⌝ }
     requires { ⌜ recordTest state ≡ true ⌝ }
     requires { ⌜ 1 ≤ state .count ⌝ }
     requires { ⌜ state .newest < largestStamp ⌝ }
-    ensures { λ r. ⌜ (r ≡ withStamp (mendedAt (lowestPage (windowIn state)) state) (state .newest + 1)) × (now (ssd .exit) ≡ putPage (now (ssd .entry)) (metaPlace (labelIn state) (lowestPage (windowIn state))) (encodeMeta (state .newest + 1) (windowIn (mendedAt (lowestPage (windowIn state)) state)) (rowsOn (lowestPage (windowIn state)) (now (table .entry))))) ⌝ }
+    ensures { λ q. ⌜ (q ≡ record { answer = Done; state = withStamp (mendedAt (lowestPage (windowIn state)) state) (state .newest + 1); stored = Ssd (metaPlace (labelIn state) (lowestPage (windowIn state))) }) × (now (ssd .exit) ≡ putPage (now (ssd .entry)) (metaPlace (labelIn state) (lowestPage (windowIn state))) (encodeMeta (state .newest + 1) (windowIn (mendedAt (lowestPage (windowIn state)) state)) (rowsOn (lowestPage (windowIn state)) (now (table .entry))))) ⌝ }
 {
     let p = lowest_page(state::window_of(state));
     let next = mended(state, p);
-    moves::confirm(ssd, table, next, p)
+    moves::confirm(ssd, table, next, p, Answer::Done)
 }
 
 pub fn step(ssd: &mut [u8], hdd: &[u8], table: &[u32], state: Record) -> Outcome
@@ -121,16 +123,12 @@ pub fn step(ssd: &mut [u8], hdd: &[u8], table: &[u32], state: Record) -> Outcome
     let phase = state.phase;
     match phase {
         Phase::Ready => answers::refused(6, state),
-        Phase::Formatting(done) => {
-            let next = format::format_step(ssd, table, state, done);
-            answers::answered(Answer::Done, next)
-        }
+        Phase::Formatting(done) => format::format_step(ssd, table, state, done),
         Phase::Recovering => {
             if LARGEST_STAMP <= state.newest {
                 return answers::refused(13, state);
             }
-            let next = mend(ssd, table, state);
-            answers::answered(Answer::Done, next)
+            mend(ssd, table, state)
         }
     }
 }

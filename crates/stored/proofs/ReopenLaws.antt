@@ -12,6 +12,7 @@ use Rattle.layout.specs.declared.Label.{Label}
 use Rattle.layout.specs.declared.LabelRead.the-variants.{Legal, Illegal}
 use Rattle.layout.specs.Places.{ssdLength, hddLength, tableLength}
 use Rattle.record.specs.declared.Record.{Record}
+use Rattle.protocol.specs.declared.Stored.the-variants.{Nothing}
 use Rattle.protocol.specs.Reply.{done}
 use Rattle.protocol.specs.Box.{Box, Result, refusing, left}
 use Rattle.protocol.specs.Recovery.{labelRead, labelAt, metasOf, pagesTest, Recovered, recover}
@@ -73,7 +74,7 @@ module _ (ssd hdd t : List ℕ) (r : Record) where
 
       -- table and record from the pages
       abbrev reopenedTo : Recovered → Result
-      reopenedTo v = record { said = done; state = v .state; table = v .table; ssd = ssd; hdd = hdd }
+      reopenedTo v = record { said = done; stored = Nothing; state = v .state; table = v .table; ssd = ssd; hdd = hdd }
 
       pub taken : (v : Recovered) → pagesTest l (metasOf l ssd) ≡ true → v ≡ recover l (metasOf l ssd) → reopenedTo v ≡ reopenOf ssd hdd t r
       unfolding plan perform

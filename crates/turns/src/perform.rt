@@ -55,14 +55,13 @@ pub fn perform(
                 return answers::refused(13, state);
             }
             sweep::clear_used(l, table, from, passed);
-            let next = moves::open_slot(ssd, table, state, s, b, flags, hand);
-            answers::answered(Answer::Announced(s), next)
+            moves::open_slot(ssd, table, state, s, b, flags, hand)
         }
         Turn::CopiesOut(s, passed) => {
             sweep::clear_used(l, table, from, passed);
-            moves::copy_out(ssd, hdd, table, state, s);
+            let stored = moves::copy_out(ssd, hdd, table, state, s);
             let next = state::with_hand(state, s);
-            answers::answered(Answer::CopiedOut, next)
+            answers::stored(Answer::CopiedOut, next, stored)
         }
     }
 }

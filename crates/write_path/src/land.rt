@@ -30,13 +30,13 @@ pub fn land(
         Condition::NotCached => answers::refused(9, state),
         Condition::Clean(_) => answers::refused(9, state),
         Condition::Dirty(s) => {
-            moves::store_page(ssd, state, s, page);
-            answers::answered(Answer::Done, state)
+            let stored = moves::store_page(ssd, state, s, page);
+            answers::stored(Answer::Done, state, stored)
         }
         Condition::Writing(s) => {
-            moves::store_page(ssd, state, s, page);
+            let stored = moves::store_page(ssd, state, s, page);
             let next = moves::close_slot(table, state, s);
-            answers::answered(Answer::Done, next)
+            answers::stored(Answer::Done, next, stored)
         }
         Condition::Fetching(_) => answers::refused(9, state),
     }

@@ -40,7 +40,7 @@ copy-page-requires c κs =
     let s = c .before .before .before .before .before .before .before .before .before .before in
     let a = s .args in (
       block-holds (a .hdd .now) (a .state .label) (rowBlock (a .table .now) (a .s)) _ (s .pre .1 .0) (s .pre .1 .1 .1 .1 .0)
-          (c .before .block-place .ensures),
+          (c .before .before .block-place .ensures),
       data-holds (a .ssd .now) (a .state .label) (a .s) _ (s .pre .0 .ssd-size) (s .pre .1 .1 .1 .0)
           (c .data-place .ensures),
     )
@@ -59,6 +59,12 @@ mul-table c = search needs
 slice-write-table : tie.Need-slice-write-table
 slice-write-table c = search needs
 
+cast-number : tie.Need-cast-number
+cast-number c =
+    let d = c .before .before .before .before .before in
+    let s = d .before .before .before .before .before .before .before .before in
+    rw (d .block-place .ensures) (omega (arith, s .pre .1 .1 .0, s .pre .1 .1 .1 .1 .0))
+
 same-length : tie.Need-same-length
 same-length c = search needs
 
@@ -69,7 +75,8 @@ returns : tie.Need-returns
 returns c =
     let s = c .before .before .before .before .before .before .before .before .before .before .before .before .before in
     let d = c .before .before .before in (
-      c .before .before .copy-page .ensures ∙ rw (d .before .block-place .ensures, d .data-place .ensures),
+      rw (d .before .before .block-place .ensures),
+      c .before .before .copy-page .ensures ∙ rw (d .before .before .block-place .ensures, d .data-place .ensures),
       rw (s .pre .1 .1 .1 .1 .1),
     )
 
@@ -91,6 +98,6 @@ copy-out-spec =
     add-table
     mul-table
     slice-write-table
-    same-length
+    cast-number same-length
     same-length-2
     returns)

@@ -39,7 +39,7 @@ returns c =
     let j = m .before .before .before .join .ensures in
     let r = m .before .before .before .before .before .before .set-row .ensures in
     let e = c .before .before .confirm .ensures in
-    (e .0 ∙ rw j, r, e .1 ∙ rw (j, m .meta-of .ensures, r))
+    (e .0 ∙ rw (j, m .meta-of .ensures), r, e .1 ∙ rw (j, m .meta-of .ensures, r))
 
 pub open-slot-spec : {M : Type 1} → statement M
 open-slot-spec =

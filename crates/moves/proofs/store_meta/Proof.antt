@@ -46,6 +46,13 @@ slice-aggregate-store c = search needs
 store-requires : tie.Need-store-requires
 store-requires c κs = search needs
 
+cast-number : tie.Need-cast-number
+cast-number c =
+    let s = c .before .before .before .before .before .before .before .before .before .before .before .before .before in
+    let F = s .pre .0 in
+    let h = meta-low (labelIn (s .args .state)) (s .args .p) (s .pre .1) in
+    rw (c .before .before .before .before .before .meta-place .ensures) (omega (arith, F .slots-most, h))
+
 same-length : tie.Need-same-length
 same-length c = search needs
 
@@ -54,11 +61,14 @@ returns c =
     let s = c .before .before .before .before .before .before .before .before .before .before .before .before .before in
     let a = s .args in
     let e = c .before .before .before .before .before .before .before .before .before .rows-end .ensures in
-    meta-stored (a .ssd .now) (a .table .now) _ _ (a .state) (a .stamp) (a .p) _ _ (omega (arith, e)) (e .0)
-    (c .before .before .before .before .meta-place .ensures)
-    (rw (c .before .before .before .before .before .before .before .before .window-of .ensures) at
-    (c .before .before .before .before .before .before .encode-meta .ensures))
-    (c .before .before .store .ensures)
+    let place = c .before .before .before .before .before .meta-place .ensures in (
+      rw place,
+      meta-stored (a .ssd .now) (a .table .now) _ _ (a .state) (a .stamp) (a .p) _ _ (omega (arith, e)) (e .0)
+          place
+          (rw (c .before .before .before .before .before .before .before .before .window-of .ensures) at
+          (c .before .before .before .before .before .before .encode-meta .ensures))
+          (c .before .before .store .ensures),
+    )
 
 pub store-meta-spec : {M : Type 1} → statement M
 store-meta-spec =
@@ -75,5 +85,5 @@ store-meta-spec =
     meta-place-requires
     slice-aggregate-store
     store-requires
-    same-length
+    cast-number same-length
     returns)

@@ -14,26 +14,23 @@ is-refused-requires c κs = search needs
 returns : tie.Need-returns
 returns c =
     let s = c .before .before .before .before in
-    refused-closed (replyOf (s .args .outcome .answer)) (s .args .outcome .state) (s .args .words .now) (s .args .slot .now) _
+    refused-closed (replyOf (s .args .outcome .answer)) (s .args .outcome .state) (s .args .words .now) _
     (c .before .before .code-of .ensures) (sym (c .before .is-refused .ensures) ∙ c .if1 .taken)
 
 pack-requires : tie.Need-pack-requires
 pack-requires c κs = search needs
-
-slot-of-requires : tie.Need-slot-of-requires
-slot-of-requires c κs = search needs
 
 same-length : tie.Need-same-length
 same-length c = search needs
 
 returns-2 : tie.Need-returns-2
 returns-2 c =
-    let p = c .before .before .before .before in
+    let p = c .before .before in
     let b = p .before .before .before .before in
     let s = b .before .before .before in
-    answered-closed (replyOf (s .args .outcome .answer)) (s .args .outcome .state) (s .args .words .now) _ (s .args .slot .now) _ _
+    answered-closed (replyOf (s .args .outcome .answer)) (s .args .outcome .state) (s .args .words .now) _ _
     (b .before .code-of .ensures) (sym (b .is-refused .ensures) ∙ p .before .before .before .if1 .left)
-    (p .pack .ensures) (c .slot-of .ensures)
+    (p .pack .ensures)
 
 pub closed-spec : {M : Type 1} → statement M
 closed-spec =
@@ -43,6 +40,5 @@ closed-spec =
     is-refused-requires
     returns
     pack-requires
-    slot-of-requires
     same-length
     returns-2)

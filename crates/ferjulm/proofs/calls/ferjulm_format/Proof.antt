@@ -1,6 +1,7 @@
 use mathlib.Core.Path.{_≡_, refl, sym, ap, _∙_}
 use borrow.Author.Needs.{needs}
 use Rattle.layout.specs.Places.{labelOf, withinLimits}
+use Rattle.protocol.specs.declared.Stored.the-variants.{Nothing}
 use Rattle.protocol.specs.Reply.{refusal, done}
 use Rattle.protocol.specs.Plan.{format}
 use Rattle.maintenance.proofs.FormatLaws.{format-refused, format-begins}
@@ -25,7 +26,7 @@ returns c =
     let w = c .before in
     let o = w .before in
     let a = o .before .before .before .before .before .before .args in
-    other-length (format (a .slots) (a .blocks)) (a .ssd .now) (a .hdd .now) (a .table .now) (a .words .now) (a .slot .now) _ 3 (o .if1 .taken)
+    other-length (format (a .slots) (a .blocks)) (a .ssd .now) (a .hdd .now) (a .table .now) (a .words .now) _ 3 (o .if1 .taken)
     (rw (sym (limits w) ∙ c .if2 .taken))
 
 returns-2 : tie.Need-returns-2
@@ -33,7 +34,7 @@ returns-2 c =
     let w = c .before in
     let o = w .before in
     let a = o .before .before .before .before .before .before .args in
-    other-length (format (a .slots) (a .blocks)) (a .ssd .now) (a .hdd .now) (a .table .now) (a .words .now) (a .slot .now) _ 1 (o .if1 .taken)
+    other-length (format (a .slots) (a .blocks)) (a .ssd .now) (a .hdd .now) (a .table .now) (a .words .now) _ 1 (o .if1 .taken)
     (rw (sym (limits w) ∙ c .if2 .left))
 
 begin-requires : tie.Need-begin-requires
@@ -49,10 +50,10 @@ returns-3 c =
     let l = e .before in
     let a = l .before .before .before .before .before .args in
     let r = unpacked (a .words .now) in
-    fresh-words (format (a .slots) (a .blocks)) (a .ssd .now) (a .hdd .now) (a .table .now) (a .words .now) (a .slot .now) _
-    (refusal (b .begin .result)) r (e .if1 .left)
+    fresh-words (format (a .slots) (a .blocks)) (a .ssd .now) (a .hdd .now) (a .table .now) (a .words .now) _
+    (refusal (b .begin .result)) Nothing r (e .if1 .left)
     (format-refused (a .ssd .now) (a .hdd .now) (a .table .now) r (a .slots) (a .blocks) _ (l .label .ensures) _ (b .begin .ensures .0)
-    _ _ _ (b .begin .ensures .1) (c .if3 .taken) refl refl) refl
+    _ (b .begin .ensures .1) (c .if3 .taken)) refl
 
 begun-requires : tie.Need-begun-requires
 begun-requires c κs = search needs
@@ -75,10 +76,11 @@ returns-4 c =
     let l = e .before in
     let a = l .before .before .before .before .before .args in
     let r = unpacked (a .words .now) in
-    fresh-words (format (a .slots) (a .blocks)) (a .ssd .now) (a .hdd .now) (a .table .now) (a .words .now) (a .slot .now) _
-    done (g .begun .result) (e .if1 .left)
+    fresh-words (format (a .slots) (a .blocks)) (a .ssd .now) (a .hdd .now) (a .table .now) (a .words .now) _
+    done Nothing (g .begun .result) (e .if1 .left)
+    (rw (g .begun .ensures)
     (format-begins (a .ssd .now) (a .hdd .now) (a .table .now) r (a .slots) (a .blocks) _ (l .label .ensures) _ (b .begin .ensures .0)
-    _ _ _ (b .begin .ensures .1) (g .before .if3 .left) refl (g .begun .ensures)) (rw (p .pack .ensures))
+    _ (b .begin .ensures .1) (g .before .if3 .left))) (rw (p .pack .ensures))
 
 pub ferjulm-format-spec : {M : Type 1} → statement M
 ferjulm-format-spec =

@@ -10,7 +10,7 @@ unheld-requires c κs = search needs
 returns : tie.Need-returns
 returns c =
     let a = c .before .before .before .before .before .before .args in
-    other-length reopen (a .ssd .now) (a .hdd .now) (a .table .now) (a .words .now) (a .slot .now) _ _ (c .before .if1 .taken)
+    other-length reopen (a .ssd .now) (a .hdd .now) (a .table .now) (a .words .now) _ _ (c .before .if1 .taken)
     (c .unheld .ensures)
 
 unpack-requires : tie.Need-unpack-requires
@@ -31,12 +31,13 @@ same-length-2 c = search needs
 returns-2 : tie.Need-returns-2
 returns-2 c =
     let q = c .before .before in
-    let p = q .before .before .before .before .before in
+    let p = q .before .before .before .before in
+    let o = p .reopen in
     let u = p .before .before in
     let e = u .before .before in
     let a = e .before .before .before .before .before .args in
-    on-words reopen (a .ssd .now) (a .hdd .now) (a .table .now) (a .words .now) (a .slot .now)
-    (u .unpack .result) (p .reopen .result) (u .unpack .ensures) (p .reopen .ensures) (q .closed .ensures) _ (e .if1 .left)
+    on-words reopen (a .ssd .now) (a .hdd .now) (a .table .now) (a .words .now)
+    (u .unpack .result) (o .result) (u .unpack .ensures) (o .ensures) (q .closed .ensures) _ (e .if1 .left)
 
 pub ferjulm-reopen-spec : {M : Type 1} → statement M
 ferjulm-reopen-spec =

@@ -34,7 +34,7 @@ returns : tie.Need-returns
 returns c =
     let e = c .before .before in
     let a = e .before .before .before .before .args in
-    rw (c .refused .ensures .0, c .refused .ensures .1)
+    rw (c .refused .ensures)
     (refused-by flush (boxOf (a .ssd .now) (a .hdd .now) (a .table .now) (a .state)) _ _ (flush-judges (a .ssd .now) (a .hdd .now) (a .table .now) (a .state)) (e .judge-ready .result .number)
     (found _ (a .table .now) (record { 0 = 0 }) (e .judge-ready .ensures)) (c .before .if1 .taken))
 
@@ -46,7 +46,7 @@ unfolding confirmed perform
 returns-2 c =
     let e = c .before .before .before in
     let a = start e .args in
-    rw (c .answered .ensures .0, c .answered .ensures .1) (flush-idle (a .ssd .now) (a .hdd .now) (a .table .now) (a .state) (passed e) (not-true _ (c .before .if2 .taken)))
+    rw (c .answered .ensures) (flush-idle (a .ssd .now) (a .hdd .now) (a .table .now) (a .state) (passed e) (not-true _ (c .before .if2 .taken)))
 
 refused-requires-2 : tie.Need-refused-requires-2
 refused-requires-2 c κs = search needs
@@ -55,7 +55,7 @@ returns-3 : tie.Need-returns-3
 returns-3 c =
     let e = c .before .before .before .before .before in
     let a = start e .args in
-    rw (c .refused2 .ensures .0, c .refused2 .ensures .1)
+    rw (c .refused2 .ensures)
     (flush-spent (a .ssd .now) (a .hdd .now) (a .table .now) (a .state) (passed e) (not-false _ (c .before .before .before .if2 .left)) (le-leb _ _ (c .before .if3 .taken)))
 
 confirm-requires : tie.Need-confirm-requires
@@ -65,20 +65,17 @@ confirm-requires c κs =
     let B = ready (a .ssd .now) (a .hdd .now) 4096 (a .table .now) (a .state) (passed e) in
     (B .box .fits, (meta-of-low (labelIn (a .state)) (record { 0 = 0 }) (B .box .sound .limits .some-slot), c .before .if3 .left))
 
-answered-requires-2 : tie.Need-answered-requires-2
-answered-requires-2 c κs = search needs
-
 same-length : tie.Need-same-length
 same-length c = search needs
 
 returns-4 : tie.Need-returns-4
 unfolding confirmed perform
 returns-4 c =
-    let e = c .before .before .before .before .before .before .before .before .before in
+    let e = c .before .before .before .before .before .before .before .before in
     let a = start e .args in
-    let z = c .before .before .before .confirm .ensures in
-    rw (c .answered2 .ensures .0, c .answered2 .ensures .1, z .0, z .1)
-    (flush-done (a .ssd .now) (a .hdd .now) (a .table .now) (a .state) (passed e) (not-false _ (c .before .before .before .before .before .before .before .if2 .left)) (lt-leb _ _ (c .before .before .before .before .before .if3 .left)))
+    let z = c .before .before .confirm .ensures in
+    rw (z .0, z .1)
+    (flush-done (a .ssd .now) (a .hdd .now) (a .table .now) (a .state) (passed e) (not-false _ (c .before .before .before .before .before .before .if2 .left)) (lt-leb _ _ (c .before .before .before .before .if3 .left)))
 
 pub flush-spec : {M : Type 1} → statement M
 flush-spec =
@@ -92,6 +89,5 @@ flush-spec =
     refused-requires-2
     returns-3
     confirm-requires
-    answered-requires-2
     same-length
     returns-4)

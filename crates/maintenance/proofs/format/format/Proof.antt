@@ -21,8 +21,9 @@ returns c =
     let b = c .before .before .before .before in
     let l = b .before .before in
     let a = l .before .before .before .before .args in
-    format-refused (a .ssd .now) (a .hdd .now) (a .table .now) (a .state) (a .slots) (a .blocks) _ (l .label .ensures) _ (b .begin .ensures .0)
-    _ _ _ (b .begin .ensures .1) (c .before .if1 .taken) (c .refused .ensures .0) (c .refused .ensures .1)
+    rw (c .refused .ensures)
+    (format-refused (a .ssd .now) (a .hdd .now) (a .table .now) (a .state) (a .slots) (a .blocks) _ (l .label .ensures) _ (b .begin .ensures .0)
+    _ (b .begin .ensures .1) (c .before .if1 .taken))
 
 begun-requires : tie.Need-begun-requires
 begun-requires c κs = search needs
@@ -39,8 +40,9 @@ returns-2 c =
     let b = e .before .before .before in
     let l = b .before .before in
     let a = l .before .before .before .before .args in
-    format-begins (a .ssd .now) (a .hdd .now) (a .table .now) (a .state) (a .slots) (a .blocks) _ (l .label .ensures) _ (b .begin .ensures .0)
-    _ _ _ (b .begin .ensures .1) (e .if1 .left) (rw (c .answered .ensures .0)) (c .answered .ensures .1 ∙ c .before .begun .ensures)
+    rw (c .answered .ensures, c .before .begun .ensures)
+    (format-begins (a .ssd .now) (a .hdd .now) (a .table .now) (a .state) (a .slots) (a .blocks) _ (l .label .ensures) _ (b .begin .ensures .0)
+    _ (b .begin .ensures .1) (e .if1 .left))
 
 pub format-spec : {M : Type 1} → statement M
 format-spec =

@@ -11,7 +11,9 @@ same-length : tie.Need-same-length
 same-length c = search needs
 
 returns : tie.Need-returns
-returns c = c .before .before .clear-page .ensures .stored ∙ rw (c .before .before .before .before .if1 .taken)
+returns c =
+    let z = c .before .before .before .before .if1 .taken in
+    (rw z, c .before .before .clear-page .ensures .stored ∙ rw z)
 
 sub-p : tie.Need-sub-p
 sub-p c = search needs
@@ -52,9 +54,9 @@ returns-3 : tie.Need-returns-3
 returns-3 c =
     let m = c .before .before .before .before .before in
     let s = m .before .before .before .before .before in
-    meta-step-stored (s .args .ssd .now) (s .args .table .now) _ (s .args .state) (s .args .done) (m .before .before .if1 .left)
-    (rw (← m .meta-pages .ensures) (c .before .before .before .before .if2 .left))
-    (c .before .before .store-meta .ensures)
+    let t = c .before .before .store-meta .ensures in
+    meta-step-stored (s .args .ssd .now) (s .args .table .now) _ _ (s .args .state) (s .args .done) (m .before .before .if1 .left)
+    (rw (← m .meta-pages .ensures) (c .before .before .before .before .if2 .left)) (t .0) (t .1)
 
 pub format-store-spec : {M : Type 1} → statement M
 format-store-spec =

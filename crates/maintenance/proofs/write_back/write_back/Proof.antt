@@ -48,7 +48,7 @@ returns : tie.Need-returns
 returns c =
     let e = c .before .before in
     let a = e .before .before .before .before .before .args in
-    rw (c .refused .ensures .0, c .refused .ensures .1)
+    rw (c .refused .ensures)
     (refused-by (writeBack (a .block)) (boxOf (a .ssd .now) (a .hdd .now) (a .table .now) (a .state)) _ _ (write-back-judges (a .ssd .now) (a .hdd .now) (a .table .now) (a .state) (a .block)) (e .judge-block .result .number)
     (found _ (a .table .now) (a .block) (e .judge-block .ensures)) (c .before .if1 .taken))
 
@@ -74,8 +74,8 @@ copy-out-requires c κs =
     let L = known e .box .box .sound in
     (known e .box .box .fits, (L .hdd-size, (L .limits .blocks-most, (R .low, (rw (R .block-is) (known e .low), R .dirty-is)))))
 
-answered-requires-3 : tie.Need-answered-requires-3
-answered-requires-3 c κs = search needs
+stored-requires : tie.Need-stored-requires
+stored-requires c κs = search needs
 
 enum-told-3 : tie.Need-enum-told-3
 enum-told-3 c = search needs
@@ -95,7 +95,7 @@ same-length-2 c = search needs
 returns-2 : tie.Need-returns-2
 unfolding perform
 returns-2 c =
-    rw (c .answered .ensures .0, c .answered .ensures .1)
+    rw (c .answered .ensures)
     (done (c .before .before .before) _ (c .before .enum-told .given .1) refl)
 
 same-length-3 : tie.Need-same-length-3
@@ -104,7 +104,7 @@ same-length-3 c = search needs
 returns-3 : tie.Need-returns-3
 unfolding perform
 returns-3 c =
-    rw (c .answered2 .ensures .0, c .answered2 .ensures .1)
+    rw (c .answered2 .ensures)
     (done (c .before .before .before) _ (c .before .enum-told2 .given .1) refl)
 
 same-length-4 : tie.Need-same-length-4
@@ -116,7 +116,8 @@ same-length-5 c = search needs
 returns-4 : tie.Need-returns-4
 unfolding perform
 returns-4 c =
-    rw (c .answered3 .ensures .0, c .answered3 .ensures .1, c .before .before .before .before .before .copy-out .ensures .0, c .before .before .before .before .before .copy-out .ensures .1)
+    let z = c .before .before .before .before .before .copy-out .ensures in
+    rw (c .stored .ensures, z .0, z .1, z .2)
     (done (c .before .before .before .before .before .before .before .before .before .before .before) _ (c .before .before .before .before .before .before .before .before .before .condition .given .1) refl)
 
 same-length-6 : tie.Need-same-length-6
@@ -124,7 +125,7 @@ same-length-6 c = search needs
 
 returns-5 : tie.Need-returns-5
 returns-5 c =
-    rw (c .refused2 .ensures .0, c .refused2 .ensures .1)
+    rw (c .refused2 .ensures)
     (shut (c .before .before .before) _ (c .before .enum-told3 .given .1) refl)
 
 same-length-7 : tie.Need-same-length-7
@@ -132,7 +133,7 @@ same-length-7 c = search needs
 
 returns-6 : tie.Need-returns-6
 returns-6 c =
-    rw (c .refused3 .ensures .0, c .refused3 .ensures .1)
+    rw (c .refused3 .ensures)
     (shut (c .before .before .before) _ (c .before .enum-told4 .given .1) refl)
 
 pub write-back-spec : {M : Type 1} → statement M
@@ -149,7 +150,7 @@ write-back-spec =
     answered-requires-2
     enum-known-condition
     copy-out-requires
-    answered-requires-3
+    stored-requires
     enum-told-3
     refused-requires-2
     enum-told-4

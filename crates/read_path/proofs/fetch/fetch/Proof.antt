@@ -34,7 +34,7 @@ returns : tie.Need-returns
 returns c =
     let e = c .before .before in
     let a = e .before .before .before .before .before .args in
-    rw (c .refused .ensures .0, c .refused .ensures .1)
+    rw (c .refused .ensures)
     (refused-by (fetch (a .block)) (boxOf (a .ssd .now) (a .hdd .now) (a .table .now) (a .state)) _ _ (fetch-judges (a .ssd .now) (a .hdd .now) (a .table .now) (a .state) (a .block)) (e .judge-block .result .number)
     (found _ (a .table .now) (a .block) (e .judge-block .ensures)) (c .before .if1 .taken))
 

@@ -49,7 +49,7 @@ returns : tie.Need-returns
 returns c =
     let e = c .before .before in
     let a = e .before .before .before .before .before .args in
-    rw (c .refused .ensures .0, c .refused .ensures .1)
+    rw (c .refused .ensures)
     (refused-by (landFetch (a .block)) (boxOf (a .ssd .now) (a .hdd .now) (a .table .now) (a .state)) _ _ (land-fetch-judges (a .ssd .now) (a .hdd .now) (a .table .now) (a .state) (a .block)) (e .judge-block .result .number)
     (found _ (a .table .now) (a .block) (e .judge-block .ensures)) (c .before .if1 .taken))
 
@@ -84,7 +84,7 @@ copy-in-requires : tie.Need-copy-in-requires
 copy-in-requires c κs =
     let e = c .before .before .before .before in
     let R = known e .row _ (c .before .before .condition .given .1) in
-    (known e .box .box .sound .ssd-size, (known e .box .box .sound .hdd-size, (R .low, known e .low)))
+    (known e .box .box .sound .ssd-size, (known e .box .box .sound .hdd-size, (known e .box .box .fits .slots-most, (R .low, known e .low))))
 
 close-slot-requires : tie.Need-close-slot-requires
 close-slot-requires c κs =
@@ -92,15 +92,15 @@ close-slot-requires c κs =
     let R = known e .row _ (c .before .before .before .before .before .before .condition .given .1) in
     (known e .box .box .record-kept, (open-listed _ _ _ _ _ (known e .box) _ (R .low) (R .writing-is), (R .within, R .writing-is)))
 
-answered-requires : tie.Need-answered-requires
-answered-requires c κs = search needs
+stored-requires : tie.Need-stored-requires
+stored-requires c κs = search needs
 
 same-length-2 : tie.Need-same-length-2
 same-length-2 c = search needs
 
 returns-2 : tie.Need-returns-2
 returns-2 c =
-    rw (c .refused2 .ensures .0, c .refused2 .ensures .1)
+    rw (c .refused2 .ensures)
     (wrong (c .before .before .before) _ (c .before .enum-told .given .1) refl)
 
 same-length-3 : tie.Need-same-length-3
@@ -108,7 +108,7 @@ same-length-3 c = search needs
 
 returns-3 : tie.Need-returns-3
 returns-3 c =
-    rw (c .refused3 .ensures .0, c .refused3 .ensures .1)
+    rw (c .refused3 .ensures)
     (wrong (c .before .before .before) _ (c .before .enum-told2 .given .1) refl)
 
 same-length-4 : tie.Need-same-length-4
@@ -116,7 +116,7 @@ same-length-4 c = search needs
 
 returns-4 : tie.Need-returns-4
 returns-4 c =
-    rw (c .refused4 .ensures .0, c .refused4 .ensures .1)
+    rw (c .refused4 .ensures)
     (wrong (c .before .before .before) _ (c .before .enum-told3 .given .1) refl)
 
 same-length-5 : tie.Need-same-length-5
@@ -124,7 +124,7 @@ same-length-5 c = search needs
 
 returns-5 : tie.Need-returns-5
 returns-5 c =
-    rw (c .refused5 .ensures .0, c .refused5 .ensures .1)
+    rw (c .refused5 .ensures)
     (wrong (c .before .before .before) _ (c .before .enum-told4 .given .1) refl)
 
 same-length-6 : tie.Need-same-length-6
@@ -139,7 +139,8 @@ returns-6 c =
     let e = c .before .before .before .before .before .before .before .before .before .before .before .before in
     let k = c .before .before .before .before .before .before .before .before .before .before .condition .given .1 in
     let z = c .before .before .before .close-slot .ensures in
-    rw (c .answered .ensures .0, c .answered .ensures .1, c .before .before .before .before .before .before .before .copy-in .ensures, z .0, z .1)
+    let d = c .before .before .before .before .before .before .before .copy-in .ensures in
+    rw (c .stored .ensures, d .0, d .1, z .0, z .1)
     (rw (perform, known e .row _ k .writing-is) at (done e _ k refl))
 
 pub land-fetch-spec : {M : Type 1} → statement M
@@ -161,7 +162,7 @@ land-fetch-spec =
     enum-known-condition
     copy-in-requires
     close-slot-requires
-    answered-requires
+    stored-requires
     same-length-2
     returns-2
     same-length-3

@@ -26,7 +26,7 @@ returns : tie.Need-returns
 returns c =
     let e = c .before .before in
     let a = e .before .before .before .before .before .args in
-    rw (c .refused .ensures .0, c .refused .ensures .1)
+    rw (c .refused .ensures)
     (refused-by (lookUp (a .block)) (boxOf (a .ssd .now) (a .hdd .now) (a .table .now) (a .state)) _ _
     (look-up-judges (a .ssd .now) (a .hdd .now) (a .table .now) (a .state) (a .block))
     (e .judge-block .result .number) (found _ (a .table .now) (a .block) (e .judge-block .ensures)) (c .before .if1 .taken))
@@ -97,7 +97,7 @@ same-length-2 c = search needs
 returns-2 : tie.Need-returns-2
 unfolding perform
 returns-2 c =
-    rw (c .answered .ensures .0, c .answered .ensures .1) (done (c .before .before .before) _ (c .before .enum-told .given .1))
+    rw (c .answered .ensures) (done (c .before .before .before) _ (c .before .enum-told .given .1))
 
 same-length-3 : tie.Need-same-length-3
 same-length-3 c = search needs
@@ -107,7 +107,7 @@ unfolding perform
 returns-3 c =
     let u = c .before .before .before in
     let k = u .before .before .before in
-    rw (c .answered2 .ensures .0, c .answered2 .ensures .1, u .use-slot .ensures) (done (k .before .before) _ (k .condition .given .1))
+    rw (c .answered2 .ensures, u .use-slot .ensures) (done (k .before .before) _ (k .condition .given .1))
 
 same-length-4 : tie.Need-same-length-4
 same-length-4 c = search needs
@@ -117,7 +117,7 @@ unfolding perform
 returns-4 c =
     let u = c .before .before .before in
     let k = u .before .before .before in
-    rw (c .answered3 .ensures .0, c .answered3 .ensures .1, u .use-slot2 .ensures) (done (k .before .before) _ (k .condition2 .given .1))
+    rw (c .answered3 .ensures, u .use-slot2 .ensures) (done (k .before .before) _ (k .condition2 .given .1))
 
 same-length-5 : tie.Need-same-length-5
 same-length-5 c = search needs
@@ -125,7 +125,7 @@ same-length-5 c = search needs
 returns-5 : tie.Need-returns-5
 unfolding perform
 returns-5 c =
-    rw (c .answered4 .ensures .0, c .answered4 .ensures .1) (done (c .before .before .before) _ (c .before .enum-told2 .given .1))
+    rw (c .answered4 .ensures) (done (c .before .before .before) _ (c .before .enum-told2 .given .1))
 
 same-length-6 : tie.Need-same-length-6
 same-length-6 c = search needs
@@ -133,7 +133,7 @@ same-length-6 c = search needs
 returns-6 : tie.Need-returns-6
 unfolding perform
 returns-6 c =
-    rw (c .answered5 .ensures .0, c .answered5 .ensures .1) (done (c .before .before .before) _ (c .before .enum-told3 .given .1))
+    rw (c .answered5 .ensures) (done (c .before .before .before) _ (c .before .enum-told3 .given .1))
 
 pub look-up-spec : {M : Type 1} → statement M
 look-up-spec =

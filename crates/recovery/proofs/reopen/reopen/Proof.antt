@@ -21,7 +21,7 @@ refused-requires c κs = search needs
 returns : tie.Need-returns
 returns c =
     let a = c .before .before .before .before .before .before .before .args in
-    rw (c .refused .ensures .0, c .refused .ensures .1)
+    rw (c .refused .ensures)
     (unlabelled (a .ssd .now) (a .hdd .now) (a .table .now) (a .state)
     (sym (c .before .before .before .label-of .ensures) ∙ c .before .enum-told .given .1))
 
@@ -34,7 +34,7 @@ refused-requires-2 c κs = search needs
 returns-2 : tie.Need-returns-2
 returns-2 c =
     let a = c .before .before .before .before .before .before .before .before .before .before .args in
-    rw (c .refused2 .ensures .0, c .refused2 .ensures .1)
+    rw (c .refused2 .ensures)
     (wrong-length (a .ssd .now) (a .hdd .now) (a .table .now) (a .state) _
     (sym (c .before .before .before .before .before .before .label-of .ensures) ∙ c .before .before .before .before .l .given .1)
     (sym (c .before .before .lengths-ok .ensures) ∙ not-true _ (c .before .if1 .taken)))
@@ -54,7 +54,7 @@ refused-requires-3 c κs = search needs
 returns-3 : tie.Need-returns-3
 returns-3 c =
     let a = c .before .before .before .before .before .before .before .before .before .before .before .before .args in
-    rw (c .refused3 .ensures .0, c .refused3 .ensures .1)
+    rw (c .refused3 .ensures)
     (bad-pages (a .ssd .now) (a .hdd .now) (a .table .now) (a .state) _
     (sym (c .before .before .before .before .before .before .before .before .label-of .ensures)
     ∙ c .before .before .before .before .before .before .l .given .1)
@@ -89,7 +89,7 @@ returns-4 : tie.Need-returns-4
 returns-4 c =
     let mid = c .before .before .before .before .before .before .before .before .before in
     let a = mid .before .before .before .before .before .before .before .args in
-    rw (c .answered .ensures .0, c .answered .ensures .1)
+    rw (c .answered .ensures)
     (taken (a .ssd .now) (a .hdd .now) (a .table .now) (a .state) _
     (sym (c .before .before .before .before .before .before .before .before .before .before .before .before .label-of .ensures)
     ∙ c .before .before .before .before .before .before .before .before .before .before .l .given .1)

@@ -36,7 +36,7 @@ returns : tie.Need-returns
 returns c =
     let e = c .before .before in
     let a = e .before .before .before .before .args in
-    rw (c .refused .ensures .0, c .refused .ensures .1)
+    rw (c .refused .ensures)
     (refused-by step (boxOf (a .ssd .now) (a .hdd .now) (a .table .now) (a .state)) _ _
     (step-judges (a .ssd .now) (a .hdd .now) (a .table .now) (a .state)) (e .judge-box .result .number)
     (found _ (a .table .now) (record { 0 = 0 }) (e .judge-box .ensures)) (c .before .if1 .taken))
@@ -56,9 +56,6 @@ format-step-requires c κs =
     let S = box e in
     (S .fits, (within _ .1 (S .sound .limits), steps-low _ _ _ _ S _ (c .before .before .phase .given .1)))
 
-answered-requires : tie.Need-answered-requires
-answered-requires c κs = search needs
-
 enum-told-2 : tie.Need-enum-told-2
 enum-told-2 c = search needs
 
@@ -69,7 +66,7 @@ returns-2 : tie.Need-returns-2
 returns-2 c =
     let e = c .before .before .before .before .before in
     let a = start e .args in
-    rw (c .refused3 .ensures .0, c .refused3 .ensures .1)
+    rw (c .refused3 .ensures)
     (step-spent (a .ssd .now) (a .hdd .now) (a .table .now) (a .state) (passed e) (c .before .before .before .enum-told2 .given .1)
     (le-leb _ _ (c .before .if2 .taken)))
 
@@ -79,14 +76,11 @@ mend-requires c κs =
     let S = box e in
     (S .fits, (S .record-kept, (some-pending _ _ _ _ S (c .before .before .before .enum-told2 .given .1), c .before .if2 .left)))
 
-answered-requires-2 : tie.Need-answered-requires-2
-answered-requires-2 c κs = search needs
-
 returns-3 : tie.Need-returns-3
 returns-3 c =
     let e = c .before .before .before in
     let a = start e .args in
-    rw (c .refused2 .ensures .0, c .refused2 .ensures .1)
+    rw (c .refused2 .ensures)
     (step-ready (a .ssd .now) (a .hdd .now) (a .table .now) (a .state) (passed e) (c .before .enum-told .given .1))
 
 same-length : tie.Need-same-length
@@ -94,12 +88,12 @@ same-length c = search needs
 
 returns-4 : tie.Need-returns-4
 returns-4 c =
-    let e = c .before .before .before .before .before .before .before .before in
+    let e = c .before .before .before .before .before .before .before in
     let a = start e .args in
-    let z = c .before .before .before .format-step .ensures in
-    rw (c .answered .ensures .0, c .answered .ensures .1, z .0, z .1)
+    let z = c .before .before .format-step .ensures in
+    rw (z .0, z .1)
     (step-formats (a .ssd .now) (a .hdd .now) (a .table .now) (a .state) (passed e) _
-    (c .before .before .before .before .before .before .phase .given .1))
+    (c .before .before .before .before .before .phase .given .1))
 
 same-length-2 : tie.Need-same-length-2
 same-length-2 c = search needs
@@ -107,13 +101,13 @@ same-length-2 c = search needs
 returns-5 : tie.Need-returns-5
 unfolding confirmed perform
 returns-5 c =
-    let e = c .before .before .before .before .before .before .before .before .before in
+    let e = c .before .before .before .before .before .before .before .before in
     let a = start e .args in
-    let z = c .before .before .before .mend .ensures in
-    rw (c .answered2 .ensures .0, c .answered2 .ensures .1, z .0, z .1)
+    let z = c .before .before .mend .ensures in
+    rw (z .0, z .1)
     (step-mends (a .ssd .now) (a .hdd .now) (a .table .now) (a .state) (passed e)
-    (c .before .before .before .before .before .before .before .enum-told2 .given .1)
-    (lt-leb _ _ (c .before .before .before .before .before .if2 .left)))
+    (c .before .before .before .before .before .before .enum-told2 .given .1)
+    (lt-leb _ _ (c .before .before .before .before .if2 .left)))
 
 pub step-spec : {M : Type 1} → statement M
 step-spec =
@@ -126,12 +120,10 @@ step-spec =
     refused-requires-2
     enum-known-phase
     format-step-requires
-    answered-requires
     enum-told-2
     refused-requires-3
     returns-2
     mend-requires
-    answered-requires-2
     returns-3
     same-length
     returns-4

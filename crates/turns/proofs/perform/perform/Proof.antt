@@ -70,7 +70,7 @@ returns : tie.Need-returns
 returns c =
     let n = c .before .before in
     let x = box (entry (n .before)) in
-    rw (c .refused2 .ensures .0, c .refused2 .ensures .1, n .before .before .turn2 .given .1)
+    rw (c .refused2 .ensures, n .before .before .turn2 .given .1)
     (ap (λ (e : Effect). left e (x .images)) (turn-spent _ _ _ _ (entry (n .before) .args .b) x (sym (n .is-spent .ensures) ∙ c .before .if1 .taken)))
 
 clear-used-requires : tie.Need-clear-used-requires
@@ -86,9 +86,6 @@ open-slot-requires c κs =
     let d = doable s _ (e .before .before .before .turn2 .given .1) in
     let n = leb-false 4294967232 (s .args .state .newest) (sym (e .before .is-spent .ensures) ∙ e .if1 .left) in
     rw (k .clear-used .ensures) (fits s _, (s .pre .1 .1 .0, (d .1, (omega (arith, n), d .0))))
-
-answered-requires-2 : tie.Need-answered-requires-2
-answered-requires-2 c κs = search needs
 
 enum-known-turn-3 : tie.Need-enum-known-turn-3
 enum-known-turn-3 c = search needs
@@ -120,17 +117,17 @@ copy-out-requires c κs =
 with-hand-requires : tie.Need-with-hand-requires
 with-hand-requires c κs = search needs
 
-answered-requires-3 : tie.Need-answered-requires-3
-answered-requires-3 c κs = search needs
+stored-requires : tie.Need-stored-requires
+stored-requires c κs = search needs
 
 returns-2 : tie.Need-returns-2
 returns-2 c =
-    rw (c .refused .ensures .0, c .refused .ensures .1, c .before .before .turn .given .1) refl
+    rw (c .refused .ensures, c .before .before .turn .given .1) refl
 
 returns-3 : tie.Need-returns-3
 unfolding confirmed perform
 returns-3 c =
-    rw (c .answered .ensures .0, c .answered .ensures .1, c .before .enum-told .given .1) refl
+    rw (c .answered .ensures, c .before .enum-told .given .1) refl
 
 same-length : tie.Need-same-length
 same-length c = search needs
@@ -141,11 +138,11 @@ same-length-2 c = search needs
 returns-4 : tie.Need-returns-4
 unfolding confirmed perform
 returns-4 c =
-    let z = c .before .before .before .before .before .open-slot .ensures in
-    let k = c .before .before .before .before .before .before .before .before .before .before in
+    let z = c .before .before .before .before .open-slot .ensures in
+    let k = c .before .before .before .before .before .before .before .before .before in
     let e = k .before .before in
     let x = box (entry (e .before .before)) in
-    rw (c .answered2 .ensures .0, c .answered2 .ensures .1, z .0, z .1, z .2, k .clear-used .ensures, e .before .before .before .turn2 .given .1)
+    rw (z .0, z .1, z .2, k .clear-used .ensures, e .before .before .before .turn2 .given .1)
     (ap (λ (e : Effect). left e (x .images)) (turn-opens _ _ _ _ (entry (e .before .before) .args .b) x (sym (e .before .is-spent .ensures) ∙ e .if1 .left)))
 
 same-length-3 : tie.Need-same-length-3
@@ -162,7 +159,7 @@ unfolding confirmed perform
 returns-5 c =
     let z = c .before .before .before .before .before .before .copy-out .ensures in
     let k = c .before .before .before .before .before .before .before .before .before .before .before .before in
-    rw (c .answered3 .ensures .0, c .answered3 .ensures .1, c .before .with-hand .ensures, z .0, z .1, k .clear-used2 .ensures, k .before .before .before .turn3 .given .1) refl
+    rw (c .stored .ensures, c .before .with-hand .ensures, z .0, z .1, z .2, k .clear-used2 .ensures, k .before .before .before .turn3 .given .1) refl
 
 pub perform-spec : {M : Type 1} → statement M
 perform-spec =
@@ -178,12 +175,11 @@ perform-spec =
     returns
     clear-used-requires
     open-slot-requires
-    answered-requires-2
     enum-known-turn-3
     clear-used-requires-2
     copy-out-requires
     with-hand-requires
-    answered-requires-3
+    stored-requires
     returns-2
     returns-3
     same-length

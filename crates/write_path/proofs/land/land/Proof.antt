@@ -50,7 +50,7 @@ returns : tie.Need-returns
 returns c =
     let e = c .before .before in
     let a = e .before .before .before .before .before .before .args in
-    rw (c .refused .ensures .0, c .refused .ensures .1)
+    rw (c .refused .ensures)
     (refused-by (land (a .block) (a .page .now)) (boxOf (a .ssd .now) (a .hdd .now) (a .table .now) (a .state)) _ _ (land-judges (a .ssd .now) (a .hdd .now) (a .table .now) (a .state) (a .block) (a .page .now)) (e .judge-block .result .number)
     (found _ (a .table .now) (a .block) (e .judge-block .ensures)) (c .before .if1 .taken))
 
@@ -73,10 +73,10 @@ store-page-requires : tie.Need-store-page-requires
 store-page-requires c κs =
     let e = c .before .before .before .before in
     let R = known e .row _ (c .before .before .condition .given .1) in
-    (known e .box .box .sound .ssd-size, (known e .box .box .page-size, R .low))
+    (known e .box .box .sound .ssd-size, (known e .box .box .page-size, (known e .box .box .fits .slots-most, R .low)))
 
-answered-requires : tie.Need-answered-requires
-answered-requires c κs = search needs
+stored-requires : tie.Need-stored-requires
+stored-requires c κs = search needs
 
 enum-known-condition-2 : tie.Need-enum-known-condition-2
 enum-known-condition-2 c = search needs
@@ -85,7 +85,7 @@ store-page-requires-2 : tie.Need-store-page-requires-2
 store-page-requires-2 c κs =
     let e = c .before .before .before .before in
     let R = known e .row _ (c .before .before .condition2 .given .1) in
-    (known e .box .box .sound .ssd-size, (known e .box .box .page-size, R .low))
+    (known e .box .box .sound .ssd-size, (known e .box .box .page-size, (known e .box .box .fits .slots-most, R .low)))
 
 close-slot-requires : tie.Need-close-slot-requires
 close-slot-requires c κs =
@@ -93,8 +93,8 @@ close-slot-requires c κs =
     let R = known e .row _ (c .before .before .before .before .before .before .condition2 .given .1) in
     (known e .box .box .record-kept, (open-listed _ _ _ _ _ (known e .box) _ (R .low) (R .writing-is), (R .within, R .writing-is)))
 
-answered-requires-2 : tie.Need-answered-requires-2
-answered-requires-2 c κs = search needs
+stored-requires-2 : tie.Need-stored-requires-2
+stored-requires-2 c κs = search needs
 
 enum-told-3 : tie.Need-enum-told-3
 enum-told-3 c = search needs
@@ -107,7 +107,7 @@ same-length-2 c = search needs
 
 returns-2 : tie.Need-returns-2
 returns-2 c =
-    rw (c .refused2 .ensures .0, c .refused2 .ensures .1)
+    rw (c .refused2 .ensures)
     (wrong (c .before .before .before) _ (c .before .enum-told .given .1) refl)
 
 same-length-3 : tie.Need-same-length-3
@@ -115,7 +115,7 @@ same-length-3 c = search needs
 
 returns-3 : tie.Need-returns-3
 returns-3 c =
-    rw (c .refused3 .ensures .0, c .refused3 .ensures .1)
+    rw (c .refused3 .ensures)
     (wrong (c .before .before .before) _ (c .before .enum-told2 .given .1) refl)
 
 same-length-4 : tie.Need-same-length-4
@@ -129,7 +129,8 @@ unfolding perform
 returns-4 c =
     let e = c .before .before .before .before .before .before .before .before in
     let k = c .before .before .before .before .before .before .condition .given .1 in
-    rw (c .answered .ensures .0, c .answered .ensures .1, c .before .before .before .store-page .ensures)
+    let d = c .before .before .before .store-page .ensures in
+    rw (c .stored .ensures, d .0, d .1)
     (rw (perform, known e .row _ k .writing-is) at (done e _ k refl))
 
 same-length-6 : tie.Need-same-length-6
@@ -144,7 +145,8 @@ returns-5 c =
     let e = c .before .before .before .before .before .before .before .before .before .before .before .before in
     let k = c .before .before .before .before .before .before .before .before .before .before .condition2 .given .1 in
     let z = c .before .before .before .close-slot .ensures in
-    rw (c .answered2 .ensures .0, c .answered2 .ensures .1, c .before .before .before .before .before .before .before .store-page2 .ensures, z .0, z .1)
+    let d = c .before .before .before .before .before .before .before .store-page2 .ensures in
+    rw (c .stored2 .ensures, d .0, d .1, z .0, z .1)
     (rw (perform, known e .row _ k .writing-is) at (done e _ k refl))
 
 same-length-8 : tie.Need-same-length-8
@@ -152,7 +154,7 @@ same-length-8 c = search needs
 
 returns-6 : tie.Need-returns-6
 returns-6 c =
-    rw (c .refused4 .ensures .0, c .refused4 .ensures .1)
+    rw (c .refused4 .ensures)
     (wrong (c .before .before .before) _ (c .before .enum-told3 .given .1) refl)
 
 pub land-spec : {M : Type 1} → statement M
@@ -169,11 +171,11 @@ land-spec =
     refused-requires-3
     enum-known-condition
     store-page-requires
-    answered-requires
+    stored-requires
     enum-known-condition-2
     store-page-requires-2
     close-slot-requires
-    answered-requires-2
+    stored-requires-2
     enum-told-3
     refused-requires-4
     same-length-2

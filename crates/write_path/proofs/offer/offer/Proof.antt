@@ -42,7 +42,7 @@ returns : tie.Need-returns
 returns c =
     let e = c .before .before in
     let a = e .before .before .before .before .before .args in
-    rw (c .refused .ensures .0, c .refused .ensures .1)
+    rw (c .refused .ensures)
     (refused-by (offer (a .block)) (boxOf (a .ssd .now) (a .hdd .now) (a .table .now) (a .state)) _ _ (offer-judges (a .ssd .now) (a .hdd .now) (a .table .now) (a .state) (a .block)) (e .judge-block .result .number)
     (found _ (a .table .now) (a .block) (e .judge-block .ensures)) (c .before .if1 .taken))
 
@@ -81,7 +81,7 @@ returns-2 c =
     let d = p .before in
     let a = start (d .before .before) .args in
     let x = boxOf (a .ssd .now) (a .hdd .now) (a .table .now) (a .state) in
-    rw (c .answered .ensures .0, c .answered .ensures .1)
+    rw (c .answered .ensures)
     (ap (λ (T : Turn). left (turned T (a .block) x) (x .images)) (sym (pass-is (d .offer .result) (sym (p .passes .ensures) ∙ c .before .if2 .taken))) ∙ offered d)
 
 perform-requires : tie.Need-perform-requires
