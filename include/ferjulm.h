@@ -13,8 +13,9 @@
  * - No pointer is null, not even one with length 0. Pointers to 32-bit words are aligned to 4 bytes, `offset` to 8. Each
  *   pointer with length n points to n elements.
  * - What is lent to one call does not overlap: images, table, record, page and out-parameters.
- * - A call stores at most one page, in one of the images. Where the images are kept on drives, that page reaches its drive
- *   whole or not at all, and before the page of any later call.
+ * - A call stores at most one page, in one of the images, and names it: outside that page the images are as they were lent.
+ *   Where the images are kept on drives, that page reaches its drive whole or not at all, and before the page of any later
+ *   call.
  * - Slots and blocks are two kinds of number, each counted from 0.
  *
  * A row of the table is two words for a slot, the table's words 2 * slot and 2 * slot + 1: the block, and its flags, a sum of 1
@@ -23,6 +24,11 @@
  * Lengths are counted in elements: bytes of an image or page, 32-bit words of table and record. Nothing else has to hold of
  * what is lent: any length, any bytes and any words are judged, and refused by number where they break a rule. What is lent
  * `const` is only read. A refusal changes nothing that was lent, out-parameters included.
+ *
+ * The page that a call stored is told by the last two out-parameters of every call that may store one. Where such a call is not
+ * refused, *image becomes FERJULM_NOWHERE (nothing was stored, and *offset becomes 0), FERJULM_SSD or FERJULM_HDD, and *offset
+ * the page's first byte in that image, a multiple of FERJULM_PAGE. A store that leaves the bytes as they were is named all the
+ * same. A call without these two stores nothing; a view, which stores nothing either, tells by them where it found a page.
  */
 #ifndef FERJULM_H
 #define FERJULM_H
@@ -72,8 +78,9 @@ enum {
     FERJULM_NOTHING_TO_DO = 106
 };
 
-/* The image that a view finds a block in. */
+/* The image of a page that was stored, or that a view finds a block in. */
 enum {
+    FERJULM_NOWHERE = 0, /* nothing was stored */
     FERJULM_SSD = 1,
     FERJULM_HDD = 2
 };
@@ -81,7 +88,7 @@ enum {
 /* Why a call says no; the least number whose condition holds.
  *
  *   1  format: slots or blocks outside the limits
- *   2  reopen: SSD under a page, or first page no legal label
+ *   2  reopen, label: SSD under a page, or first page no legal label
  *   3  a record number out of range, window repeated or not zero past its length; a record of other than 71 words, a phase
  *      above 2, steps outside formatting, unconfirmed above 1
  *   4  an image, table or data page of the wrong length
@@ -96,7 +103,7 @@ enum {
  *  12  a slot must be swept for, all are open
  *  13  the call would store metadata, and too few stamps are left
  *
- * Every call but format and reopen may refuse with 3, 4, 5 and 6; each function names those that it may give besides.
+ * Every call but format, reopen and label may refuse with 3, 4, 5 and 6; each function names those that it may give besides.
  */
 static inline int ferjulm_is_refusal(uint32_t result)
 {
@@ -130,30 +137,36 @@ static inline size_t ferjulm_table_words(uint32_t slots)
  * than 71 words) and 4, and with no other number.
  */
 uint32_t ferjulm_format(const uint8_t *ssd, size_t ssd_len, const uint8_t *hdd, size_t hdd_len, uint32_t *table,
-                        size_t table_len, uint32_t *record, size_t record_len, uint32_t slots, uint32_t blocks,
-                        uint32_t *slot);
+                        size_t table_len, uint32_t *record, size_t record_len, uint32_t slots, uint32_t blocks);
 
-/* Makes one step of a format or of a recovery: one store of a page of the SSD. While formatting it is page 0 at the first step
- * (zero bytes), page d at the step that has d = record[FERJULM_STEPS] before it (a metadata page), and page 0 again at the last
- * (the label). While recovering it is the metadata page of the least slot s in the window before the call, page 1 + s / 240. The
- * record's phase tells whether it was the last step. Refuses with 6 when ready. May refuse with 13 while recovering.
+/* Makes one step of a format or of a recovery: one store of a page of the SSD, which it names. While formatting it is the label
+ * page at the first step (zero bytes) and at the last (the label), and between them each metadata page; while recovering, a
+ * metadata page with pending slots. The record's phase tells whether it was the last step. Refuses with 6 when ready. May refuse
+ * with 13 while recovering.
  */
 uint32_t ferjulm_step(uint8_t *ssd, size_t ssd_len, const uint8_t *hdd, size_t hdd_len, const uint32_t *table,
-                      size_t table_len, uint32_t *record, size_t record_len, uint32_t *slot);
+                      size_t table_len, uint32_t *record, size_t record_len, uint32_t *image, uint64_t *offset);
 
 /* Reopens a box from its images after a cut, or at any other time: fills table and record. Phase ready, or recovering, to
  * be ended by steps, at most 63. It stores nothing. The record handed in and the table's contents are not judged. May refuse
  * with 2, 3 (a record of other than 71 words), 4 and 5, and with no other number.
  */
 uint32_t ferjulm_reopen(const uint8_t *ssd, size_t ssd_len, const uint8_t *hdd, size_t hdd_len, uint32_t *table,
-                        size_t table_len, uint32_t *record, size_t record_len, uint32_t *slot);
+                        size_t table_len, uint32_t *record, size_t record_len);
 
-/* Offers a write of a block. FERJULM_ANNOUNCED: its slot is open, land the bytes next. FERJULM_OVERWRITE: the block is dirty
- * and not open, land the bytes. FERJULM_COPIED_OUT: a dirty page was copied to the HDD to make room, offer again; this is
- * never the answer twice running. May refuse with 7, 8, 11, 12 and 13.
+/* Reads the label page of an SSD image, as that of a box to be reopened whose size is not known: *slots and *blocks become the
+ * label's numbers, for the lengths above. Only the first page is read. Returns FERJULM_DONE, or refuses with 2 and with no other
+ * number.
+ */
+uint32_t ferjulm_label(const uint8_t *ssd, size_t ssd_len, uint32_t *slots, uint32_t *blocks);
+
+/* Offers a write of a block. FERJULM_ANNOUNCED: its slot is open and the slot's metadata page was stored, land the bytes next.
+ * FERJULM_OVERWRITE: the block is dirty and not open, nothing was stored, land the bytes. FERJULM_COPIED_OUT: a dirty page was
+ * copied to the HDD to make room, offer again; this is never the answer twice running. May refuse with 7, 8, 11, 12 and 13.
  */
 uint32_t ferjulm_offer(uint8_t *ssd, size_t ssd_len, uint8_t *hdd, size_t hdd_len, uint32_t *table, size_t table_len,
-                       uint32_t *record, size_t record_len, uint32_t block, uint32_t *slot);
+                       uint32_t *record, size_t record_len, uint32_t block, uint32_t *slot, uint32_t *image,
+                       uint64_t *offset);
 
 /* Lands a page for a block that is open for writing, or dirty and not open: stores it in the block's slot, and closes the
  * slot if it was open. The bytes of a slot that was open last only after a later metadata store, which a flush makes. May
@@ -161,17 +174,19 @@ uint32_t ferjulm_offer(uint8_t *ssd, size_t ssd_len, uint8_t *hdd, size_t hdd_le
  */
 uint32_t ferjulm_land(uint8_t *ssd, size_t ssd_len, const uint8_t *hdd, size_t hdd_len, uint32_t *table, size_t table_len,
                       uint32_t *record, size_t record_len, uint32_t block, const uint8_t *page, size_t page_len,
-                      uint32_t *slot);
+                      uint32_t *image, uint64_t *offset);
 
-/* Fetches a block that is not cached: finds and opens a slot for it. FERJULM_ANNOUNCED: land the fetch next.
- * FERJULM_COPIED_OUT: fetch again. May refuse with 7, 8, 10, 11, 12 and 13.
+/* Fetches a block that is not cached: finds and opens a slot for it. FERJULM_ANNOUNCED: the slot's metadata page was stored, land
+ * the fetch next. FERJULM_COPIED_OUT: a dirty page was copied to the HDD, fetch again. May refuse with 7, 8, 10, 11, 12 and 13.
  */
 uint32_t ferjulm_fetch(uint8_t *ssd, size_t ssd_len, uint8_t *hdd, size_t hdd_len, uint32_t *table, size_t table_len,
-                       uint32_t *record, size_t record_len, uint32_t block, uint32_t *slot);
+                       uint32_t *record, size_t record_len, uint32_t block, uint32_t *slot, uint32_t *image,
+                       uint64_t *offset);
 
 /* Lands a fetch: copies the block's HDD page into its slot, and closes it. May refuse with 7 and 9. */
 uint32_t ferjulm_land_fetch(uint8_t *ssd, size_t ssd_len, const uint8_t *hdd, size_t hdd_len, uint32_t *table,
-                            size_t table_len, uint32_t *record, size_t record_len, uint32_t block, uint32_t *slot);
+                            size_t table_len, uint32_t *record, size_t record_len, uint32_t block, uint32_t *image,
+                            uint64_t *offset);
 
 /* Looks a block up: FERJULM_IN_SLOT if it is cached and not open, and then sets its used flag in the table; else
  * FERJULM_ON_DISK. May refuse with 7.
@@ -190,13 +205,14 @@ uint32_t ferjulm_view(const uint8_t *ssd, size_t ssd_len, const uint8_t *hdd, si
  * FERJULM_NOTHING_TO_DO. May refuse with 7 and 8.
  */
 uint32_t ferjulm_write_back(const uint8_t *ssd, size_t ssd_len, uint8_t *hdd, size_t hdd_len, uint32_t *table,
-                            size_t table_len, uint32_t *record, size_t record_len, uint32_t block, uint32_t *slot);
+                            size_t table_len, uint32_t *record, size_t record_len, uint32_t block, uint32_t *image,
+                            uint64_t *offset);
 
 /* Flushes: stores metadata page 0 if unconfirmed, so that everything landed lasts; else FERJULM_NOTHING_TO_DO. May refuse
  * with 13.
  */
 uint32_t ferjulm_flush(uint8_t *ssd, size_t ssd_len, const uint8_t *hdd, size_t hdd_len, const uint32_t *table,
-                       size_t table_len, uint32_t *record, size_t record_len, uint32_t *slot);
+                       size_t table_len, uint32_t *record, size_t record_len, uint32_t *image, uint64_t *offset);
 
 #ifdef __cplusplus
 }

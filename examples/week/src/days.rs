@@ -5,12 +5,21 @@ use crate::drives::{FieldBox, GEOMETRY};
 use crate::files::{land, offer, pages, read_file, slot_of, OTHERS, SCANS, SURVEY};
 use crate::plot::plot;
 use crate::survey;
-use ferjulm::{Block, Phase, PAGE};
+use ferjulm::{Block, Offered, Phase, Saved, PAGE};
 use std::error::Error;
 use std::fs;
 use std::path::Path;
 
 type Done = Result<(), Box<dyn Error>>;
+
+/// Offers a write that is announced, and says in which slot.
+fn announce(field: &mut FieldBox, block: Block) -> Done {
+    let Offered::Announced { slot, .. } = offer(field, block)? else {
+        return Err(format!("block {} is dirty already", block.0).into());
+    };
+    println!("  block {} is announced: Announced({slot:?})", block.0);
+    Ok(())
+}
 
 pub fn monday(field: &mut FieldBox, file: &[u8]) -> Done {
     println!(
@@ -19,14 +28,13 @@ pub fn monday(field: &mut FieldBox, file: &[u8]) -> Done {
     );
     assert_eq!(survey::count(file), survey::LEGS);
     for (block, _) in pages(file, SURVEY) {
-        let said = offer(field, block)?;
-        println!("  block {} is announced: {said:?}", block.0);
+        announce(field, block)?;
     }
     for (block, page) in pages(file, SURVEY) {
         let last_year = field.on_disk(block).to_vec();
         land(field, block, &page)?;
         assert!(
-            field.on_disk(block) == last_year && page != last_year,
+            field.on_disk(block) == last_year && page != last_year[..],
             "the disk still has last year's block"
         );
     }
@@ -56,7 +64,11 @@ pub fn wednesday(field: &mut FieldBox, file: &[u8]) -> Done {
     let mut copied = 0;
     for ((block, page), last_year) in pages(file, SURVEY).into_iter().zip(last_year) {
         let cached = slot_of(field, block)?;
-        let expected = if cached.is_some() { &last_year } else { &page };
+        let expected = if cached.is_some() {
+            &last_year[..]
+        } else {
+            &page
+        };
         assert!(
             field.on_disk(block) == expected,
             "a block that lost its slot was copied out, another was not"
@@ -96,17 +108,16 @@ pub fn thursday(
         offer(field, block)?;
         land(field, block, &page)?;
     }
-    println!("  flush: {:?}", field.call(|cache| cache.flush())??);
+    let flushed = field.call(|cache| cache.flush(), Saved::stored)?;
+    assert!(flushed.stored().is_some(), "writes were unconfirmed");
+    println!("  flush: Done");
     Ok(file)
 }
 
 pub fn friday(field: &mut FieldBox) -> Done {
     println!("Friday: other writes are announced; the generator stops before they land.");
     for block in OTHERS {
-        println!(
-            "  block {block} is announced: {:?}",
-            offer(field, Block(block))?
-        );
+        announce(field, Block(block))?;
     }
     Ok(())
 }
@@ -114,7 +125,7 @@ pub fn friday(field: &mut FieldBox) -> Done {
 pub fn saturday(field: &mut FieldBox) -> Done {
     println!("Saturday: power is back. The box reopens, drops what was in doubt and mends its metadata before it serves.");
     field.power_on()?;
-    field.call(|cache| cache.reopen())??;
+    field.call_storing_nothing(|cache| cache.reopen())?;
     assert_eq!(
         field.read(|cache| cache.record().phase()),
         Some(Phase::Recovering)
@@ -126,7 +137,7 @@ pub fn saturday(field: &mut FieldBox) -> Done {
     );
     let mut steps = 0;
     while field.read(|cache| cache.record().phase()) != Some(Phase::Ready) {
-        field.call(|cache| cache.step())??;
+        field.call(|cache| cache.step(), Some)?;
         steps += 1;
     }
     assert_eq!(steps, 1, "one metadata page had pending slots");
@@ -144,7 +155,7 @@ pub fn saturday(field: &mut FieldBox) -> Done {
 pub fn sunday(field: &mut FieldBox, file: &[u8], folder: &Path) -> Done {
     println!("Sunday: the file is copied to the office.");
     for block in 0..GEOMETRY.blocks {
-        let page = field.read(|cache| cache.view(Block(block)).map(<[u8]>::to_vec))?;
+        let page = field.read(|cache| cache.view(Block(block)).map(|view| *view.page))?;
         assert!(
             page == field.plain(Block(block)),
             "block {block} is as on a plain disk"

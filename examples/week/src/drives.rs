@@ -1,6 +1,7 @@
 //! A field box: two image files as its drives, table and record in memory, and beside it a plain disk.
 
-use ferjulm::{Block, Cache, Geometry, Images, Record, PAGE};
+use ferjulm::{Block, Cache, Geometry, Image, Images, Place, Record, Refusal, PAGE};
+use std::error::Error;
 use std::fs::{self, File};
 use std::io;
 use std::os::unix::fs::FileExt;
@@ -25,8 +26,6 @@ impl FieldBox {
     /// Two new drives in a folder: an empty SSD, and a disk as last year left it.
     pub fn new(folder: &Path, hdd: Vec<u8>) -> io::Result<FieldBox> {
         fs::create_dir_all(folder)?;
-        fs::write(folder.join("ssd.img"), vec![0; GEOMETRY.ssd_bytes()])?;
-        fs::write(folder.join("hdd.img"), &hdd)?;
         let mut new = FieldBox {
             folder: folder.to_path_buf(),
             images: Images {
@@ -37,6 +36,8 @@ impl FieldBox {
             record: Record::default(),
             plain: hdd,
         };
+        fs::write(new.ssd(), vec![0; GEOMETRY.ssd_bytes()])?;
+        fs::write(new.hdd(), &new.plain)?;
         new.power_on()?;
         Ok(new)
     }
@@ -44,7 +45,7 @@ impl FieldBox {
     /// Power is back, or on for the first time: of what the box knew only the drives are left; memory is rubbish.
     pub fn power_on(&mut self) -> io::Result<()> {
         self.images.ssd = fs::read(self.ssd())?;
-        self.images.hdd = fs::read(self.folder.join("hdd.img"))?;
+        self.images.hdd = fs::read(self.hdd())?;
         self.table = vec![0xdead_beef; GEOMETRY.table_words()];
         self.record = Record::from_words([0xdead_beef; ferjulm::RECORD_WORDS]);
         Ok(())
@@ -55,18 +56,52 @@ impl FieldBox {
         self.folder.join("ssd.img")
     }
 
-    /// Makes a call, and stores on the drives what it stored: one page at most.
-    pub fn call<T>(&mut self, call: impl FnOnce(&mut Cache) -> T) -> io::Result<T> {
-        let before = self.images.clone();
-        let said = call(&mut Cache::new(
-            self.images.lend(),
-            &mut self.table,
-            &mut self.record,
-        ));
-        let ssd = store_changed(&self.ssd(), &before.ssd, &self.images.ssd)?;
-        let hdd = store_changed(&self.folder.join("hdd.img"), &before.hdd, &self.images.hdd)?;
-        assert!(ssd + hdd <= 1, "a call stores at most one page");
-        Ok(said)
+    /// The HDD's file.
+    fn hdd(&self) -> PathBuf {
+        self.folder.join("hdd.img")
+    }
+
+    /// Makes a call, and stores on its drive the page that the answer names, if it names one.
+    pub fn call<T: Copy>(
+        &mut self,
+        call: impl FnOnce(&mut Cache) -> Result<T, Refusal>,
+        stored: impl FnOnce(T) -> Option<Place>,
+    ) -> Result<T, Box<dyn Error>> {
+        let mut cache = Cache::new(self.images.lend(), &mut self.table, &mut self.record);
+        let answer = call(&mut cache)?;
+        if let Some(place) = stored(answer) {
+            let page = *cache.page(place);
+            self.store(place, &page)?;
+        }
+        self.check_drives()?;
+        Ok(answer)
+    }
+
+    /// Makes a call that stores nothing.
+    pub fn call_storing_nothing<T: Copy>(
+        &mut self,
+        call: impl FnOnce(&mut Cache) -> Result<T, Refusal>,
+    ) -> Result<T, Box<dyn Error>> {
+        self.call(call, |_| None)
+    }
+
+    /// Stores a page on its drive, and waits till it is there.
+    fn store(&self, place: Place, page: &[u8; PAGE]) -> io::Result<()> {
+        let path = match place.image {
+            Image::Ssd => self.ssd(),
+            Image::Hdd => self.hdd(),
+        };
+        let drive = File::options().write(true).open(path)?;
+        drive.write_all_at(page, place.offset)?;
+        drive.sync_data()
+    }
+
+    /// The drives have the images whole: a call changes no page but the one that it names.
+    fn check_drives(&self) -> io::Result<()> {
+        let same =
+            fs::read(self.ssd())? == self.images.ssd && fs::read(self.hdd())? == self.images.hdd;
+        assert!(same, "a page changed that no call named");
+        Ok(())
     }
 
     /// A look at the box that changes nothing.
@@ -92,18 +127,4 @@ impl FieldBox {
     pub fn on_disk(&self, block: Block) -> &[u8] {
         &self.images.hdd[GEOMETRY.block_at(block)..][..PAGE]
     }
-}
-
-/// Stores the pages that differ; how many there were.
-fn store_changed(path: &Path, before: &[u8], after: &[u8]) -> io::Result<usize> {
-    let mut stored = 0;
-    for (at, (old, new)) in before.chunks(PAGE).zip(after.chunks(PAGE)).enumerate() {
-        if old != new {
-            let file = File::options().write(true).open(path)?;
-            file.write_all_at(new, (at * PAGE) as u64)?;
-            file.sync_data()?;
-            stored += 1;
-        }
-    }
-    Ok(stored)
 }

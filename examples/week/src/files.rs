@@ -1,7 +1,7 @@
 //! Files on the box: which blocks they have, and how they are saved and read.
 
 use crate::drives::FieldBox;
-use ferjulm::{Answer, Block, Slot, PAGE};
+use ferjulm::{Block, Found, Offered, Slot, PAGE};
 use std::error::Error;
 use std::ops::Range;
 
@@ -11,14 +11,17 @@ pub const SCANS: Range<u32> = 32..52;
 pub const OTHERS: Range<u32> = 20..23;
 
 /// A file as the pages of its blocks, zero past its end.
-pub fn pages(file: &[u8], blocks: Range<u32>) -> Vec<(Block, Vec<u8>)> {
+pub fn pages(file: &[u8], blocks: Range<u32>) -> Vec<(Block, [u8; PAGE])> {
     assert!(
         file.len().div_ceil(PAGE) <= blocks.len(),
         "the file fits its blocks"
     );
     let page = |i: usize| {
-        let mut page: Vec<u8> = file.iter().skip(i * PAGE).take(PAGE).copied().collect();
-        page.resize(PAGE, 0);
+        let mut page = [0; PAGE];
+        let bytes = file.iter().skip(i * PAGE);
+        page.iter_mut()
+            .zip(bytes)
+            .for_each(|(to, from)| *to = *from);
         page
     };
     blocks
@@ -28,16 +31,17 @@ pub fn pages(file: &[u8], blocks: Range<u32>) -> Vec<(Block, Vec<u8>)> {
 }
 
 /// Offers a write, and again where a dirty page had to be copied out to make room.
-pub fn offer(field: &mut FieldBox, block: Block) -> Result<Answer, Box<dyn Error>> {
-    let first = field.call(|cache| cache.offer(block))??;
-    if first != Answer::CopiedOut {
-        return Ok(first);
+pub fn offer(field: &mut FieldBox, block: Block) -> Result<Offered, Box<dyn Error>> {
+    loop {
+        let offered = field.call(|cache| cache.offer(block), Offered::stored)?;
+        if !matches!(offered, Offered::CopiedOut { .. }) {
+            return Ok(offered);
+        }
     }
-    Ok(field.call(|cache| cache.offer(block))??)
 }
 
-pub fn land(field: &mut FieldBox, block: Block, page: &[u8]) -> Result<(), Box<dyn Error>> {
-    field.call(|cache| cache.land(block, page))??;
+pub fn land(field: &mut FieldBox, block: Block, page: &[u8; PAGE]) -> Result<(), Box<dyn Error>> {
+    field.call(|cache| cache.land(block, page), Some)?;
     field.landed(block, page);
     Ok(())
 }
@@ -46,7 +50,7 @@ pub fn land(field: &mut FieldBox, block: Block, page: &[u8]) -> Result<(), Box<d
 pub fn read_file(field: &mut FieldBox, blocks: Range<u32>) -> Result<Vec<u8>, ferjulm::Refusal> {
     let mut bytes = Vec::new();
     for block in blocks {
-        bytes.extend(field.read(|cache| cache.view(Block(block)).map(<[u8]>::to_vec))?);
+        bytes.extend(field.read(|cache| cache.view(Block(block)).map(|view| *view.page))?);
     }
     let end = bytes
         .iter()
@@ -58,8 +62,10 @@ pub fn read_file(field: &mut FieldBox, blocks: Range<u32>) -> Result<Vec<u8>, fe
 
 /// The slot that a block is cached in and not open.
 pub fn slot_of(field: &mut FieldBox, block: Block) -> Result<Option<Slot>, Box<dyn Error>> {
-    Ok(match field.call(|cache| cache.look_up(block))?? {
-        Answer::InSlot(slot) => Some(slot),
-        _ => None,
-    })
+    Ok(
+        match field.call_storing_nothing(|cache| cache.look_up(block))? {
+            Found::InSlot(slot) => Some(slot),
+            _ => None,
+        },
+    )
 }

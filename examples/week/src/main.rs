@@ -53,9 +53,9 @@ fn week(folder: &Path, listing: &Path) -> Done {
     let typed = survey::misread(&legs);
     let first = survey::file("Ferjulm", &typed);
     let mut field = FieldBox::new(folder, last_year())?;
-    field.call(|cache| cache.format(GEOMETRY))??;
+    field.call_storing_nothing(|cache| cache.format(GEOMETRY))?;
     while field.read(|cache| cache.record().phase()) != Some(Phase::Ready) {
-        field.call(|cache| cache.step())??;
+        field.call(|cache| cache.step(), Some)?;
     }
     days::monday(&mut field, &first)?;
     list(&field, listing)?;

@@ -1,5 +1,5 @@
-//! Both sides make the same calls on boxes of their own, which must stay the same in every word and byte: random ones, and those
-//! that are timed.
+//! Both sides make the same calls on boxes of their own, which must stay the same in every word and byte, and name the same page
+//! as stored: random ones, and those that are timed.
 
 use crate::calls;
 use crate::image::PAGE;
@@ -139,7 +139,8 @@ pub fn run() -> String {
     calls::OPEN.iter().for_each(|(_, open)| calls::check(*open));
     format!(
         "{} random calls, {} of them refused, with every answer and every number from 1 to 13 among them, and the calls\n\
-         that are timed, with 0, 16 and 63 slots open: both sides gave the same code and left the same record, table and images.\n",
+         that are timed, with 0, 16 and 63 slots open: both sides gave the same code, named the same\n\
+         slot and page, and left the same record, table and images.\n",
         grouped(random),
         grouped(refused)
     )

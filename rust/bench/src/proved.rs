@@ -5,10 +5,10 @@ use ferjulm::calls;
 
 pub struct Proved;
 
-/// Lends a world's box and its slot to a call.
+/// Lends a world's box to a call, and then what it sets besides: those of the world's parts that are named last.
 macro_rules! lend {
-    ($name:ident, $w:ident, $($argument:expr),*) => {
-        calls::$name(&mut $w.ssd, &mut $w.hdd, &mut $w.table, &mut $w.record, $($argument,)* &mut $w.slot)
+    ($name:ident, $w:ident, ($($argument:expr),*), $($out:ident)*) => {
+        calls::$name(&mut $w.ssd, &mut $w.hdd, &mut $w.table, &mut $w.record, $($argument,)* $(&mut $w.$out),*)
     };
 }
 
@@ -18,20 +18,17 @@ impl Side for Proved {
     #[inline(always)]
     fn make(w: &mut World, call: Call) -> u32 {
         match call {
-            Call::Format(slots, blocks) => lend!(format, w, slots, blocks),
-            Call::Step => lend!(step, w,),
-            Call::Offer(block) => lend!(offer, w, block),
-            Call::Fetch(block) => lend!(fetch, w, block),
-            Call::Land(block, page) => lend!(land, w, block, page),
-            Call::LandFetch(block) => lend!(land_fetch, w, block),
-            Call::LookUp(block) => lend!(look_up, w, block),
-            Call::View(block) => {
-                let (image, offset) = (&mut w.image, &mut w.offset);
-                calls::view(&w.ssd, &w.hdd, &w.table, &w.record, block, image, offset)
-            }
-            Call::WriteBack(block) => lend!(write_back, w, block),
-            Call::Flush => lend!(flush, w,),
-            Call::Reopen => lend!(reopen, w,),
+            Call::Format(slots, blocks) => lend!(format, w, (slots, blocks),),
+            Call::Step => lend!(step, w, (), image offset),
+            Call::Offer(block) => lend!(offer, w, (block), slot image offset),
+            Call::Fetch(block) => lend!(fetch, w, (block), slot image offset),
+            Call::Land(block, page) => lend!(land, w, (block, page), image offset),
+            Call::LandFetch(block) => lend!(land_fetch, w, (block), image offset),
+            Call::LookUp(block) => lend!(look_up, w, (block), slot),
+            Call::View(block) => lend!(view, w, (block), image offset),
+            Call::WriteBack(block) => lend!(write_back, w, (block), image offset),
+            Call::Flush => lend!(flush, w, (), image offset),
+            Call::Reopen => lend!(reopen, w, (),),
         }
     }
 }

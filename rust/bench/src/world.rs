@@ -20,7 +20,8 @@ pub fn meta_pages(slots: u32) -> u32 {
     slots.div_ceil(240)
 }
 
-/// What a call is lent, and what it sets besides.
+/// What a call is lent, and what it sets besides: a slot, and the page that it stored or that a view found. A refusal leaves
+/// them as they were.
 #[derive(PartialEq)]
 pub struct World {
     pub ssd: Image,
@@ -48,6 +49,18 @@ impl World {
             image: 0,
             offset: 0,
         }
+    }
+
+    /// Names the page that a call stored or found: its image, 1 for the SSD or 2 for the HDD, and its first byte there.
+    #[inline(always)]
+    pub fn name(&mut self, image: u32, offset: usize) {
+        (self.image, self.offset) = (image, offset as u64);
+    }
+
+    /// Names no page: nothing was stored.
+    #[inline(always)]
+    pub fn name_none(&mut self) {
+        self.name(0, 0);
     }
 
     /// A ready box whose slots all hold a block, clean: slot s holds block s.

@@ -3,15 +3,16 @@
 
 use crate::disk::PlainDisk;
 use crate::kept::{outside, Kept};
-use crate::rig::{differing, Call, Place, Rig, Said};
+use crate::place::{check_alone, copy, Memory};
+use crate::rig::{Answer, Call, Rig, Said};
 use crate::stored::Metas;
-use ferjulm::{Answer, Geometry, Images, Record, PAGE};
+use ferjulm::{Geometry, Image, Images, Place};
 
 /// A list of calls and cuts in the making.
 pub struct Beside {
     pub geometry: Geometry,
     pub rig: Rig,
-    /// The page that the last call stored.
+    /// The page that the last call named as stored.
     pub stored: Option<Place>,
     disk: PlainDisk,
     /// The images as all stores done have left them: what a cut finds.
@@ -77,7 +78,7 @@ impl Beside {
             self.feed(call);
         } else {
             self.take_back();
-            (self.rig.table, self.rig.record) = before;
+            self.recall(before);
         }
         self.cut(word);
     }
@@ -113,13 +114,14 @@ impl Beside {
         !self.lost && self.rig.recovering()
     }
 
-    /// Makes a call on the images in memory: at most one page changes, and nothing at all if it is refused.
+    /// Makes a call on the images in memory: the page that it names is the one that document 01 says, no other changes, and
+    /// nothing at all if it is refused.
     pub fn attempt(&mut self, call: &Call) -> Said {
         let before = self.memory();
-        let said = self.rig.make(call);
-        let changed = differing(&self.rig.images, &self.drives);
-        assert!(changed.len() <= 1, "{call:?} stored {changed:?}");
-        self.stored = changed.first().copied();
+        let made = self.rig.make_told(call);
+        check_alone(&self.drives, &self.rig.images, call, &made);
+        let said = made.said;
+        self.stored = made.stored;
         if said.is_err() {
             let same = self.stored.is_none() && before == self.memory();
             assert!(same, "{call:?} was refused and changed something");
@@ -138,18 +140,27 @@ impl Beside {
     }
 
     /// What a cut loses.
-    fn memory(&self) -> (Vec<u32>, Record) {
-        (self.rig.table.clone(), self.rig.record)
+    fn memory(&self) -> Memory {
+        Memory::of(&self.rig)
     }
 
-    /// The page that was stored reaches its drive.
+    /// Puts back what a cut loses.
+    fn recall(&mut self, memory: Memory) {
+        (self.rig.table, self.rig.record) = (memory.table, memory.record);
+    }
+
+    /// The page that was named reaches its drive: that page, and nothing else.
     fn carry(&mut self) {
-        copy(self.stored, &self.rig.images, &mut self.drives);
+        if let Some(place) = self.stored {
+            copy(place, &self.rig.images, &mut self.drives);
+        }
     }
 
     /// It does not, and memory is read again from the drive.
     fn take_back(&mut self) {
-        copy(self.stored, &self.drives, &mut self.rig.images);
+        if let Some(place) = self.stored {
+            copy(place, &self.drives, &mut self.rig.images);
+        }
     }
 
     /// Tells the plain disk of a call that was made.
@@ -183,10 +194,10 @@ impl Beside {
         }
         let cache = self.rig.cache();
         for block in self.disk.blocks() {
-            let read = cache
+            let view = cache
                 .view(block)
                 .expect("no view of a ready box is refused");
-            self.disk.reopened(block, read);
+            self.disk.reopened(block, view.page);
         }
         for kept in self.kept.drain(..) {
             kept.check(&mut self.rig);
@@ -194,37 +205,29 @@ impl Beside {
         self.check_reads();
     }
 
-    /// A ready box reads as the plain disk; a slot named by a look-up holds the same.
+    /// A ready box reads as the plain disk; a slot named by a look-up holds the same, and is where a view finds the block. None
+    /// of these calls stores anything.
     pub fn check_reads(&mut self) {
         let before = self.memory();
         for block in self.disk.blocks() {
             let page = self.disk.page(block);
             let cache = self.rig.cache();
-            let read = cache
+            let view = cache
                 .view(block)
                 .expect("no view of a ready box is refused");
-            assert!(read == page, "{block:?} reads as something else");
-            match self.rig.make(&Call::LookUp(block)) {
-                Ok(Answer::InSlot(slot)) => {
-                    assert!(
-                        self.rig.slot_page(self.geometry, slot) == page,
-                        "{slot:?} holds something else"
-                    );
+            assert!(view.page == page, "{block:?} reads as something else");
+            assert!(cache.page(view.place) == page, "{block:?} lies elsewhere");
+            let place = view.place;
+            let expected = match self.rig.make_told(&Call::LookUp(block)).said {
+                Ok(Answer::InSlot(slot)) => (Image::Ssd, self.geometry.slot_at(slot)),
+                said => {
+                    assert_eq!(said, Ok(Answer::OnDisk));
+                    (Image::Hdd, self.geometry.block_at(block))
                 }
-                said => assert_eq!(said, Ok(Answer::OnDisk)),
-            }
+            };
+            assert_eq!((place.image, place.offset as usize), expected, "{block:?}");
         }
-        (self.rig.table, self.rig.record) = before;
+        assert!(self.rig.images == self.drives, "a read stored something");
+        self.recall(before);
     }
-}
-
-/// Copies one page from a pair of images to another.
-fn copy(place: Option<Place>, from: &Images<Vec<u8>>, to: &mut Images<Vec<u8>>) {
-    let (from, to, at) = match place {
-        Some(Place::Ssd(at)) => (&from.ssd, &mut to.ssd, at),
-        Some(Place::Hdd(at)) => (&from.hdd, &mut to.hdd, at),
-        None => return,
-    };
-    let bytes = at * PAGE..(at + 1) * PAGE;
-    to[bytes.clone()].copy_from_slice(&from[bytes]);
 }

@@ -31,7 +31,8 @@ pub fn outside(rig: &mut Rig, geometry: Geometry, serves: bool) -> Vec<Kept> {
 fn in_memory(rig: &mut Rig, block: Block) -> Kept {
     let slot = rig.slot_of(block);
     let cache = rig.cache();
-    let page = cache.view(block).expect("a view of a ready box").to_vec();
+    let view = cache.view(block).expect("a view of a ready box");
+    let page = view.page.to_vec();
     Kept { block, slot, page }
 }
 
@@ -64,7 +65,7 @@ impl Kept {
         let block = self.block;
         assert_eq!(rig.slot_of(block), self.slot, "the slot of {block:?}");
         let cache = rig.cache();
-        let page = cache.view(block).expect("a view of a ready box");
-        assert!(page == self.page, "the page of {block:?}");
+        let view = cache.view(block).expect("a view of a ready box");
+        assert!(view.page == &self.page[..], "the page of {block:?}");
     }
 }

@@ -1,12 +1,14 @@
 //! Lists of calls, cuts and reopenings, run on a box beside the plain disk of document 01.
 
 pub mod beside;
+pub mod call;
 pub mod disk;
 mod generated;
 pub mod kept;
 mod listed;
 mod lists;
 mod paper;
+pub mod place;
 pub mod random;
 mod recovery;
 mod refusals;

@@ -17,10 +17,10 @@ impl Listed {
         let geometry = Geometry { slots, blocks };
         let mut rig = Rig::unformatted(geometry);
         let text = format!("format {slots} {blocks}");
-        let mut line = format!("{text} -> {}", say::said(rig.make(&Call::of(&text))));
+        let mut line = format!("{text} -> {}", say::said(rig.make(&Call::of(&text)).said));
         line += &format!(", {}", say::phase(&rig.record));
         while !rig.ready() {
-            rig.make(&Call::Step).expect("a step of a format");
+            rig.make(&Call::Step).said.expect("a step of a format");
             line += &format!(", {}", say::phase(&rig.record));
         }
         let mut b = Beside::of(geometry, rig);
@@ -68,7 +68,7 @@ impl Listed {
 /// A call that is refused with no block read, since every view is refused too: its number, and whether all is unchanged.
 pub fn refused(mut rig: Rig, text: &str, call: &Call) -> String {
     let before = rig.clone();
-    let said = say::said(rig.make(call));
+    let said = say::said(rig.make(call).said);
     format!("{text} -> {said}; {}", say::unchanged(rig == before))
 }
 

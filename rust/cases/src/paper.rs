@@ -1,7 +1,7 @@
 //! P1 to P10 of document 01's table of cases.
 
 use crate::beside::Beside;
-use crate::rig::{differing, Call, Rig};
+use crate::rig::{Call, Rig};
 use crate::say;
 use crate::stored::{label, label_page, named, page, ssd_of, Meta, Metas};
 use ferjulm::{Block, Geometry, Images, PAGE};
@@ -17,13 +17,13 @@ pub fn lines() -> Vec<String> {
 
 /// What a block reads as: "A" and "B" were landed, "HDD" was on its block before the format.
 fn reading(b: &mut Beside, block: u32) -> String {
-    let found = say::said(b.rig.make(&Call::LookUp(Block(block))));
+    let found = say::said(b.rig.make(&Call::LookUp(Block(block))).said);
     let cache = b.rig.cache();
-    let read = cache.view(Block(block)).expect("a view").to_vec();
+    let read = cache.view(Block(block)).expect("a view").page;
     let landed = ["A", "B"].into_iter().find(|&name| named(name) == read);
     let name = match landed {
         Some(name) => name.to_string(),
-        None if read == page(block as u64) => "HDD".to_string(),
+        None if page(block as u64) == read => "HDD".to_string(),
         None => "something else".to_string(),
     };
     format!("{block} {found} reads {name}")
@@ -48,16 +48,12 @@ fn newest(b: &Beside) -> u32 {
 fn p1() -> String {
     let mut rig = Rig::unformatted(SMALL);
     let hdd = rig.images.hdd.clone();
-    let mut line = format!("P1 format {}", say::said(rig.make(&Call::Format(SMALL))));
+    let format = rig.make(&Call::Format(SMALL)).said;
+    let mut line = format!("P1 format {}", say::said(format));
     while !rig.ready() {
-        let before = rig.images.clone();
-        let step = say::said(rig.make(&Call::Step));
-        let stored: Vec<_> = differing(&rig.images, &before);
-        line += &format!(
-            ", step {step} stores {}",
-            say::place(stored.first().copied())
-        );
-        assert_eq!(stored.len(), 1);
+        let step = rig.make(&Call::Step);
+        let (said, stored) = (say::said(step.said), say::place(step.stored));
+        line += &format!(", step {said} stores {stored}");
     }
     assert!(rig.images.ssd[..PAGE] == label_page(&label(SMALL)));
     assert!(rig.images.ssd[PAGE..2 * PAGE] == Meta::empty().bytes());
@@ -206,7 +202,7 @@ fn p10() -> String {
             hdd: vec![0; geometry.hdd_bytes()],
         },
     );
-    let said = say::said(rig.make(&Call::Reopen));
+    let said = say::said(rig.make(&Call::Reopen).said);
     let (kept, dropped) = (&rig.table[..2], &rig.table[480..]);
     let rest = rig.table[2..480].iter().all(|&word| word == 0);
     let pending = say::slots(rig.record.window());

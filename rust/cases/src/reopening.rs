@@ -39,7 +39,7 @@ fn boxed(geometry: Geometry, metas: &[Meta]) -> Rig {
 /// Reopens: the number and its name with all that was lent unchanged, or what is pending.
 fn reopened(name: &str, mut rig: Rig) -> String {
     let before = rig.clone();
-    match rig.make(&Call::Reopen) {
+    match rig.make(&Call::Reopen).said {
         Err(refusal) => {
             let same = if rig == before {
                 "nothing changed"
@@ -75,9 +75,9 @@ fn formats() -> Vec<String> {
     (0..=3)
         .map(|stores| {
             let mut rig = small();
-            rig.make(&Call::Format(SMALL)).expect("a format");
+            rig.make(&Call::Format(SMALL)).said.expect("a format");
             for _ in 0..stores {
-                rig.make(&Call::Step).expect("a step");
+                rig.make(&Call::Step).said.expect("a step");
             }
             rig.forget(|| 0xffff_ffff);
             let plural = if stores == 1 { "" } else { "s" };
@@ -176,9 +176,9 @@ fn stamps() -> Vec<String> {
     [u32::MAX, u32::MAX - 1]
         .map(|stamp| {
             let mut rig = boxed(SMALL, &[Meta::with(stamp, &[1], &[(5, 3), (6, 7)])]);
-            rig.make(&Call::Reopen).expect("a reopening");
+            rig.make(&Call::Reopen).said.expect("a reopening");
             let before = rig.clone();
-            let said = say::said(rig.make(&Call::Step));
+            let said = say::said(rig.make(&Call::Step).said);
             let newest = rig.record.newest();
             let (ready, same) = (rig.ready(), rig == before);
             format!("mending step at stamp {stamp}: {said}, newest {newest}, ready {ready}, nothing changed {same}")

@@ -1,62 +1,9 @@
-//! A box with everything that it is lent, owned; and its calls as values.
+//! A box with everything that it is lent, owned.
 
-use crate::stored::{named, page};
-use ferjulm::{Answer, Block, Cache, Geometry, Images, Phase, Record, Refusal, Slot, PAGE};
-
-/// A call with its arguments.
-#[derive(Clone, Debug, PartialEq)]
-pub enum Call {
-    Format(Geometry),
-    Step,
-    Reopen,
-    Offer(Block),
-    Land(Block, Vec<u8>),
-    Fetch(Block),
-    LandFetch(Block),
-    LookUp(Block),
-    View(Block),
-    WriteBack(Block),
-    Flush,
-}
-
-impl Call {
-    /// The call of a text: its name, then its numbers (`look up 5`, `format 4 8`), then the name of the page to be landed
-    /// (`land 5 A`).
-    pub fn of(text: &str) -> Self {
-        let at = text.find(char::is_numeric).unwrap_or(text.len());
-        let (name, arguments) = text.split_at(at);
-        let arguments: Vec<&str> = arguments.split(' ').collect();
-        let number = |at: usize| arguments[at].parse().expect("a number");
-        let block = || Block(number(0));
-        match name.trim_end() {
-            "format" => Call::Format(Geometry {
-                slots: number(0),
-                blocks: number(1),
-            }),
-            "step" => Call::Step,
-            "reopen" => Call::Reopen,
-            "offer" => Call::Offer(block()),
-            "land" => Call::Land(block(), named(arguments[1])),
-            "fetch" => Call::Fetch(block()),
-            "land fetch" => Call::LandFetch(block()),
-            "look up" => Call::LookUp(block()),
-            "view" => Call::View(block()),
-            "write back" => Call::WriteBack(block()),
-            "flush" => Call::Flush,
-            _ => panic!("no call: {text}"),
-        }
-    }
-}
-
-/// What a call says.
-pub type Said = Result<Answer, Refusal>;
-
-/// A page of one of the images, by its index there.
-#[derive(Clone, Copy, Debug, PartialEq)]
-pub enum Place {
-    Ssd(usize),
-    Hdd(usize),
-}
+pub use crate::call::{Answer, Call, Made, Said};
+use crate::place::{check_alone, check_told, Memory};
+use crate::stored::page;
+use ferjulm::{calls, Block, Cache, Geometry, Images, Phase, Record, Refusal, Slot, PAGE};
 
 /// A box: both images, the table and the record.
 #[derive(Clone, PartialEq)]
@@ -91,8 +38,18 @@ impl Rig {
     pub fn formatted(geometry: Geometry) -> Self {
         let mut rig = Rig::unformatted(geometry);
         rig.cache().format(geometry).expect("a format");
-        rig.cache().finish().expect("its steps");
+        rig.finish();
         rig
+    }
+
+    /// Steps until the box is ready: how many.
+    pub fn finish(&mut self) -> u32 {
+        let mut steps = 0;
+        while !self.ready() {
+            self.make(&Call::Step).said.expect("a step");
+            steps += 1;
+        }
+        steps
     }
 
     /// Lends everything.
@@ -100,22 +57,63 @@ impl Rig {
         Cache::new(self.images.lend(), &mut self.table, &mut self.record)
     }
 
-    /// Makes a call.
-    pub fn make(&mut self, call: &Call) -> Said {
+    /// Makes a call, and compares the whole images before and after: the page that it names is the one that document 01 says,
+    /// and nothing else differs. A refused call names none.
+    pub fn make(&mut self, call: &Call) -> Made {
+        let before = self.images.clone();
+        let made = self.make_told(call);
+        check_alone(&before, &self.images, call, &made);
+        made
+    }
+
+    /// Makes a call, and checks the page that it names by document 01 alone: for a caller that compares images itself.
+    pub fn make_told(&mut self, call: &Call) -> Made {
+        let before = Memory::of(self);
+        let made = self.call(call);
+        check_told(&before, call, &made);
+        made
+    }
+
+    fn call(&mut self, call: &Call) -> Made {
         let mut cache = self.cache();
         match call {
-            Call::Format(geometry) => cache.format(*geometry),
-            Call::Step => cache.step(),
-            Call::Reopen => cache.reopen(),
-            Call::Offer(block) => cache.offer(*block),
-            Call::Land(block, page) => cache.land(*block, page),
-            Call::Fetch(block) => cache.fetch(*block),
-            Call::LandFetch(block) => cache.land_fetch(*block),
-            Call::LookUp(block) => cache.look_up(*block),
-            Call::View(block) => cache.view(*block).map(|_| Answer::Done),
-            Call::WriteBack(block) => cache.write_back(*block),
-            Call::Flush => cache.flush(),
+            Call::Format(geometry) => cache.format(*geometry).map(Made::from),
+            Call::Step => cache.step().map(Made::from),
+            Call::Reopen => cache.reopen().map(Made::from),
+            Call::Offer(block) => cache.offer(*block).map(Made::from),
+            Call::Land(block, page) => match page.as_slice().try_into() {
+                Ok(page) => cache.land(*block, page).map(Made::from),
+                Err(_) => Err(self.land_other(*block, page)),
+            },
+            Call::Fetch(block) => cache.fetch(*block).map(Made::from),
+            Call::LandFetch(block) => cache.land_fetch(*block).map(Made::from),
+            Call::LookUp(block) => cache.look_up(*block).map(Made::from),
+            Call::View(block) => cache.view(*block).map(|_| Made::from(())),
+            Call::WriteBack(block) => cache.write_back(*block).map(Made::from),
+            Call::Flush => cache.flush().map(Made::from),
         }
+        .unwrap_or_else(Made::from)
+    }
+
+    /// Lands bytes that are no page, as C may: the refusal, with both out-parameters as they were.
+    fn land_other(&mut self, block: Block, page: &[u8]) -> Refusal {
+        let mut words = *self.record.words();
+        let Images { ssd, hdd } = &mut self.images;
+        let (mut image, mut offset) = (77, 77);
+        let (table, b) = (&mut self.table, block.0);
+        let code = calls::land(
+            ssd,
+            hdd,
+            table,
+            &mut words,
+            b,
+            page,
+            &mut image,
+            &mut offset,
+        );
+        assert_eq!((image, offset), (77, 77), "set by a call that was refused");
+        assert_eq!(&words, self.record.words(), "the record of a refused call");
+        Refusal::of_code(code).expect("a landing of no page is refused")
     }
 
     /// Loses record and table: any words stand in them.
@@ -161,20 +159,4 @@ pub mod word {
     pub const STEPS: usize = 5;
     pub const COUNT: usize = 7;
     pub const WINDOW: usize = 8;
-}
-
-/// The pages in which two pairs of images differ.
-pub fn differing(a: &Images<Vec<u8>>, b: &Images<Vec<u8>>) -> Vec<Place> {
-    let ssd = changed(&a.ssd, &b.ssd).into_iter().map(Place::Ssd);
-    ssd.chain(changed(&a.hdd, &b.hdd).into_iter().map(Place::Hdd))
-        .collect()
-}
-
-fn changed(a: &[u8], b: &[u8]) -> Vec<usize> {
-    assert_eq!(a.len(), b.len());
-    let pages = a.chunks(PAGE).zip(b.chunks(PAGE)).enumerate();
-    pages
-        .filter(|(_, (x, y))| x != y)
-        .map(|(at, _)| at)
-        .collect()
 }

@@ -1,7 +1,7 @@
 //! What the lines say, in document 01's words.
 
-use crate::rig::{Place, Said};
-use ferjulm::{Answer, Phase, Record, Slot};
+use crate::rig::{Answer, Said};
+use ferjulm::{Image, Phase, Place, Record, Slot, PAGE};
 
 /// An answer, or a refusal with its number.
 pub fn said(said: Said) -> String {
@@ -55,11 +55,14 @@ pub fn unchanged(same: bool) -> &'static str {
 
 /// The page that was stored.
 pub fn place(place: Option<Place>) -> String {
-    match place {
-        Some(Place::Ssd(at)) => format!("SSD page {at}"),
-        Some(Place::Hdd(at)) => format!("HDD page {at}"),
-        None => "nothing".to_string(),
-    }
+    let Some(Place { image, offset }) = place else {
+        return "nothing".to_string();
+    };
+    let name = match image {
+        Image::Ssd => "SSD",
+        Image::Hdd => "HDD",
+    };
+    format!("{name} page {}", offset / PAGE as u64)
 }
 
 /// Bytes in hexadecimal.

@@ -1,9 +1,9 @@
 //! Boxes of 62, 63 and 64 slots, with as many of them open as a window can hold.
 
 use crate::listed::Listed;
-use crate::rig::Call;
+use crate::rig::{Answer, Call};
 use crate::say;
-use ferjulm::{Answer, Block, Slot};
+use ferjulm::{Block, Slot};
 
 pub fn lines() -> Vec<String> {
     [filled(62).lines, filled(63).lines, all_open()].concat()

@@ -1,81 +1,122 @@
-//! What a call says: an answer, or a refusal with its number.
+//! What each call answers where it is not refused.
 
-use crate::Slot;
-use std::fmt;
+use crate::place::{foreign, Out};
+use crate::{Place, Slot, PAGE};
 
-/// The answer of a call that was not refused.
+/// The answer of an offer.
 #[derive(Clone, Copy, Debug, PartialEq, Eq)]
-pub enum Answer {
-    /// Done, where document 01 names no answer.
-    Done,
-    /// The block's slot is open: land next.
-    Announced(Slot),
-    /// The block is dirty and not open: land.
+#[non_exhaustive]
+pub enum Offered {
+    /// The block's slot is open, and its metadata page was stored: land next.
+    Announced { slot: Slot, stored: Place },
+    /// The block is dirty and not open, nothing was stored: land.
     Overwrite,
-    /// A dirty page went to the HDD to make room: make the same call again.
-    CopiedOut,
-    /// The block is cached and not open.
-    InSlot(Slot),
-    /// The block is to be read from the HDD.
-    OnDisk,
+    /// A dirty page was stored on the HDD to make room: offer again.
+    CopiedOut { stored: Place },
+}
+
+impl Offered {
+    pub(crate) fn of(code: u32, out: Out) -> Self {
+        match (code, out.place()) {
+            (101, Some(stored)) => Offered::Announced {
+                slot: Slot(out.slot),
+                stored,
+            },
+            (102, None) => Offered::Overwrite,
+            (103, Some(stored)) => Offered::CopiedOut { stored },
+            _ => foreign(code),
+        }
+    }
+
+    /// The page that was stored.
+    pub fn stored(self) -> Option<Place> {
+        match self {
+            Offered::Announced { stored, .. } | Offered::CopiedOut { stored } => Some(stored),
+            Offered::Overwrite => None,
+        }
+    }
+}
+
+/// The answer of a fetch.
+#[derive(Clone, Copy, Debug, PartialEq, Eq)]
+pub enum Fetched {
+    /// The block's slot is open, and its metadata page was stored: land the fetch next.
+    Announced { slot: Slot, stored: Place },
+    /// A dirty page was stored on the HDD to make room: fetch again.
+    CopiedOut { stored: Place },
+}
+
+impl Fetched {
+    pub(crate) fn of(code: u32, out: Out) -> Self {
+        match (code, out.place()) {
+            (101, Some(stored)) => Fetched::Announced {
+                slot: Slot(out.slot),
+                stored,
+            },
+            (103, Some(stored)) => Fetched::CopiedOut { stored },
+            _ => foreign(code),
+        }
+    }
+
+    /// The page that was stored: there always is one.
+    pub fn stored(self) -> Option<Place> {
+        let (Fetched::Announced { stored, .. } | Fetched::CopiedOut { stored }) = self;
+        Some(stored)
+    }
+}
+
+/// The answer of a write back or a flush.
+#[derive(Clone, Copy, Debug, PartialEq, Eq)]
+pub enum Saved {
+    /// It was done by storing this page.
+    Stored(Place),
     /// The block is not dirty, or nothing is unconfirmed.
     NothingToDo,
 }
 
-/// Why a call said no. Nothing has changed.
+impl Saved {
+    pub(crate) fn of(code: u32, out: Out) -> Self {
+        match (code, out.place()) {
+            (0, Some(stored)) => Saved::Stored(stored),
+            (106, None) => Saved::NothingToDo,
+            _ => foreign(code),
+        }
+    }
+
+    /// The page that was stored.
+    pub fn stored(self) -> Option<Place> {
+        match self {
+            Saved::Stored(stored) => Some(stored),
+            Saved::NothingToDo => None,
+        }
+    }
+}
+
+/// The answer of a look-up.
 #[derive(Clone, Copy, Debug, PartialEq, Eq)]
-pub struct Refusal {
-    number: u32,
+#[non_exhaustive]
+pub enum Found {
+    /// The block is cached and not open.
+    InSlot(Slot),
+    /// The block is to be read from the HDD.
+    OnDisk,
 }
 
-/// Document 01's conditions by number from 1; 5, 9, 11 and 13 are shortened.
-const REASONS: [&str; 13] = [
-    "format: slots or blocks outside the limits",
-    "reopen: SSD under a page, or first page no legal label",
-    "a record number out of range, window repeated or not zero past its length",
-    "an image, table or data page of the wrong length",
-    "a metadata page (reopen) or table row (others) breaks its rule, or rows, window and phase don't agree",
-    "wrong phase: step when ready, anything else before",
-    "block number too high",
-    "offer, fetch, write back: the block's slot is open",
-    "land: block neither open for writing nor dirty; land a fetch: not open for fetch",
-    "fetch: the block has a slot",
-    "a fetch, or an offer of a block that isn't dirty, while 63 are open",
-    "a slot must be swept for, all are open",
-    "this call would store metadata, and too few stamps are left",
-];
-
-impl Refusal {
-    /// Document 01's number, 1 to 13.
-    pub fn number(self) -> u32 {
-        self.number
-    }
-
-    /// The condition.
-    pub fn reason(self) -> &'static str {
-        REASONS[self.number as usize - 1]
+impl Found {
+    pub(crate) fn of(code: u32, slot: u32) -> Self {
+        match code {
+            104 => Found::InSlot(Slot(slot)),
+            105 => Found::OnDisk,
+            _ => foreign(code),
+        }
     }
 }
 
-impl fmt::Display for Refusal {
-    fn fmt(&self, f: &mut fmt::Formatter<'_>) -> fmt::Result {
-        write!(f, "refused by {}: {}", self.number, self.reason())
-    }
-}
-
-impl std::error::Error for Refusal {}
-
-/// What a result code says; `slot` is what the call left there.
-pub(crate) fn said(code: u32, slot: u32) -> Result<Answer, Refusal> {
-    match code {
-        0 => Ok(Answer::Done),
-        1..=13 => Err(Refusal { number: code }),
-        101 => Ok(Answer::Announced(Slot(slot))),
-        102 => Ok(Answer::Overwrite),
-        103 => Ok(Answer::CopiedOut),
-        104 => Ok(Answer::InSlot(Slot(slot))),
-        105 => Ok(Answer::OnDisk),
-        106 => Ok(Answer::NothingToDo),
-        _ => unreachable!("no result code: {code}"),
-    }
+/// What a view finds: a block's page, lent where it lies.
+#[derive(Clone, Copy, Debug, PartialEq, Eq)]
+pub struct View<'a> {
+    /// Where the page lies.
+    pub place: Place,
+    /// The page itself.
+    pub page: &'a [u8; PAGE],
 }

@@ -1,11 +1,29 @@
 //! The calls, with names and types.
 
-use crate::answer::said;
-use crate::{calls, Answer, Block, Geometry, Images, Phase, Record, Refusal, PAGE};
+use crate::place::{page_at, Out};
+use crate::refusal::judged;
+use crate::{
+    calls, Block, Fetched, Found, Geometry, Image, Images, Lent, Offered, Phase, Place, Record,
+    Refusal, Saved, View,
+};
+use crate::{WrongLength, PAGE};
 
-/// A box, lent: both images, the table and the record. Every call stores at most one page, and a refused call changes
+/// A box, lent: both images, the table and the record. Every call stores at most one page and names it; a refused call changes
 /// nothing. A box begins by [`format`](Cache::format) or [`reopen`](Cache::reopen), each followed by
 /// [`finish`](Cache::finish), or by as many steps.
+///
+/// # Drives
+/// The calls change the images, in memory. Where these are kept on drives, the page that a call names
+/// ([`page`](Cache::page) lends it) has to be on its drive, whole, before the page of the next call. A drive that fails to
+/// store it is as good as cut off: reopen what the drives have.
+///
+/// # Threads
+/// A box is `Send` and `Sync`. One thread at a time makes calls, since they take `&mut self`; but [`view`](Cache::view) takes
+/// `&self`, so that several threads may view at once, and read the pages that they were lent.
+///
+/// # Errors
+/// Every call but format and reopen may be refused by 3 (the record), 4 (a length), 5 (the table) and 6 (the phase). The
+/// numbers that a call may be refused by besides are told at each.
 #[derive(Debug)]
 pub struct Cache<'a> {
     images: Images<&'a mut [u8]>,
@@ -13,13 +31,11 @@ pub struct Cache<'a> {
     record: &'a mut Record,
 }
 
-/// Makes a call on what is lent, with room for a slot.
+/// Makes a call on what is lent: its result code.
 macro_rules! call {
     ($cache:ident.$name:ident($($argument:expr),*)) => {{
-        let Cache { images, table, record } = $cache;
-        let mut slot = 0;
-        let code = calls::$name(images.ssd, images.hdd, table, &mut record.0, $($argument,)* &mut slot);
-        said(code, slot)
+        let Cache { images, table, record } = &mut *$cache;
+        calls::$name(images.ssd, images.hdd, table, &mut record.0, $($argument),*)
     }};
 }
 
@@ -43,82 +59,166 @@ impl<'a> Cache<'a> {
         self.table
     }
 
+    /// A page of an image, as that which a call has named.
+    ///
+    /// # Panics
+    /// Where the image does not have all of it.
+    pub fn page(&self, place: Place) -> &[u8; PAGE] {
+        match place.image {
+            Image::Ssd => page_at(self.images.ssd, place.offset),
+            Image::Hdd => page_at(self.images.hdd, place.offset),
+        }
+    }
+
     /// Begins a format. Stores nothing; the steps that follow do. May be called in any phase.
-    pub fn format(&mut self, geometry: Geometry) -> Result<Answer, Refusal> {
+    ///
+    /// # Errors
+    /// 1 (the geometry is outside the limits) and 4, and no other number.
+    pub fn format(&mut self, geometry: Geometry) -> Result<(), Refusal> {
         let Geometry { slots, blocks } = geometry;
-        call!(self.format(slots, blocks))
+        let code = call!(self.format(slots, blocks));
+        judged(code, || self.wrong_length(geometry)).map(|_| ())
     }
 
-    /// One step of a format or of a recovery; the record's phase tells whether it was the last.
-    pub fn step(&mut self) -> Result<Answer, Refusal> {
-        call!(self.step())
+    /// One step of a format or of a recovery: the page of the SSD that it stored. The record's phase tells whether it was the
+    /// last.
+    ///
+    /// # Errors
+    /// 3, 4, 5, 6 (the box is ready), and 13 while recovering.
+    pub fn step(&mut self) -> Result<Place, Refusal> {
+        let mut out = Out::default();
+        let code = call!(self.step(&mut out.image, &mut out.offset));
+        self.judged(code).map(|_| out.stored())
     }
 
-    /// Steps until the box is ready: how many it took, 0 if it was ready before.
-    pub fn finish(&mut self) -> Result<u32, Refusal> {
+    /// Steps until the box is ready: how many it took, 0 if it was ready before. Each stored page is handed to `store` before
+    /// the next step; where that fails no further step is made, and the box is to be reopened from its drives.
+    ///
+    /// # Errors
+    /// What `store` fails with, or the refusal of a step.
+    pub fn finish<E: From<Refusal>>(
+        &mut self,
+        mut store: impl FnMut(Place, &[u8; PAGE]) -> Result<(), E>,
+    ) -> Result<u32, E> {
         let mut steps = 0;
         while self.record.phase() != Some(Phase::Ready) {
-            self.step()?;
+            let stored = self.step()?;
+            store(stored, self.page(stored))?;
             steps += 1;
         }
         Ok(steps)
     }
 
     /// Fills table and record from the SSD: then ready, or recovering. Stores nothing. May be called in any phase.
-    pub fn reopen(&mut self) -> Result<Answer, Refusal> {
-        call!(self.reopen())
+    ///
+    /// # Errors
+    /// 2 (no legal label), 4 and 5, and no other number.
+    pub fn reopen(&mut self) -> Result<(), Refusal> {
+        let code = call!(self.reopen());
+        let length = || self.wrong_length(Geometry::of_label(self.images.ssd)?);
+        judged(code, length).map(|_| ())
     }
 
-    /// Offers a write of a block: `Announced` or `Overwrite`, then land; or `CopiedOut`, then offer again.
-    pub fn offer(&mut self, block: Block) -> Result<Answer, Refusal> {
-        call!(self.offer(block.0))
+    /// Offers a write of a block: announced or overwrite, then land; or copied out, then offer again.
+    ///
+    /// # Errors
+    /// 3 to 6, 7 (the block), 8 (its slot is open), 11, 12 (no slot to be had) and 13 (stamps).
+    pub fn offer(&mut self, block: Block) -> Result<Offered, Refusal> {
+        let mut out = Out::default();
+        let code = call!(self.offer(block.0, &mut out.slot, &mut out.image, &mut out.offset));
+        self.judged(code).map(|code| Offered::of(code, out))
     }
 
-    /// Lands a page for a block that is open for writing, or dirty and not open.
-    pub fn land(&mut self, block: Block, page: &[u8]) -> Result<Answer, Refusal> {
-        call!(self.land(block.0, page))
+    /// Lands a page for a block that is open for writing, or dirty and not open: the slot's page, which it stored.
+    ///
+    /// # Errors
+    /// 3 to 6, 7 (the block) and 9 (it is neither).
+    pub fn land(&mut self, block: Block, page: &[u8; PAGE]) -> Result<Place, Refusal> {
+        let mut out = Out::default();
+        let code = call!(self.land(block.0, page, &mut out.image, &mut out.offset));
+        self.judged(code).map(|_| out.stored())
     }
 
-    /// Fetches a block that is not cached: `Announced`, then land the fetch; or `CopiedOut`, then fetch again.
-    pub fn fetch(&mut self, block: Block) -> Result<Answer, Refusal> {
-        call!(self.fetch(block.0))
+    /// Fetches a block that is not cached: announced, then land the fetch; or copied out, then fetch again.
+    ///
+    /// # Errors
+    /// 3 to 6, 7 (the block), 8 (its slot is open), 10 (it has a slot), 11, 12 (no slot to be had) and 13 (stamps).
+    pub fn fetch(&mut self, block: Block) -> Result<Fetched, Refusal> {
+        let mut out = Out::default();
+        let code = call!(self.fetch(block.0, &mut out.slot, &mut out.image, &mut out.offset));
+        self.judged(code).map(|code| Fetched::of(code, out))
     }
 
-    /// Lands a fetch: copies the HDD page into the slot that the fetch opened.
-    pub fn land_fetch(&mut self, block: Block) -> Result<Answer, Refusal> {
-        call!(self.land_fetch(block.0))
+    /// Lands a fetch: copies the HDD page into the slot that the fetch opened: the slot's page, which it stored.
+    ///
+    /// # Errors
+    /// 3 to 6, 7 (the block) and 9 (it is not open for fetch).
+    pub fn land_fetch(&mut self, block: Block) -> Result<Place, Refusal> {
+        let mut out = Out::default();
+        let code = call!(self.land_fetch(block.0, &mut out.image, &mut out.offset));
+        self.judged(code).map(|_| out.stored())
     }
 
-    /// Looks a block up: `InSlot` if it is cached and not open, and its used flag is set; else `OnDisk`.
-    pub fn look_up(&mut self, block: Block) -> Result<Answer, Refusal> {
-        call!(self.look_up(block.0))
+    /// Looks a block up: in a slot if it is cached and not open, and its used flag is set; else on disk. Stores nothing.
+    ///
+    /// # Errors
+    /// 3 to 6, and 7 (the block).
+    pub fn look_up(&mut self, block: Block) -> Result<Found, Refusal> {
+        let mut slot = 0;
+        let code = call!(self.look_up(block.0, &mut slot));
+        self.judged(code).map(|code| Found::of(code, slot))
     }
 
-    /// Views a block: that page of the SSD image itself if it is cached and not open, else of the HDD image.
-    pub fn view(&self, block: Block) -> Result<&[u8], Refusal> {
-        let (mut image, mut offset) = (0, 0);
-        let (ssd, hdd) = (&*self.images.ssd, &*self.images.hdd);
-        let code = calls::view(
-            ssd,
-            hdd,
-            self.table,
-            &self.record.0,
-            block.0,
-            &mut image,
-            &mut offset,
-        );
-        said(code, 0)?;
-        let of = if image == 1 { ssd } else { hdd };
-        Ok(&of[offset as usize..][..PAGE])
+    /// Views a block: that page of the SSD image itself if it is cached and not open, else of the HDD image. Changes nothing.
+    ///
+    /// # Errors
+    /// 3 to 6, and 7 (the block).
+    pub fn view(&self, block: Block) -> Result<View<'_>, Refusal> {
+        let mut out = Out::default();
+        let (ssd, hdd, words) = (&*self.images.ssd, &*self.images.hdd, &self.record.0);
+        let (image, offset) = (&mut out.image, &mut out.offset);
+        let code = calls::view(ssd, hdd, self.table, words, block.0, image, offset);
+        self.judged(code)?;
+        let place = out.stored();
+        let page = self.page(place);
+        Ok(View { place, page })
     }
 
-    /// Writes a block back: `Done` if it was dirty, else `NothingToDo`.
-    pub fn write_back(&mut self, block: Block) -> Result<Answer, Refusal> {
-        call!(self.write_back(block.0))
+    /// Writes a block back: stored if it was dirty, its page on the HDD; else nothing to do.
+    ///
+    /// # Errors
+    /// 3 to 6, 7 (the block) and 8 (its slot is open).
+    pub fn write_back(&mut self, block: Block) -> Result<Saved, Refusal> {
+        let mut out = Out::default();
+        let code = call!(self.write_back(block.0, &mut out.image, &mut out.offset));
+        self.judged(code).map(|code| Saved::of(code, out))
     }
 
-    /// Makes everything landed last: `Done` if metadata was stored, `NothingToDo` if nothing was unconfirmed.
-    pub fn flush(&mut self) -> Result<Answer, Refusal> {
-        call!(self.flush())
+    /// Makes everything landed last: stored if something was unconfirmed, a metadata page; else nothing to do.
+    ///
+    /// # Errors
+    /// 3 to 6, and 13 (stamps).
+    pub fn flush(&mut self) -> Result<Saved, Refusal> {
+        let mut out = Out::default();
+        let code = call!(self.flush(&mut out.image, &mut out.offset));
+        self.judged(code).map(|code| Saved::of(code, out))
+    }
+
+    /// A code that is no refusal, of a call that judges by the record.
+    fn judged(&self, code: u32) -> Result<u32, Refusal> {
+        judged(code, || self.wrong_length(self.record.geometry()))
+    }
+
+    /// The first wrong length.
+    fn wrong_length(&self, geometry: Geometry) -> Option<WrongLength> {
+        let lengths = [
+            (Lent::Ssd, self.images.ssd.len(), geometry.ssd_bytes()),
+            (Lent::Hdd, self.images.hdd.len(), geometry.hdd_bytes()),
+            (Lent::Table, self.table.len(), geometry.table_words()),
+        ];
+        let wrong = lengths
+            .into_iter()
+            .find(|(_, has, expected)| has != expected);
+        wrong.map(|(of, has, expected)| WrongLength { of, has, expected })
     }
 }

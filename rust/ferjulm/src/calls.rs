@@ -1,5 +1,8 @@
-//! The calls as C has them, over slices of any length and any words: they return the result code, and `slot` is set exactly
-//! where the answer carries one. [`Cache`](crate::Cache) is the same with names and types.
+//! The calls as C has them, over slices of any length and any words: they return the result code. Out-parameters are as the
+//! header tells: `slot` is set exactly where the answer carries one; where a call is not refused, `image` becomes 0 (nothing
+//! stored), 1 (SSD) or 2 (HDD), and `offset` the first byte of the page that was stored there. [`Cache`](crate::Cache) is the
+//! same with names and types.
+#![allow(clippy::too_many_arguments)]
 
 use crate::ffi;
 
@@ -26,41 +29,51 @@ impl<T> Lent for &mut [T] {
 /// Calls a C function with pointer and length of each slice, then the arguments. Sound for any slices: no reference is null,
 /// `&mut` overlaps with nothing, and the C functions are proved to stay within the lengths that they are told.
 macro_rules! lend {
-    ($name:ident($ssd:ident, $hdd:ident, $table:ident, $record:ident, $($argument:expr),*)) => {{
-        let (ssd, hdd, table, record) = ($ssd.lent(), $hdd.lent(), $table.lent(), $record.lent());
-        unsafe { ffi::$name(ssd.0, ssd.1, hdd.0, hdd.1, table.0, table.1, record.0, record.1, $($argument),*) }
+    ($name:ident($($slice:ident),*; $($argument:expr),*)) => {{
+        $(let $slice = $slice.lent();)*
+        lend!(@ $name ($($slice)*) ($($argument),*))
     }};
+    (@ $name:ident ($ssd:ident) ($($argument:expr),*)) => {
+        unsafe { ffi::$name($ssd.0, $ssd.1, $($argument),*) }
+    };
+    (@ $name:ident ($ssd:ident $hdd:ident $table:ident $record:ident) ($($argument:expr),*)) => {
+        unsafe { ffi::$name($ssd.0, $ssd.1, $hdd.0, $hdd.1, $table.0, $table.1, $record.0, $record.1, $($argument),*) }
+    };
 }
 
 macro_rules! calls {
-    ($($(#[$doc:meta])* $name:ident, $c:ident($ssd:ty, $hdd:ty, $table:ty, $($argument:ident),*);)*) => {$(
+    ($($(#[$doc:meta])* $name:ident, $c:ident($ssd:ty, $hdd:ty, $table:ty, $record:ty; $($argument:ident: $kind:ty),*);)*) => {$(
         $(#[$doc])*
         #[inline]
-        pub fn $name(ssd: $ssd, hdd: $hdd, table: $table, record: &mut [u32], $($argument: u32,)* slot: &mut u32) -> u32 {
-            lend!($c(ssd, hdd, table, record, $($argument,)* slot))
+        pub fn $name(ssd: $ssd, hdd: $hdd, table: $table, record: $record, $($argument: $kind),*) -> u32 {
+            lend!($c(ssd, hdd, table, record; $($argument),*))
         }
     )*};
 }
 
 calls! {
     /// Begins a format.
-    format, ferjulm_format(&[u8], &[u8], &mut [u32], slots, blocks);
+    format, ferjulm_format(&[u8], &[u8], &mut [u32], &mut [u32]; slots: u32, blocks: u32);
     /// Makes one step of a format or of a recovery.
-    step, ferjulm_step(&mut [u8], &[u8], &[u32], );
+    step, ferjulm_step(&mut [u8], &[u8], &[u32], &mut [u32]; image: &mut u32, offset: &mut u64);
     /// Fills table and record from the SSD.
-    reopen, ferjulm_reopen(&[u8], &[u8], &mut [u32], );
+    reopen, ferjulm_reopen(&[u8], &[u8], &mut [u32], &mut [u32];);
     /// Offers a write of a block.
-    offer, ferjulm_offer(&mut [u8], &mut [u8], &mut [u32], block);
+    offer, ferjulm_offer(&mut [u8], &mut [u8], &mut [u32], &mut [u32];
+        block: u32, slot: &mut u32, image: &mut u32, offset: &mut u64);
     /// Finds and opens a slot for a block that is not cached.
-    fetch, ferjulm_fetch(&mut [u8], &mut [u8], &mut [u32], block);
+    fetch, ferjulm_fetch(&mut [u8], &mut [u8], &mut [u32], &mut [u32];
+        block: u32, slot: &mut u32, image: &mut u32, offset: &mut u64);
     /// Copies the HDD page into the slot that a fetch opened.
-    land_fetch, ferjulm_land_fetch(&mut [u8], &[u8], &mut [u32], block);
+    land_fetch, ferjulm_land_fetch(&mut [u8], &[u8], &mut [u32], &mut [u32]; block: u32, image: &mut u32, offset: &mut u64);
     /// Looks a block up.
-    look_up, ferjulm_look_up(&[u8], &[u8], &mut [u32], block);
+    look_up, ferjulm_look_up(&[u8], &[u8], &mut [u32], &mut [u32]; block: u32, slot: &mut u32);
+    /// Views a block: `image` becomes 1 for the SSD or 2 for the HDD, `offset` the page's first byte in it.
+    view, ferjulm_view(&[u8], &[u8], &[u32], &[u32]; block: u32, image: &mut u32, offset: &mut u64);
     /// Writes a block back.
-    write_back, ferjulm_write_back(&[u8], &mut [u8], &mut [u32], block);
+    write_back, ferjulm_write_back(&[u8], &mut [u8], &mut [u32], &mut [u32]; block: u32, image: &mut u32, offset: &mut u64);
     /// Stores metadata page 0 if unconfirmed.
-    flush, ferjulm_flush(&mut [u8], &[u8], &[u32], );
+    flush, ferjulm_flush(&mut [u8], &[u8], &[u32], &mut [u32]; image: &mut u32, offset: &mut u64);
 }
 
 /// Lands a page for a block.
@@ -72,30 +85,15 @@ pub fn land(
     record: &mut [u32],
     block: u32,
     page: &[u8],
-    slot: &mut u32,
-) -> u32 {
-    lend!(ferjulm_land(
-        ssd,
-        hdd,
-        table,
-        record,
-        block,
-        page.as_ptr(),
-        page.len(),
-        slot
-    ))
-}
-
-/// Views a block: `image` becomes 1 for the SSD or 2 for the HDD, `offset` the page's first byte in it.
-#[inline]
-pub fn view(
-    ssd: &[u8],
-    hdd: &[u8],
-    table: &[u32],
-    record: &[u32],
-    block: u32,
     image: &mut u32,
     offset: &mut u64,
 ) -> u32 {
-    lend!(ferjulm_view(ssd, hdd, table, record, block, image, offset))
+    let (page, page_len) = page.lent();
+    lend!(ferjulm_land(ssd, hdd, table, record; block, page, page_len, image, offset))
+}
+
+/// Reads the label page of an SSD image: 0 with `slots` and `blocks` set, or 2.
+#[inline]
+pub fn label(ssd: &[u8], slots: &mut u32, blocks: &mut u32) -> u32 {
+    lend!(ferjulm_label(ssd; slots, blocks))
 }

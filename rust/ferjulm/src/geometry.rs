@@ -1,5 +1,9 @@
 //! Slot and block numbers, the lengths of what a box is lent, and its two images.
 
+use crate::calls;
+#[cfg(feature = "std")]
+use std::{vec, vec::Vec};
+
 /// Bytes of a page.
 pub const PAGE: usize = 4096;
 
@@ -19,6 +23,14 @@ pub struct Geometry {
 }
 
 impl Geometry {
+    /// The geometry that an SSD image's label tells, for images whose size is not known; none where reopening them would be
+    /// refused by 2. Only the first page is read.
+    pub fn of_label(ssd: &[u8]) -> Option<Self> {
+        let (mut slots, mut blocks) = (0, 0);
+        let code = calls::label(ssd, &mut slots, &mut blocks);
+        (code == 0).then_some(Geometry { slots, blocks })
+    }
+
     /// The number of metadata pages: slots / 240 rounded up.
     pub fn metadata_pages(self) -> usize {
         (self.slots as usize).div_ceil(240)
@@ -50,13 +62,14 @@ impl Geometry {
     }
 }
 
-/// The SSD image and the HDD image: owned (`Images<Vec<u8>>`) or lent (`Images<&mut [u8]>`).
+/// The SSD image and the HDD image: lent (`Images<&mut [u8]>`), or owned (`Images<Vec<u8>>`, with the feature `std`).
 #[derive(Clone, Debug, PartialEq, Eq)]
 pub struct Images<B> {
     pub ssd: B,
     pub hdd: B,
 }
 
+#[cfg(feature = "std")]
 impl Images<Vec<u8>> {
     /// Zero images of the lengths that a geometry asks for.
     pub fn zeroed(geometry: Geometry) -> Self {

@@ -4,7 +4,8 @@
 //! its page. Bytes follow, of that page or of the whole SSD, 16 to a line, lines of zeros left out. `table` and `record` are what
 //! memory has then.
 
-use cases::rig::{differing, Call, Place, Rig};
+use cases::place::image_of;
+use cases::rig::{Call, Rig};
 use cases::say;
 use ferjulm::{calls, Block, Geometry, Images, PAGE};
 
@@ -86,15 +87,11 @@ fn done(rig: &mut Rig, line: &str) -> Vec<String> {
         Some(text) => Call::Land(Block(5), page(text.trim_matches('"'))),
         None => Call::of(call),
     };
-    let before = rig.images.clone();
-    let said = say::said(rig.make(&made));
-    let stored = differing(&rig.images, &before);
-    assert!(stored.len() <= 1, "{line}");
-    let place = stored.first().copied();
-    let head = format!("{call} -> {said}; stores {}", say::place(place));
-    let bytes = match place {
-        Some(Place::Ssd(at)) => shown(&rig.images.ssd, at * PAGE, PAGE),
-        Some(Place::Hdd(at)) => shown(&rig.images.hdd, at * PAGE, PAGE),
+    let made = rig.make(&made);
+    let (said, stored) = (say::said(made.said), say::place(made.stored));
+    let head = format!("{call} -> {said}; stores {stored}");
+    let bytes = match made.stored {
+        Some(place) => shown(image_of(&rig.images, place), place.offset as usize, PAGE),
         None => vec![],
     };
     [vec![head], bytes].concat()
@@ -137,22 +134,22 @@ fn every_line_of_the_crash_is_what_the_library_does() {
 fn landed_after(calls: &[&str], steps: Option<usize>) -> bool {
     let mut rig = Rig::formatted(GEOMETRY);
     for call in calls {
-        rig.make(&Call::of(call)).expect("a call");
+        rig.make(&Call::of(call)).said.expect("a call");
     }
     rig.forget(|| 0xffff_ffff);
     if let Some(steps) = steps {
-        rig.cache().reopen().expect("a reopening");
-        (0..steps).for_each(|_| assert!(rig.cache().step().is_ok()));
+        rig.make(&Call::Reopen).said.expect("a reopening");
+        (0..steps).for_each(|_| assert!(rig.make(&Call::Step).said.is_ok()));
         rig.forget(|| 0xffff_ffff);
     }
-    rig.cache().reopen().expect("a reopening");
+    rig.make(&Call::Reopen).said.expect("a reopening");
     assert_eq!(
         rig.recovering(),
         calls.last() != Some(&"flush") && steps != Some(1)
     );
-    rig.cache().finish().expect("its steps");
+    rig.finish();
     let landed = cases::stored::named("A");
-    let read = rig.cache().view(Block(5)).expect("a view").to_vec();
+    let read = rig.cache().view(Block(5)).expect("a view").page.to_vec();
     assert!(read == landed || read == cases::stored::page(5));
     read == landed
 }
@@ -180,7 +177,7 @@ fn the_bytes_in_format_are_those_after_the_second_offer() {
     let mut rig = unformatted();
     for call in &DONE[..7] {
         let call = call.replace("land 5", "land 5 A");
-        rig.make(&Call::of(&call)).expect("a call");
+        rig.make(&Call::of(&call)).said.expect("a call");
     }
     let shown = shown(&rig.images.ssd, 0, 2 * PAGE);
     let document = include_str!("../../../docs/FORMAT.md").lines();

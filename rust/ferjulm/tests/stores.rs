@@ -1,15 +1,14 @@
-//! The page that each call stores, as README.md and the header tell it.
+//! The page that each call stores is the one that it names, and none else; document 01's arithmetic is written out here.
 
-use cases::rig::{differing, Call, Place, Rig};
-use ferjulm::{Answer, Block, Geometry, Phase, Slot};
+use cases::place::{hdd, page_of, ssd};
+use cases::rig::{Answer, Call, Rig};
+use ferjulm::{Block, Cache, Geometry, Images, Phase, Place, Record, Refusal, Slot, PAGE};
+use std::io;
 
-/// Makes a call that is not refused: its answer, and the page that it stored.
+/// Makes a call that is not refused: its answer, and the page that it named. `Rig::make` compares the whole images.
 fn made(rig: &mut Rig, call: &str) -> (Answer, Option<Place>) {
-    let before = rig.images.clone();
-    let said = rig.make(&Call::of(call)).expect(call);
-    let stored = differing(&rig.images, &before);
-    assert!(stored.len() <= 1, "{call}");
-    (said, stored.first().copied())
+    let made = rig.make(&Call::of(call));
+    (made.said.expect(call), made.stored)
 }
 
 /// Opens a slot by an offer or a fetch: its metadata page is stored.
@@ -18,11 +17,7 @@ fn opened(rig: &mut Rig, call: &str) -> Slot {
     let Answer::Announced(slot) = said else {
         panic!("{call}: {said:?}")
     };
-    assert_eq!(
-        stored,
-        Some(Place::Ssd(1 + slot.0 as usize / 240)),
-        "{call}"
-    );
+    assert_eq!(stored, Some(ssd(1 + slot.0 as usize / 240)), "{call}");
     slot
 }
 
@@ -34,12 +29,12 @@ const GEOMETRY: Geometry = Geometry {
 const METADATA: usize = 3;
 
 #[test]
-fn each_call_stores_the_page_that_is_told() {
+fn each_call_stores_the_page_that_it_names() {
     let mut rig = Rig::unformatted(GEOMETRY);
     assert_eq!(made(&mut rig, "format 481 500").1, None);
     while let Some(Phase::Formatting(done)) = rig.record.phase() {
         let page = if done as usize <= METADATA { done } else { 0 };
-        assert_eq!(made(&mut rig, "step").1, Some(Place::Ssd(page as usize)));
+        assert_eq!(made(&mut rig, "step").1, Some(ssd(page as usize)));
     }
     for block in 0..GEOMETRY.slots {
         let (open, land) = match block % 2 {
@@ -47,19 +42,19 @@ fn each_call_stores_the_page_that_is_told() {
             _ => (format!("fetch {block}"), format!("land fetch {block}")),
         };
         let slot = opened(&mut rig, &open);
-        let page = Place::Ssd(1 + METADATA + slot.0 as usize);
+        let page = ssd(1 + METADATA + slot.0 as usize);
         assert_eq!(made(&mut rig, &land).1, Some(page));
     }
-    assert_eq!(made(&mut rig, "flush").1, Some(Place::Ssd(1)));
+    assert_eq!(made(&mut rig, "flush").1, Some(ssd(1)));
     assert_eq!(made(&mut rig, "flush").1, None);
-    assert_eq!(made(&mut rig, "write back 240").1, Some(Place::Hdd(240)));
+    assert_eq!(made(&mut rig, "write back 240").1, Some(hdd(240)));
     assert_eq!(made(&mut rig, "write back 240").1, None);
 
     // the hand is on slot 0, whose block is dirty
     let (said, stored) = made(&mut rig, "offer 490");
     let row = 2 * rig.record.hand().0 as usize;
     assert_eq!(said, Answer::CopiedOut);
-    assert_eq!(stored, Some(Place::Hdd(rig.table[row] as usize)));
+    assert_eq!(stored, Some(hdd(rig.table[row] as usize)));
 
     // a slot open on each page, the last first
     for block in [480, 241, 3, 1] {
@@ -72,9 +67,75 @@ fn each_call_stores_the_page_that_is_told() {
     while rig.recovering() {
         let least = rig.record.window().map(|slot| slot.0).min();
         let page = 1 + least.expect("a pending slot") as usize / 240;
-        assert_eq!(made(&mut rig, "step").1, Some(Place::Ssd(page)));
+        assert_eq!(made(&mut rig, "step").1, Some(ssd(page)));
         steps += 1;
     }
     assert_eq!(steps, METADATA);
     assert_eq!(rig.slot_of(Block(3)), None);
+}
+
+/// Makes a call that leaves every byte as it was: the page that it names.
+fn made_again(rig: &mut Rig, call: &str) -> Option<Place> {
+    let before = rig.images.clone();
+    let named = made(rig, call).1;
+    assert!(rig.images == before, "{call} changed a byte");
+    named
+}
+
+#[test]
+fn a_store_that_leaves_the_bytes_is_named_all_the_same() {
+    let mut rig = Rig::formatted(GEOMETRY);
+    made(&mut rig, "format 481 500");
+    made(&mut rig, "step");
+    for metadata in 1..=METADATA {
+        assert_eq!(made_again(&mut rig, "step"), Some(ssd(metadata)));
+    }
+    made(&mut rig, "step");
+    for call in ["offer 7", "land 7 A"] {
+        made(&mut rig, call);
+    }
+    // the slot has A already, then the disk has it too
+    assert_eq!(made_again(&mut rig, "land 7 A"), Some(ssd(1 + METADATA)));
+    made(&mut rig, "write back 7");
+    made(&mut rig, "offer 7");
+    assert_eq!(made_again(&mut rig, "land 7 A"), Some(ssd(1 + METADATA)));
+    assert_eq!(made_again(&mut rig, "write back 7"), Some(hdd(7)));
+}
+
+#[test]
+fn finish_hands_over_each_page_and_stops_where_storing_fails() {
+    let mut images = Images::zeroed(GEOMETRY);
+    let mut table = vec![0; GEOMETRY.table_words()];
+    let mut record = Record::default();
+    let mut cache = Cache::new(images.lend(), &mut table, &mut record);
+    cache.format(GEOMETRY).expect("a format");
+    let mut stored = Vec::new();
+    let mut store = |place: Place, page: &[u8; PAGE]| {
+        stored.push((place, page.to_vec()));
+        if stored.len() == 2 {
+            return Err(io::Error::other("the drive is full"));
+        }
+        Ok(())
+    };
+    let said = cache.finish(&mut store).map_err(|why| why.to_string());
+    assert_eq!(said, Err("the drive is full".to_string()));
+    assert_eq!(cache.record().phase(), Some(Phase::Formatting(2)));
+    assert_eq!(cache.finish(&mut store).expect("the other steps"), 3);
+    assert_eq!(cache.finish(&mut store).expect("none"), 0);
+    assert!(matches!(cache.step(), Err(refusal) if refusal.number() == 6));
+    let places: Vec<Place> = stored.iter().map(|stored| stored.0).collect();
+    assert_eq!(places, [0, 1, 2, 3, 0].map(ssd));
+    // each page as it was then: the first was zero, the last is the label
+    assert!(stored[0].1 == [0; PAGE] && page_of(&images, ssd(0)) == stored[4].1);
+}
+
+#[test]
+fn a_refusal_ends_finish() {
+    let mut rig = Rig::formatted(GEOMETRY);
+    rig.set(cases::rig::word::PHASE, 3);
+    let said = rig.cache().finish(|_, _| Ok::<(), Refusal>(()));
+    assert_eq!(said.map_err(Refusal::number), Err(3));
+    let said = rig.cache().finish(|_, _| Ok::<(), io::Error>(()));
+    let text = said.expect_err("the same").to_string();
+    assert!(text.starts_with("refused by 3: "), "{text}");
 }

@@ -25,6 +25,7 @@ pub fn offer(w: &mut World, block: u32) -> Answer {
     }
     if flags / 2 % 2 == 1 {
         pack(&mut w.record, &judged.record);
+        w.name_none();
         return Ok(102);
     }
     if judged.writing >= 63 {
@@ -56,6 +57,7 @@ pub fn land(w: &mut World, block: u32, page: &[u8]) -> Answer {
     }
     let to = data_at(&r, slot);
     w.ssd[to..to + PAGE].copy_from_slice(page);
+    w.name(1, to);
     if flags / 4 % 2 == 1 {
         close(w, &mut r, slot);
     }
@@ -73,6 +75,7 @@ pub fn land_fetch(w: &mut World, block: u32) -> Answer {
     }
     let (to, from) = (data_at(&r, slot), PAGE * block as usize);
     w.ssd[to..to + PAGE].copy_from_slice(&w.hdd[from..from + PAGE]);
+    w.name(1, to);
     close(w, &mut r, slot);
     pack(&mut w.record, &r);
     Ok(0)
@@ -95,10 +98,10 @@ pub fn look_up(w: &mut World, block: u32) -> Answer {
 #[inline(never)]
 pub fn view(w: &mut World, block: u32) -> Answer {
     let judged = serves(w, PAGE, Some(block))?;
-    (w.image, w.offset) = match judged.at {
-        Some(slot) if flags_at(w, slot) / 4 % 2 == 0 => (1, data_at(&judged.record, slot) as u64),
-        _ => (2, (PAGE * block as usize) as u64),
-    };
+    match judged.at {
+        Some(slot) if flags_at(w, slot) / 4 % 2 == 0 => w.name(1, data_at(&judged.record, slot)),
+        _ => w.name(2, PAGE * block as usize),
+    }
     Ok(0)
 }
 
@@ -115,7 +118,10 @@ pub fn write_back(w: &mut World, block: u32) -> Answer {
             copy_out(w, &judged.record, slot);
             Ok(0)
         }
-        _ => Ok(106),
+        _ => {
+            w.name_none();
+            Ok(106)
+        }
     }
 }
 
@@ -124,6 +130,7 @@ pub fn flush(w: &mut World) -> Answer {
     let mut r = serves(w, PAGE, None)?.record;
     if !r.unconfirmed {
         pack(&mut w.record, &r);
+        w.name_none();
         return Ok(106);
     }
     if r.newest == u32::MAX {

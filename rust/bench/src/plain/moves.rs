@@ -22,11 +22,12 @@ pub fn encode(stamp: u32, window: &[u32], rows: &[u32]) -> [u8; PAGE] {
     page
 }
 
-/// Stores metadata page p with this stamp.
+/// Stores metadata page p with this stamp, and names it.
 pub fn store_stamped(w: &mut World, r: &Record, stamp: u32, p: usize) {
     let rows = &w.table[480 * p..w.table.len().min(480 * p + 480)];
     let page = encode(stamp, &r.window[..r.count], rows);
     w.ssd[PAGE * (1 + p)..PAGE * (2 + p)].copy_from_slice(&page);
+    w.name(1, PAGE * (1 + p));
 }
 
 /// A metadata store: the next stamp, and nothing is unconfirmed.
@@ -63,9 +64,10 @@ pub fn close(w: &mut World, r: &mut Record, slot: u32) {
     r.unconfirmed = true;
 }
 
-/// Copies a dirty slot's page to its block and marks it clean.
+/// Copies a dirty slot's page to its block, marks it clean, and names the block's page.
 pub fn copy_out(w: &mut World, r: &Record, slot: u32) {
     let (from, to) = (data_at(r, slot), PAGE * w.table[2 * slot as usize] as usize);
     w.hdd[to..to + PAGE].copy_from_slice(&w.ssd[from..from + PAGE]);
     w.table[2 * slot as usize + 1] -= 2;
+    w.name(2, to);
 }

@@ -41,6 +41,7 @@ fn format_on(w: &mut World, r: &mut Record) {
     let pages = meta_pages(r.slots);
     if r.steps == 0 {
         w.ssd[..PAGE].fill(0);
+        w.name(1, 0);
     } else if r.steps <= pages {
         store_stamped(w, r, 0, r.steps as usize - 1);
     } else {
@@ -52,6 +53,7 @@ fn format_on(w: &mut World, r: &mut Record) {
         )
         .unwrap();
         w.ssd[..PAGE].copy_from_slice(&page);
+        w.name(1, 0);
         *r = begun(slots, blocks, 0, READY);
         return;
     }

@@ -116,11 +116,11 @@ fn spoil_word(list: &mut [u32], random: &mut Random) {
 /// fetch, dirty and clean, and recovering.
 pub fn boxes(geometry: Geometry) -> Vec<Input> {
     let mut rig = Rig::unformatted(geometry);
-    rig.make(&Call::Format(geometry)).expect("a format");
+    rig.make(&Call::Format(geometry)).said.expect("a format");
     let mut boxes = vec![rig.clone()];
-    rig.make(&Call::Step).expect("a step");
+    rig.make(&Call::Step).said.expect("a step");
     boxes.push(rig.clone());
-    rig.cache().finish().expect("steps");
+    rig.finish();
     boxes.push(rig.clone());
     for call in [
         Call::Offer(Block(0)),
@@ -136,7 +136,7 @@ pub fn boxes(geometry: Geometry) -> Vec<Input> {
         boxes.push(rig.clone());
     }
     rig.forget(|| 5);
-    rig.make(&Call::Reopen).expect("a reopening");
+    rig.make(&Call::Reopen).said.expect("a reopening");
     boxes.push(rig);
     boxes
         .into_iter()
@@ -152,7 +152,7 @@ pub fn full() -> Input {
     };
     let mut rig = Rig::formatted(geometry);
     for block in 0..63 {
-        rig.make(&Call::Offer(Block(block))).expect("an offer");
+        rig.make(&Call::Offer(Block(block))).said.expect("an offer");
     }
     Input::of(rig, geometry)
 }

@@ -22,12 +22,12 @@ const fn kind(
     }
 }
 
-const ALL: &[&str] = &["ssd", "hdd", "table", "record", "slot"];
-const LANDING: &[&str] = &["ssd", "table", "record"];
+const ALL: &[&str] = &["ssd", "hdd", "table", "record", "slot", "place"];
+const LANDING: &[&str] = &["ssd", "table", "record", "place"];
 
-pub const KINDS: [Kind; 11] = [
+pub const KINDS: [Kind; 12] = [
     kind("format", &[1, 3, 4], &[0], &["table", "record"]),
-    kind("step", &[3, 4, 5, 6, 13], &[0], &["ssd", "record"]),
+    kind("step", &[3, 4, 5, 6, 13], &[0], &["ssd", "record", "place"]),
     kind("reopen", &[2, 3, 4, 5], &[0], &["table", "record"]),
     kind(
         "offer",
@@ -49,7 +49,20 @@ pub const KINDS: [Kind; 11] = [
         "write back",
         &[3, 4, 5, 6, 7, 8],
         &[0, 106],
-        &["hdd", "table"],
+        &["hdd", "table", "place"],
     ),
-    kind("flush", &[3, 4, 5, 6, 13], &[0, 106], &["ssd", "record"]),
+    kind(
+        "flush",
+        &[3, 4, 5, 6, 13],
+        &[0, 106],
+        &["ssd", "record", "place"],
+    ),
+    kind("label", &[2], &[0], &["label"]),
 ];
+
+impl Kind {
+    /// Whether it may store a page, and so names one or none.
+    pub fn stores(&self) -> bool {
+        self.changes.contains(&"place") && self.name != "view"
+    }
+}

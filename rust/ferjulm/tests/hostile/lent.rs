@@ -39,6 +39,8 @@ pub struct Lent {
     pub slot: Guarded<u32>,
     pub image: Guarded<u32>,
     pub offset: Guarded<u64>,
+    pub slots: Guarded<u32>,
+    pub blocks: Guarded<u32>,
 }
 
 /// What stands in an out-parameter before a call.
@@ -55,6 +57,8 @@ impl Lent {
             slot: Guarded::new(&[UNSET], 0xc3c3_c3c3),
             image: Guarded::new(&[UNSET], 0xc3c3_c3c3),
             offset: Guarded::new(&[UNSET as u64], 0xc3c3_c3c3),
+            slots: Guarded::new(&[UNSET], 0xc3c3_c3c3),
+            blocks: Guarded::new(&[UNSET], 0xc3c3_c3c3),
         }
     }
 
@@ -69,6 +73,8 @@ impl Lent {
             (&self.record, &other.record),
             (&self.slot, &other.slot),
             (&self.image, &other.image),
+            (&self.slots, &other.slots),
+            (&self.blocks, &other.blocks),
         ];
         bytes.iter().all(|(a, b)| a.same_guards(b))
             && words.iter().all(|(a, b)| a.same_guards(b))
@@ -88,6 +94,10 @@ impl Lent {
                 "place",
                 self.image == other.image && self.offset == other.offset,
             ),
+            (
+                "label",
+                self.slots == other.slots && self.blocks == other.blocks,
+            ),
         ];
         parts
             .iter()
@@ -96,35 +106,40 @@ impl Lent {
             .collect()
     }
 
-    /// How many pages of the images differ.
-    pub fn pages_changed(&self, other: &Lent) -> usize {
-        let count = |a: &Guarded<u8>, b: &Guarded<u8>| {
+    /// The pages of the images that differ: image and offset.
+    pub fn pages_changed(&self, other: &Lent) -> Vec<(u32, u64)> {
+        let changed = |image: u32, a: &Guarded<u8>, b: &Guarded<u8>| {
             let pages = a.0[GUARD..].chunks(PAGE).zip(b.0[GUARD..].chunks(PAGE));
-            pages.filter(|(x, y)| x != y).count()
+            let pages = pages.enumerate().filter(|(_, (x, y))| x != y);
+            let pages = pages.map(|(at, _)| (image, (at * PAGE) as u64));
+            pages.collect::<Vec<_>>()
         };
-        count(&self.ssd, &other.ssd) + count(&self.hdd, &other.hdd)
+        [
+            changed(1, &self.ssd, &other.ssd),
+            changed(2, &self.hdd, &other.hdd),
+        ]
+        .concat()
     }
 
     /// Makes the call: its result code.
     pub fn call(&mut self, kind: &Kind, input: &Input) -> u32 {
         let (ssd, hdd, table) = (self.ssd.lent(), self.hdd.lent(), self.table.lent());
         let (record, slot) = (self.record.lent(), &mut self.slot.lent()[0]);
-        let block = input.block;
+        let (image, offset) = (&mut self.image.lent()[0], &mut self.offset.lent()[0]);
+        let (block, page) = (input.block, self.page.lent());
         match kind.name {
-            "format" => calls::format(ssd, hdd, table, record, input.slots, input.blocks, slot),
-            "step" => calls::step(ssd, hdd, table, record, slot),
-            "reopen" => calls::reopen(ssd, hdd, table, record, slot),
-            "offer" => calls::offer(ssd, hdd, table, record, block, slot),
-            "land" => calls::land(ssd, hdd, table, record, block, self.page.lent(), slot),
-            "fetch" => calls::fetch(ssd, hdd, table, record, block, slot),
-            "land a fetch" => calls::land_fetch(ssd, hdd, table, record, block, slot),
+            "format" => calls::format(ssd, hdd, table, record, input.slots, input.blocks),
+            "step" => calls::step(ssd, hdd, table, record, image, offset),
+            "reopen" => calls::reopen(ssd, hdd, table, record),
+            "offer" => calls::offer(ssd, hdd, table, record, block, slot, image, offset),
+            "land" => calls::land(ssd, hdd, table, record, block, page, image, offset),
+            "fetch" => calls::fetch(ssd, hdd, table, record, block, slot, image, offset),
+            "land a fetch" => calls::land_fetch(ssd, hdd, table, record, block, image, offset),
             "look up" => calls::look_up(ssd, hdd, table, record, block, slot),
-            "write back" => calls::write_back(ssd, hdd, table, record, block, slot),
-            "flush" => calls::flush(ssd, hdd, table, record, slot),
-            _ => {
-                let (image, offset) = (&mut self.image.lent()[0], &mut self.offset.lent()[0]);
-                calls::view(ssd, hdd, table, record, block, image, offset)
-            }
+            "view" => calls::view(ssd, hdd, table, record, block, image, offset),
+            "write back" => calls::write_back(ssd, hdd, table, record, block, image, offset),
+            "flush" => calls::flush(ssd, hdd, table, record, image, offset),
+            _ => calls::label(ssd, &mut self.slots.lent()[0], &mut self.blocks.lent()[0]),
         }
     }
 }

@@ -7,6 +7,7 @@ mod lent;
 
 use cases::random::Random;
 use cases::rig::Rig;
+use cases::stored::{label, label_page};
 use ferjulm::{Geometry, PAGE};
 use input::{boxes, full, late, Input};
 use kinds::{Kind, KINDS};
@@ -40,19 +41,22 @@ fn check(kind: &Kind, input: &Input) -> u32 {
     assert!(kind.results.contains(&result), "{name} gave {result}");
     let allowed = changes.iter().all(|part| kind.changes.contains(part));
     assert!(allowed, "{name} changed {changes:?}");
-    assert!(
-        lent.pages_changed(&before) <= 1,
-        "{name} stored more than a page"
-    );
-    check_set(name, result, &mut lent, input);
+    check_slot(name, result, &mut lent);
+    check_place(kind, result, &mut lent, &before, input);
     check_fits(kind, &mut lent, input);
     result
 }
 
 /// What must have held of a call that is done: lengths, phase and block number. The box that a reopening found is in the
-/// record that it made.
+/// record that it made. A label that was read is that of a page of a text, whatever else is lent.
 fn check_fits(kind: &Kind, lent: &mut Lent, input: &Input) {
     let name = kind.name;
+    if name == "label" {
+        let (slots, blocks) = (lent.slots.lent()[0], lent.blocks.lent()[0]);
+        let text = label(Geometry { slots, blocks });
+        assert!(input.ssd[..PAGE] == label_page(&text), "label: {text}");
+        return;
+    }
     let record = lent.record.lent();
     let (slots, blocks) = (record[0], record[1]);
     let geometry = Geometry { slots, blocks };
@@ -76,24 +80,45 @@ fn check_fits(kind: &Kind, lent: &mut Lent, input: &Input) {
     );
 }
 
-/// The out-parameters of a call that is done: a slot where the answer carries one, a page that lies in its image.
-fn check_set(name: &str, result: u32, lent: &mut Lent, input: &Input) {
+/// A slot is set where the answer carries one, and nowhere else.
+fn check_slot(name: &str, result: u32, lent: &mut Lent) {
     let slot = lent.slot.lent()[0];
     let carries = [101, 104].contains(&result);
     assert!(
         carries == (slot != UNSET),
         "{name} gave {result} and slot {slot}"
     );
-    if name == "view" {
-        let image = lent.image.lent()[0];
-        assert!([1, 2].contains(&image), "view gave image {image}");
-        let of = if image == 1 { &input.ssd } else { &input.hdd };
-        let offset = lent.offset.lent()[0] as usize;
+}
+
+/// The page that a call names lies in its image, and no other was changed; it names one exactly where its answer says so, and
+/// a call that stores nothing changes none.
+fn check_place(kind: &Kind, result: u32, lent: &mut Lent, before: &Lent, input: &Input) {
+    let name = kind.name;
+    let changed = lent.pages_changed(before);
+    let (image, offset) = (lent.image.lent()[0], lent.offset.lent()[0]);
+    if kind.stores() {
+        let stores = ![102, 106].contains(&result);
+        assert!(stores == (image != 0), "{name}: {result}, image {image}");
         assert!(
-            offset % PAGE == 0 && offset + PAGE <= of.len(),
-            "view gave {offset}"
+            changed.iter().all(|&page| page == (image, offset)),
+            "{name} named {offset} in image {image} and changed {changed:?}"
         );
+    } else {
+        assert!(changed.is_empty(), "{name} changed {changed:?}");
+        let set = image != UNSET || offset != UNSET as u64;
+        assert_eq!(set, name == "view", "{name} named {offset}");
     }
+    let length = match image {
+        0 => return assert_eq!(offset, 0, "{name}: nothing stored, and where"),
+        1 => input.ssd.len(),
+        2 => input.hdd.len(),
+        _ => return assert!(image == UNSET && !kind.changes.contains(&"place")),
+    };
+    let offset = offset as usize;
+    assert!(
+        offset % PAGE == 0 && offset + PAGE <= length,
+        "{name} gave {offset}"
+    );
 }
 
 #[test]
@@ -122,7 +147,7 @@ fn any_input_is_refused_or_served_within() {
             input.slots = random.of(&[0, 1, 4, 5, 240, 57_600, 57_601, u32::MAX]);
             input.blocks = random.of(&[0, 1, 8, 16_777_216, 16_777_217, u32::MAX]);
         }
-        let kind = &KINDS[random.below(11) as usize];
+        let kind = &KINDS[random.below(KINDS.len() as u32) as usize];
         *counts.entry((kind.name, check(kind, &input))).or_default() += 1;
     }
     for kind in &KINDS {
@@ -140,12 +165,19 @@ fn any_input_is_refused_or_served_within() {
 #[test]
 fn nothing_lent() {
     type Empty = fn(&mut Input);
-    let empties: [(Empty, [u32; 11]); 5] = [
-        (|input| input.record.clear(), [3; 11]),
-        (|input| input.ssd.clear(), [4, 4, 2, 4, 4, 4, 4, 4, 4, 4, 4]),
-        (|input| input.hdd.clear(), [4; 11]),
-        (|input| input.table.clear(), [4; 11]),
-        (clear_all, [3, 3, 2, 3, 3, 3, 3, 3, 3, 3, 3]),
+    const FOUR: [u32; 12] = [4, 4, 4, 4, 4, 4, 4, 4, 4, 4, 4, 0];
+    let empties: [(Empty, [u32; 12]); 5] = [
+        (
+            |input| input.record.clear(),
+            [3, 3, 3, 3, 3, 3, 3, 3, 3, 3, 3, 0],
+        ),
+        (
+            |input| input.ssd.clear(),
+            [4, 4, 2, 4, 4, 4, 4, 4, 4, 4, 4, 2],
+        ),
+        (|input| input.hdd.clear(), FOUR),
+        (|input| input.table.clear(), FOUR),
+        (clear_all, [3, 3, 2, 3, 3, 3, 3, 3, 3, 3, 3, 2]),
     ];
     for (empty, numbers) in empties {
         let mut input = Input::of(Rig::formatted(SMALL), SMALL);
@@ -185,7 +217,7 @@ fn words_that_are_no_record() {
         input.record[at] = word;
         let judging = KINDS
             .iter()
-            .filter(|kind| !["format", "reopen"].contains(&kind.name));
+            .filter(|kind| !["format", "reopen", "label"].contains(&kind.name));
         for kind in judging {
             assert_eq!(
                 check(kind, &input),

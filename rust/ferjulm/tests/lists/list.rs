@@ -2,9 +2,9 @@
 
 use cases::beside::Beside;
 use cases::random::Random;
-use cases::rig::{Call, Said};
+use cases::rig::{Answer, Call, Said};
 use cases::stored::{page, LANDED_PAGES};
-use ferjulm::{Answer, Block, Geometry, PAGE};
+use ferjulm::{Block, Geometry, PAGE};
 use std::collections::{BTreeMap, BTreeSet};
 
 /// How often each call is made, in hundredths: offer, land, fetch, land a fetch, look up, view, write back, flush; the rest

@@ -1,0 +1,144 @@
+//! Calls as values, and what they say.
+
+use crate::stored::named;
+use ferjulm::{Block, Fetched, Found, Geometry, Offered, Place, Refusal, Saved, Slot};
+
+/// A call with its arguments.
+#[derive(Clone, Debug, PartialEq)]
+pub enum Call {
+    Format(Geometry),
+    Step,
+    Reopen,
+    Offer(Block),
+    Land(Block, Vec<u8>),
+    Fetch(Block),
+    LandFetch(Block),
+    LookUp(Block),
+    View(Block),
+    WriteBack(Block),
+    Flush,
+}
+
+impl Call {
+    /// The call of a text: its name, then its numbers (`look up 5`, `format 4 8`), then the name of the page to be landed
+    /// (`land 5 A`).
+    pub fn of(text: &str) -> Self {
+        let at = text.find(char::is_numeric).unwrap_or(text.len());
+        let (name, arguments) = text.split_at(at);
+        let arguments: Vec<&str> = arguments.split(' ').collect();
+        let number = |at: usize| arguments[at].parse().expect("a number");
+        let block = || Block(number(0));
+        match name.trim_end() {
+            "format" => Call::Format(Geometry {
+                slots: number(0),
+                blocks: number(1),
+            }),
+            "step" => Call::Step,
+            "reopen" => Call::Reopen,
+            "offer" => Call::Offer(block()),
+            "land" => Call::Land(block(), named(arguments[1])),
+            "fetch" => Call::Fetch(block()),
+            "land fetch" => Call::LandFetch(block()),
+            "look up" => Call::LookUp(block()),
+            "view" => Call::View(block()),
+            "write back" => Call::WriteBack(block()),
+            "flush" => Call::Flush,
+            _ => panic!("no call: {text}"),
+        }
+    }
+}
+
+/// The answer of any call, in document 01's words.
+#[derive(Clone, Copy, Debug, PartialEq, Eq)]
+pub enum Answer {
+    /// Where document 01 names no answer.
+    Done,
+    Announced(Slot),
+    Overwrite,
+    CopiedOut,
+    InSlot(Slot),
+    OnDisk,
+    NothingToDo,
+}
+
+/// What a call says.
+pub type Said = Result<Answer, Refusal>;
+
+/// What came of a call: what it says, and the page that it names as stored.
+#[derive(Clone, Copy, Debug, PartialEq, Eq)]
+pub struct Made {
+    pub said: Said,
+    pub stored: Option<Place>,
+}
+
+impl From<Refusal> for Made {
+    fn from(refusal: Refusal) -> Self {
+        Made {
+            said: Err(refusal),
+            stored: None,
+        }
+    }
+}
+
+/// A call that was not refused.
+fn made(answer: Answer, stored: Option<Place>) -> Made {
+    let said = Ok(answer);
+    Made { said, stored }
+}
+
+/// A call that stores nothing.
+impl From<()> for Made {
+    fn from((): ()) -> Self {
+        made(Answer::Done, None)
+    }
+}
+
+/// A call that always stores.
+impl From<Place> for Made {
+    fn from(stored: Place) -> Self {
+        made(Answer::Done, Some(stored))
+    }
+}
+
+impl From<Offered> for Made {
+    fn from(offered: Offered) -> Self {
+        let answer = match offered {
+            Offered::Announced { slot, .. } => Answer::Announced(slot),
+            Offered::Overwrite => Answer::Overwrite,
+            Offered::CopiedOut { .. } => Answer::CopiedOut,
+            other => panic!("no case has {other:?}"),
+        };
+        made(answer, offered.stored())
+    }
+}
+
+impl From<Fetched> for Made {
+    fn from(fetched: Fetched) -> Self {
+        let answer = match fetched {
+            Fetched::Announced { slot, .. } => Answer::Announced(slot),
+            Fetched::CopiedOut { .. } => Answer::CopiedOut,
+        };
+        made(answer, fetched.stored())
+    }
+}
+
+impl From<Found> for Made {
+    fn from(found: Found) -> Self {
+        let answer = match found {
+            Found::InSlot(slot) => Answer::InSlot(slot),
+            Found::OnDisk => Answer::OnDisk,
+            other => panic!("no case has {other:?}"),
+        };
+        made(answer, None)
+    }
+}
+
+impl From<Saved> for Made {
+    fn from(saved: Saved) -> Self {
+        let answer = match saved {
+            Saved::Stored(_) => Answer::Done,
+            Saved::NothingToDo => Answer::NothingToDo,
+        };
+        made(answer, saved.stored())
+    }
+}
