@@ -96,9 +96,9 @@ enum {
  *      rows is judged at reopen only, elsewhere its lowest slot counts
  *   6  wrong phase: step when ready, anything else before
  *   7  block number too high
- *   8  offer, fetch, write back: the block's slot is open
+ *   8  offer, write back: the block's slot is open; fetch: it is open for writing
  *   9  land: the block is neither open for writing nor dirty; land a fetch: not open for fetch
- *  10  fetch: the block has a slot
+ *  10  fetch: the block is cached and not open, or is being fetched already: wait for its landing
  *  11  a fetch, or an offer of a block that isn't dirty, while 63 are open
  *  12  a slot must be swept for, all are open
  *  13  the call would store metadata, and too few stamps are left

@@ -141,6 +141,6 @@ module _ (ssd hdd t : List ℕ) (r : Record) (b : Block) where
   offer-judges = record { begins = serves-reasons; chain-is = refl; number-is = refl }
 
   pub fetch-judges : Judges (fetch b) (boxOf ssd hdd t r) (servesThen (length ssd) (length hdd) 4096 t r b 0)
-      (slotOpen ∷ hasSlot ∷ windowFull ∷ allOpen ∷ stampsSpent ∷ [])
+      (hasSlot ∷ slotOpen ∷ windowFull ∷ allOpen ∷ stampsSpent ∷ [])
   unfolding numbers test soundThen lengthTest lengthsTest
   fetch-judges = record { begins = serves-reasons; chain-is = refl; number-is = refl }

@@ -21,7 +21,7 @@ use Rattle.protocol.specs.declared.Condition.the-variants.{NotCached, Cl
 use Rattle.protocol.specs.Reply.{Reply, announced, copiedOut}
 use Rattle.protocol.specs.Rows.{rowFlags, setFlags, dirty, writing, used, withoutUsed, eachRow, allWriting}
 use Rattle.protocol.specs.Box.{Box}
-use Rattle.protocol.specs.Condition.{conditionOf, isOpen, isCached}
+use Rattle.protocol.specs.Condition.{conditionOf, isOpen, isCached, isWriting, hasOther}
 use Rattle.protocol.specs.Sweep.{nextSlot, Victim, sweepFrom, sweep}
 use Rattle.protocol.specs.Plan.{Call, offer, fetch, takesAs, takes, sweeps, offering, fetching, plan}
 use Rattle.protocol.specs.Perform.{confirmed, perform}
@@ -248,15 +248,16 @@ module _ (b : Block) (x : Box) where
 
   fetched : judged (fetch b) x ≡ none → FetchAnswer (resultOf (fetch b) x .said)
   unfolding plan test perform confirmed
-  fetched e = rw (said-plan (fetch b) x e) (go (conditionOf (x .table) b) (passed (fetch b) x e hasSlot refl) (passed (fetch b) x e allOpen refl))
+  fetched e = rw (said-plan (fetch b) x e) (go (conditionOf (x .table) b) (passed (fetch b) x e hasSlot refl) (passed (fetch b) x e slotOpen refl)
+      (passed (fetch b) x e allOpen refl))
     where
-      go : (z : Condition) → isCached z ≡ false → (not (isCached z) && allWriting (x .table)) ≡ false
+      go : (z : Condition) → hasOther z ≡ false → isWriting z ≡ false → (not (isCached z) && allWriting (x .table)) ≡ false
           → FetchAnswer (perform (fetching x b z) x .said)
-      go NotCached o a = swept-answer x (service-legal (fetch b) x refl e) a FetchAnswer fetch-announced fetch-copied b 5
-      go (Clean s) o a = clash {b = true} refl o
-      go (Dirty s) o a = clash {b = true} refl o
-      go (Writing s) o a = clash {b = true} refl o
-      go (Fetching s) o a = clash {b = true} refl o
+      go NotCached o w a = swept-answer x (service-legal (fetch b) x refl e) a FetchAnswer fetch-announced fetch-copied b 5
+      go (Clean s) o w a = clash {b = true} refl o
+      go (Dirty s) o w a = clash {b = true} refl o
+      go (Writing s) o w a = clash {b = true} refl w
+      go (Fetching s) o w a = clash {b = true} refl o
 
 pub answers : (b : Block) (x : Box) → Answers b x
 answers b x = record { of-offer = λ f. offered b x (none-of (offer b) x f); of-fetch = λ f. fetched b x (none-of (fetch b) x f) }

@@ -53,6 +53,22 @@ isCached (Dirty s) = true
 isCached (Writing s) = true
 isCached (Fetching s) = true
 
+-- a fetch's 8: open for writing
+abbrev pub isWriting : Condition → Bool
+isWriting NotCached = false
+isWriting (Clean s) = false
+isWriting (Dirty s) = false
+isWriting (Writing s) = true
+isWriting (Fetching s) = false
+
+-- 10: "open for fetch or cached and not open" (document 02, N9)
+abbrev pub hasOther : Condition → Bool
+hasOther NotCached = false
+hasOther (Clean s) = true
+hasOther (Dirty s) = true
+hasOther (Writing s) = false
+hasOther (Fetching s) = true
+
 -- "open for writing, or dirty and not open"
 abbrev pub takesWrite : Condition → Bool
 takesWrite NotCached = false

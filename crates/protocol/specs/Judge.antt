@@ -1,4 +1,5 @@
--- Why a call says no: one test for each number of document 01's table, and each call's chain of them, "Least number first".
+-- Why a call says no: one test for each number of document 01's table, and each call's chain of them, "Least number first", but for a
+-- fetch's 10, which comes before 8 (document 02, N9).
 use Prim.Native.Nat.{ℕ, _-_, _%_}
 use mathlib.Core.Bool.{Bool, true, false, not, _&&_, _||_}
 use mathlib.Core.List.{List, [], _∷_, _++_}
@@ -23,7 +24,7 @@ use Rattle.record.specs.Window.{eachSlot}
 use Rattle.record.specs.Record.{largestStamp, labelIn, windowIn}
 use Rattle.record.specs.Rule.{recordTest}
 use Rattle.protocol.specs.Box.{Images, Box}
-use Rattle.protocol.specs.Condition.{conditionOf, isOpen, isCached, takesWrite, takesFetch}
+use Rattle.protocol.specs.Condition.{conditionOf, isOpen, isCached, isWriting, hasOther, takesWrite, takesFetch}
 use Rattle.protocol.specs.Plan.{Call, format, step, flush, reopen, offer, fetch, landFetch, lookUp, view, writeBack, land, plan, storesMeta}
 use Rattle.protocol.specs.Kinds.{Purpose, toServe, toSettle, toWrite, toFetch, toLandFetch, toLand, Kind, aFormat, aReopening, aStep, aService, kind, aim}
 use Rattle.protocol.specs.Recovery.{labelAt, metasOf, pagesTest}
@@ -120,6 +121,15 @@ phaseTest aReopening p = true
 phaseTest aStep p = not (isReady p)
 phaseTest (aService a) p = isReady p
 
+-- 8: "offer, fetch, write back: the block's slot is open"; of a fetch only "open for writing" (document 02, N9)
+abbrev pub openTest : Purpose → Condition → Bool
+openTest toServe k = isOpen k
+openTest toSettle k = isOpen k
+openTest toWrite k = isOpen k
+openTest toFetch k = isWriting k
+openTest toLandFetch k = isOpen k
+openTest (toLand page) k = isOpen k
+
 -- 9: "land: block in neither state named; land a fetch: not open for fetch"
 abbrev pub stateTest : Purpose → Condition → Bool
 stateTest toServe k = true
@@ -156,9 +166,9 @@ test wrongLength c x = not (lengthTest (labelFor (kind c) x) (x .images) (x .tab
 test badRows c x = not (contentsTest (kind c) x)
 test wrongPhase c x = not (phaseTest (kind c) (x .state .phase))
 test blockTooHigh c x = leb (x .state .label .blocks) (aim c .block .0)
-test slotOpen c x = isOpen (conditionOf (x .table) (aim c .block))
+test slotOpen c x = openTest (aim c .purpose) (conditionOf (x .table) (aim c .block))
 test wrongState c x = not (stateTest (aim c .purpose) (conditionOf (x .table) (aim c .block)))
-test hasSlot c x = isCached (conditionOf (x .table) (aim c .block))
+test hasSlot c x = hasOther (conditionOf (x .table) (aim c .block))
 test windowFull c x = opensAnother (aim c .purpose) (conditionOf (x .table) (aim c .block)) && leb windowMost (openRows (x .table))
 test allOpen c x = not (isCached (conditionOf (x .table) (aim c .block))) && allWriting (x .table)
 test stampsSpent c x = storesMeta (plan c x) && leb (stampBound (aim c .purpose)) (x .state .newest)
@@ -177,7 +187,7 @@ askedThen reopen = []
 askedThen step = stampsSpent ∷ []
 askedThen flush = stampsSpent ∷ []
 askedThen (offer b) = blockTooHigh ∷ slotOpen ∷ windowFull ∷ allOpen ∷ stampsSpent ∷ []
-askedThen (fetch b) = blockTooHigh ∷ slotOpen ∷ hasSlot ∷ windowFull ∷ allOpen ∷ stampsSpent ∷ []
+askedThen (fetch b) = blockTooHigh ∷ hasSlot ∷ slotOpen ∷ windowFull ∷ allOpen ∷ stampsSpent ∷ []
 askedThen (landFetch b) = blockTooHigh ∷ wrongState ∷ []
 askedThen (lookUp b) = blockTooHigh ∷ []
 askedThen (view b) = blockTooHigh ∷ []

@@ -125,6 +125,15 @@ TooHigh b x = x .state .label .blocks ≤ b .0
 abbrev pub SlotOpen : Block → Box → Type 0
 SlotOpen b x = (s : SlotOf (x .table) b) × (writing (rowFlags (x .table) (s .slot)) ≡ true)
 
+-- of a fetch (document 02, N9): 8 "if it is open for writing"; 10 "if the block is open for fetch or cached and not open"
+abbrev pub OpenForWriting : Block → Box → Type 0
+OpenForWriting b x =
+    (s : SlotOf (x .table) b) × (writing (rowFlags (x .table) (s .slot)) ≡ true) × (dirty (rowFlags (x .table) (s .slot)) ≡ true)
+
+abbrev pub HasOther : Block → Box → Type 0
+HasOther b x =
+    (s : SlotOf (x .table) b) × ((writing (rowFlags (x .table) (s .slot)) ≡ false) ⊎ (dirty (rowFlags (x .table) (s .slot)) ≡ false))
+
 -- 9: land: neither open for writing nor dirty; land a fetch: not open for fetch
 abbrev pub NotToLand : Block → Box → Type 0
 NotToLand b x = ((s : SlotOf (x .table) b) × (dirty (rowFlags (x .table) (s .slot)) ≡ true)) → ⊥
@@ -156,8 +165,8 @@ Why (offer b) x =
     (3, BadRecord x) ∷ (4, BadLengths x) ∷ (5, BadRows x) ∷ (6, NotReady x) ∷ (7, TooHigh b x) ∷ (8, SlotOpen b x)
     ∷ (11, NotDirty b x × Open 63 (x .table)) ∷ (12, AllOpen b x) ∷ (13, Spent 4294967232 (offer b) x) ∷ []
 Why (fetch b) x =
-    (3, BadRecord x) ∷ (4, BadLengths x) ∷ (5, BadRows x) ∷ (6, NotReady x) ∷ (7, TooHigh b x) ∷ (8, SlotOpen b x)
-    ∷ (10, SlotOf (x .table) b) ∷ (11, Open 63 (x .table)) ∷ (12, AllOpen b x) ∷ (13, Spent 4294967232 (fetch b) x) ∷ []
+    (3, BadRecord x) ∷ (4, BadLengths x) ∷ (5, BadRows x) ∷ (6, NotReady x) ∷ (7, TooHigh b x) ∷ (10, HasOther b x)
+    ∷ (8, OpenForWriting b x) ∷ (11, Open 63 (x .table)) ∷ (12, AllOpen b x) ∷ (13, Spent 4294967232 (fetch b) x) ∷ []
 Why (landFetch b) x =
     (3, BadRecord x) ∷ (4, BadLengths x) ∷ (5, BadRows x) ∷ (6, NotReady x) ∷ (7, TooHigh b x) ∷ (9, NotToFetch b x) ∷ []
 Why (lookUp b) x = (3, BadRecord x) ∷ (4, BadLengths x) ∷ (5, BadRows x) ∷ (6, NotReady x) ∷ (7, TooHigh b x) ∷ []
@@ -178,10 +187,10 @@ abbrev pub NoneWhy : List (ℕ × Type 0) → Type 0
 NoneWhy [] = Unit {0}
 NoneWhy (w ∷ ws) = (w .1 → ⊥) × NoneWhy ws
 
--- the order of judging. Document 02 puts numbers between these (the first of them, 14, between 6 and 7), so it is a list of its
--- own, and every call's numbers are some of these in this order
+-- the order of judging: by number, but for 10 before 8 (document 02, N9). Document 02 puts more numbers between these (the first of
+-- them, 14, between 6 and 7), so it is a list of its own, and every call's numbers are some of these in this order
 abbrev pub turns : List ℕ
-turns = 1 ∷ 2 ∷ 3 ∷ 4 ∷ 5 ∷ 6 ∷ 7 ∷ 8 ∷ 9 ∷ 10 ∷ 11 ∷ 12 ∷ 13 ∷ []
+turns = 1 ∷ 2 ∷ 3 ∷ 4 ∷ 5 ∷ 6 ∷ 7 ∷ 10 ∷ 8 ∷ 9 ∷ 11 ∷ 12 ∷ 13 ∷ []
 
 unfoldable pub inTurn : List ℕ → List (ℕ × Type 0) → Bool
 inTurn [] [] = true

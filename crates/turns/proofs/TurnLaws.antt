@@ -22,7 +22,7 @@ use Rattle.protocol.specs.declared.Condition.the-variants.{NotCached, Clean, Di
 use Rattle.protocol.specs.Reply.{overwrite, copiedOut}
 use Rattle.protocol.specs.Rows.{rowFlags, dirty, withWriting, openRows, allWriting}
 use Rattle.protocol.specs.Box.{Box, refusing}
-use Rattle.protocol.specs.Condition.{conditionOf, isOpen, isCached}
+use Rattle.protocol.specs.Condition.{conditionOf, isOpen, isCached, isWriting, hasOther}
 use Rattle.protocol.specs.Sweep.{nextSlot}
 use Rattle.protocol.specs.Kinds.{toWrite, toFetch}
 use Rattle.protocol.specs.Plan.{Call, Move, offer, fetch, stay, opens, copies, takesAs, takes, sweeps, offering, fetching, storesMeta, plan}
@@ -217,18 +217,18 @@ module _ (ssd hdd t : List ℕ) (r : Record) (b : Block) (z : servesThen (length
   unfolding test plan
   fetch-turned = go (conditionOf t b) refl
     where
-      asked : judged (fetch b) x ≡ firstOf (slotOpen ∷ hasSlot ∷ windowFull ∷ allOpen ∷ stampsSpent ∷ []) (λ q. test q (fetch b) x)
+      asked : judged (fetch b) x ≡ firstOf (hasSlot ∷ slotOpen ∷ windowFull ∷ allOpen ∷ stampsSpent ∷ []) (λ q. test q (fetch b) x)
       asked = judged-on (fetch b) x _ _ (fetch-judges ssd hdd t r b) z
 
       go : (k : Condition) → conditionOf t b ≡ k → effectOf (fetch b) x ≡ turned (fetchTurn t r k) b x
       go NotCached e = sweeping (fetch b) x b 5 size R low
-          (asked ∙ first-no _ slotOpen _ (ap isOpen e) ∙ first-no _ hasSlot _ (ap isCached e))
+          (asked ∙ first-no _ hasSlot _ (ap hasOther e) ∙ first-no _ slotOpen _ (ap isWriting e))
           (ap (λ (k : Condition). opensAnother toFetch k && leb 63 (openRows t)) e)
           (ap (λ (k : Condition). not (isCached k) && allWriting t) e) refl (ap (fetching x b) e)
-      go (Clean s) e = refuses (fetch b) x hasSlot (asked ∙ first-no _ slotOpen _ (ap isOpen e) ∙ first-yes _ hasSlot _ (ap isCached e))
-      go (Dirty s) e = refuses (fetch b) x hasSlot (asked ∙ first-no _ slotOpen _ (ap isOpen e) ∙ first-yes _ hasSlot _ (ap isCached e))
-      go (Writing s) e = refuses (fetch b) x slotOpen (asked ∙ first-yes _ slotOpen _ (ap isOpen e))
-      go (Fetching s) e = refuses (fetch b) x slotOpen (asked ∙ first-yes _ slotOpen _ (ap isOpen e))
+      go (Clean s) e = refuses (fetch b) x hasSlot (asked ∙ first-yes _ hasSlot _ (ap hasOther e))
+      go (Dirty s) e = refuses (fetch b) x hasSlot (asked ∙ first-yes _ hasSlot _ (ap hasOther e))
+      go (Writing s) e = refuses (fetch b) x slotOpen (asked ∙ first-no _ hasSlot _ (ap hasOther e) ∙ first-yes _ slotOpen _ (ap isWriting e))
+      go (Fetching s) e = refuses (fetch b) x hasSlot (asked ∙ first-yes _ hasSlot _ (ap hasOther e))
 
   -- and it can be performed
   room : (T : Turn) → (leb 63 (openRows t) ≡ false → Performable T t r) → Performable (ifRoom t T) t r

@@ -77,7 +77,7 @@ fetchTurn table r NotCached = sweepTurn table r 5
 fetchTurn table r (Clean s) = Refused (numberOf hasSlot)
 fetchTurn table r (Dirty s) = Refused (numberOf hasSlot)
 fetchTurn table r (Writing s) = Refused (numberOf slotOpen)
-fetchTurn table r (Fetching s) = Refused (numberOf slotOpen)
+fetchTurn table r (Fetching s) = Refused (numberOf hasSlot)
 
 -- a turn that leaves everything as it is, and is no refusal
 abbrev pub isPass : Turn → Bool

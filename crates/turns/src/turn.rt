@@ -105,6 +105,6 @@ pub fn fetch(table: &[u32], state: Record, condition: Condition, writing: u32) -
         Condition::Clean(_) => Turn::Refused(10),
         Condition::Dirty(_) => Turn::Refused(10),
         Condition::Writing(_) => Turn::Refused(8),
-        Condition::Fetching(_) => Turn::Refused(8),
+        Condition::Fetching(_) => Turn::Refused(10),
     }
 }

@@ -26,6 +26,7 @@ pub fn lines() -> Vec<String> {
         number_6(),
         number_7(),
         numbers_8_to_10(),
+        fetched_twice(),
         number_12(),
         number_13(),
         least_first(),
@@ -194,6 +195,13 @@ fn numbers_8_to_10() -> Vec<String> {
     small("8, 9 and 10: the block's slot")
         .run("offer 5, offer 5, fetch 5, write back 5, land 3 A, land fetch 3, land fetch 5, land 5 A")
         .run("fetch 5, write back 5, fetch 5, land 5 B")
+        .lines
+}
+
+/// Document 02, N9: two readers of one block. The second is told 10 and waits for the landing; an offer or a write back meanwhile is 8.
+fn fetched_twice() -> Vec<String> {
+    small("a block that is being fetched")
+        .run("fetch 5, fetch 5, offer 5, write back 5, land fetch 5, look up 5, fetch 5, offer 5, fetch 5")
         .lines
 }
 

@@ -142,7 +142,7 @@ impl<'a> Cache<'a> {
     /// Fetches a block that is not cached: announced, then land the fetch; or copied out, then fetch again.
     ///
     /// # Errors
-    /// 3 to 6, 7 (the block), 8 (its slot is open), 10 (it has a slot), 11, 12 (no slot to be had) and 13 (stamps).
+    /// 3 to 6, 7 (the block), 8 (it is open for writing), 10 (it is cached, or being fetched), 11, 12 (no slot to be had) and 13 (stamps).
     pub fn fetch(&mut self, block: Block) -> Result<Fetched, Refusal> {
         let mut out = Out::default();
         let code = call!(self.fetch(block.0, &mut out.slot, &mut out.image, &mut out.offset));

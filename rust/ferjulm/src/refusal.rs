@@ -33,7 +33,7 @@ pub enum Lent {
     Table,
 }
 
-/// Document 01's conditions by number from 1; 5, 9, 11 and 13 are shortened.
+/// The conditions of documents 01 and 02 by number from 1; 5, 9, 11 and 13 are shortened.
 const REASONS: [&str; 13] = [
     "format: slots or blocks outside the limits",
     "reopen: SSD under a page, or first page no legal label",
@@ -42,9 +42,9 @@ const REASONS: [&str; 13] = [
     "a metadata page (reopen) or table row (others) breaks its rule, or rows, window and phase don't agree",
     "wrong phase: step when ready, anything else before",
     "block number too high",
-    "offer, fetch, write back: the block's slot is open",
+    "offer, write back: the block's slot is open; fetch: it is open for writing",
     "land: block neither open for writing nor dirty; land a fetch: not open for fetch",
-    "fetch: the block has a slot",
+    "fetch: the block is cached and not open, or open for fetch already",
     "a fetch, or an offer of a block that isn't dirty, while 63 are open",
     "a slot must be swept for, all are open",
     "this call would store metadata, and too few stamps are left",

@@ -299,7 +299,7 @@ call-refusals =
     ∷ refusesBy 7 (offer (record { 0 = 2 })) (boxed (0 ∷ 0 ∷ []) (settledAt 0))
     -- the block's slot is open
     ∷ refusesBy 8 (offer (record { 0 = 0 })) (boxed (0 ∷ 7 ∷ []) (openAt 1))
-    ∷ refusesBy 8 (fetch (record { 0 = 0 })) (boxed (0 ∷ 5 ∷ []) (openAt 1))
+    ∷ refusesBy 8 (fetch (record { 0 = 0 })) (boxed (0 ∷ 7 ∷ []) (openAt 1))
     ∷ refusesBy 8 (writeBack (record { 0 = 0 })) (boxed (0 ∷ 15 ∷ []) (openAt 1))
     -- land 1, uncached; landed on a clean row, and on one open for fetch; a fetch landed on a write
     ∷ refusesBy 9 (land (record { 0 = 1 }) (filled 9)) (boxed (0 ∷ 0 ∷ []) (settledAt 0))
@@ -308,6 +308,9 @@ call-refusals =
     ∷ refusesBy 9 (landFetch (record { 0 = 0 })) (boxed (0 ∷ 7 ∷ []) (openAt 1))
     -- fetch 0 when cached
     ∷ refusesBy 10 (fetch (record { 0 = 0 })) (boxed (0 ∷ 3 ∷ []) (settledAt 1))
+    -- it is being fetched (document 02, N9)
+    ∷ refusesBy 10 (fetch (record { 0 = 0 })) (boxed (0 ∷ 5 ∷ []) (openAt 1))
+    ∷ refusesBy 10 (fetch (record { 0 = 0 })) (boxed (0 ∷ 13 ∷ []) (openAt 1))
     -- the second offer on one slot
     ∷ refusesBy 12 (offer (record { 0 = 1 })) (boxed (0 ∷ 7 ∷ []) (openAt 1))
     -- the last stamps
@@ -395,6 +398,8 @@ Call-refusals : AllHold call-refusals
 unfolding known textOf
 Call-refusals =
     Row-refusals first counted _ _ _ _ refl refl
+    also counted _ _ _ _ refl refl
+    also counted _ _ _ _ refl refl
     also counted _ _ _ _ refl refl
     also counted _ _ _ _ refl refl
     also counted _ _ _ _ refl refl

@@ -26,7 +26,7 @@ use Rattle.protocol.proofs.why.Basics.{none-same, and-same, is-same}
 use Rattle.protocol.proofs.why.Records.{label-same, lengths-same, land-lengths-same}
 use Rattle.protocol.proofs.why.RowsRules.{each-same, rows-same}
 use Rattle.protocol.proofs.why.PagesRules.{pages-same}
-use Rattle.protocol.proofs.why.Slots.{cached-same, open-same, write-same, fetch-same, clean-same}
+use Rattle.protocol.proofs.why.Slots.{cached-same, open-same, write-same, fetch-same, clean-same, writing-same, other-same}
 use Rattle.protocol.proofs.why.Counted.{count-same}
 
 -- tests in their order say numbers and conditions in theirs
@@ -91,8 +91,8 @@ same (offer b) x =
     record-asked x ▸ lengths-asked x ▸ rows-asked x ▸ phase-asked x ▸ high-asked x b ▸ open-asked x b
     ▸ and-same (clean-same (x .table) b) (count-same 63 (x .table)) ▸ all-asked x b ▸ stamps-asked x 4294967232 (offer b) ▸ end
 same (fetch b) x =
-    record-asked x ▸ lengths-asked x ▸ rows-asked x ▸ phase-asked x ▸ high-asked x b ▸ open-asked x b
-    ▸ cached-same (x .table) b ▸ count-same 63 (x .table) ▸ all-asked x b ▸ stamps-asked x 4294967232 (fetch b) ▸ end
+    record-asked x ▸ lengths-asked x ▸ rows-asked x ▸ phase-asked x ▸ high-asked x b ▸ other-same (x .table) b
+    ▸ writing-same (x .table) b ▸ count-same 63 (x .table) ▸ all-asked x b ▸ stamps-asked x 4294967232 (fetch b) ▸ end
 same (landFetch b) x =
     record-asked x ▸ lengths-asked x ▸ rows-asked x ▸ phase-asked x ▸ high-asked x b ▸ none-same (fetch-same (x .table) b) ▸ end
 same (lookUp b) x = record-asked x ▸ lengths-asked x ▸ rows-asked x ▸ phase-asked x ▸ high-asked x b ▸ end

@@ -1,7 +1,8 @@
 -- 8 to 12: a block's slot, and what its condition says of it.
 use Prim.Native.Nat.{ℕ, _<_}
 use mathlib.Core.Path.{_≡_, refl, sym, ap, _∙_}
-use mathlib.Core.Bool.{Bool, true, false, not, _&&_}
+use mathlib.Core.Bool.{Bool, true, false, not, _&&_, _||_, or-true}
+use mathlib.Core.Logic.{_⊎_, inl, inr}
 use mathlib.Core.List.{List}
 use mathlib.Core.Option.{Option, some}
 use native.Mathlib.Omega.{arith}
@@ -10,12 +11,12 @@ use native.Mathlib.Decide.{decLt}
 use Rattle.layout.specs.declared.Slot.{Slot}
 use Rattle.layout.specs.declared.Block.{Block}
 use borrow.Author.Tests.{not-true}
-use Rattle.layout.proofs.Booleans.{Told, told, told-true, told-false, clash, and-of, and-parts, not-of}
+use Rattle.layout.proofs.Booleans.{Told, told, told-true, told-false, clash, and-of, and-parts, or-cases, not-of}
 use Rattle.layout.proofs.RuleLaws.{_⇔_}
 use Rattle.protocol.specs.declared.Condition.{Condition}
 use Rattle.protocol.specs.declared.Condition.the-variants.{NotCached}
 use Rattle.protocol.specs.Rows.{rowFlags, dirty, writing}
-use Rattle.protocol.specs.Condition.{openAs, closedAs, conditionAt, conditionOf, isOpen, isCached, takesWrite, takesFetch}
+use Rattle.protocol.specs.Condition.{openAs, closedAs, conditionAt, conditionOf, isOpen, isCached, isWriting, hasOther, takesWrite, takesFetch}
 use Rattle.protocol.specs.Why.{SlotOf}
 use Rattle.protocol.proofs.refine.Conditions.{Located, at, nowhere, located}
 use Rattle.protocol.proofs.why.Basics.{none-same, via}
@@ -95,6 +96,28 @@ module _ (table : List ℕ) (b : Block) where
       via (flags-same table b takesFetch (λ w d. w && not d) refl (four _ (λ s. refl) (λ s. refl) (λ s. refl) (λ s. refl)))
       (λ h. let p = and-parts _ _ (h .1) in (h .0, p .0, not-true _ (p .1)))
       (λ h. (h .0, and-of (h .1) (not-of _ (h .2))))
+
+  -- of a fetch
+  pub writing-same : isWriting (conditionOf table b) ⇔
+      ((s : SlotOf table b) × (writing (rowFlags table (s .slot)) ≡ true) × (dirty (rowFlags table (s .slot)) ≡ true))
+  writing-same =
+      via (flags-same table b isWriting (λ w d. w && d) refl (four _ (λ s. refl) (λ s. refl) (λ s. refl) (λ s. refl)))
+      (λ h. let p = and-parts _ _ (h .1) in (h .0, p .0, p .1))
+      (λ h. (h .0, and-of (h .1) (h .2)))
+
+  pub other-same : hasOther (conditionOf table b) ⇔
+      ((s : SlotOf table b) × ((writing (rowFlags table (s .slot)) ≡ false) ⊎ (dirty (rowFlags table (s .slot)) ≡ false)))
+  other-same =
+      via (flags-same table b hasOther (λ w d. not w || not d) refl (four _ (λ s. refl) (λ s. refl) (λ s. refl) (λ s. refl)))
+      (λ h. (h .0, either (or-cases _ _ (h .1)))) (λ h. (h .0, neither (h .1)))
+    where
+      either : {w d : Bool} → (not w ≡ true) ⊎ (not d ≡ true) → (w ≡ false) ⊎ (d ≡ false)
+      either (inl e) = inl (not-true _ e)
+      either (inr e) = inr (not-true _ e)
+
+      neither : {w d : Bool} → (w ≡ false) ⊎ (d ≡ false) → (not w || not d) ≡ true
+      neither (inl e) = rw e
+      neither {w} (inr e) = rw e (or-true (not w))
 
   -- no slot of it is dirty
   pub clean-same : not (takesWrite (conditionOf table b)) ⇔ ((s : SlotOf table b) → dirty (rowFlags table (s .slot)) ≡ false)

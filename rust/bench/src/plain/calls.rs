@@ -42,7 +42,7 @@ pub fn fetch(w: &mut World, block: u32) -> Answer {
     let judged = serves(w, PAGE, Some(block))?;
     match judged.at {
         None => sweep_for(w, judged, block, 5),
-        Some(slot) if flags_at(w, slot) / 4 % 2 == 1 => Err(8),
+        Some(slot) if flags_at(w, slot) / 2 % 4 == 3 => Err(8),
         Some(_) => Err(10),
     }
 }

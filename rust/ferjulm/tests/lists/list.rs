@@ -32,6 +32,8 @@ pub struct Counts {
     /// Reopenings with so many metadata pages to store.
     pub recovered: [u32; 4],
     pub refused: BTreeMap<u32, u32>,
+    /// Fetches of a block that was open for writing, open for fetch, cached and not open.
+    pub fetched_again: [u32; 3],
 }
 
 /// A list in the making.
@@ -159,9 +161,32 @@ impl<'a> List<'a> {
         }
     }
 
+    /// Which of `fetched_again` a fetch of a ready box will be, and the number that refuses it: 8 where the block is open for
+    /// writing, else 10 (document 02, N9).
+    fn fetched_again(&self, call: &Call) -> Option<(usize, u32)> {
+        let Call::Fetch(block) = call else {
+            return None;
+        };
+        let slot = self.b.rig.slot_of(*block).filter(|_| self.b.rig.ready())?;
+        match self.b.rig.table[2 * slot.0 as usize + 1] & 6 {
+            6 => Some((0, 8)),
+            4 => Some((1, 10)),
+            _ => Some((2, 10)),
+        }
+    }
+
     fn make(&mut self, call: Call) {
         self.counts.events += 1;
+        let again = self.fetched_again(&call);
         let said = self.b.make(&call);
+        if let Some((which, number)) = again {
+            assert_eq!(
+                said.map_err(|refusal| refusal.number()),
+                Err(number),
+                "{call:?}"
+            );
+            self.counts.fetched_again[which] += 1;
+        }
         match said {
             Ok(Answer::CopiedOut) => self.counts.copied_out += 1,
             Ok(_) => {}

@@ -59,6 +59,11 @@ fn random_lists_beside_the_plain_disk() {
         all.recovered.iter().all(|&count| count >= 10),
         "too few over several pages"
     );
+    println!(
+        "fetched again: {} open for writing, {} open for fetch, {} not open",
+        all.fetched_again[0], all.fetched_again[1], all.fetched_again[2]
+    );
+    assert!(all.fetched_again.iter().all(|&count| count > 0));
     for number in [1, 4, 6, 7, 8, 9, 10, 11, 12] {
         assert!(
             all.refused.contains_key(&number),
