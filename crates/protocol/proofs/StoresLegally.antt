@@ -1,4 +1,4 @@
--- Every metadata page that an accepted call stores keeps the page's rule, and says table, window and stamp.
+-- Every page that a call stores is 4,096 bytes; every metadata page among them keeps the page's rule, and says table, window and stamp.
 use Prim.Native.Nat.{ℕ, zero, suc, _+_, _^_, _<_}
 use mathlib.Core.Path.{_≡_, refl, sym, ap, subst, _∙_}
 use mathlib.Core.Logic.{_≢_}
@@ -10,13 +10,15 @@ use lib.ListN.{length}
 use lib.Dec.{leb}
 use borrow.Author.Tests.{leb-false}
 use Rattle.pages.specs.Pages.{IsPage}
+use Rattle.pages.proofs.PageLaws.{length-page, length-zero}
 use Rattle.layout.specs.declared.Slot.{Slot}
 use Rattle.layout.specs.declared.Block.{Block}
 use Rattle.layout.specs.declared.Label.{Label}
-use Rattle.layout.specs.Places.{Limits, metaPages, metaPlace, metaOf, tableLength}
+use Rattle.layout.specs.Places.{Limits, metaPages, metaPlace, dataPlace, blockPlace, metaOf, tableLength}
 use Rattle.layout.specs.LabelPage.{encodeLabel}
 use Rattle.layout.specs.MetaPage.{encodeMeta, rowsOn}
 use Rattle.layout.specs.PageRule.{PageRule}
+use Rattle.layout.proofs.LabelLaws.{length-encode}
 use Rattle.layout.proofs.RuleLaws.{page-rule}
 use Rattle.record.specs.declared.Record.{Record}
 use Rattle.record.specs.declared.Phase.{Phase}
@@ -69,14 +71,18 @@ meta-stored l K table size R t fits w W z p ph r st wi = record {
 -- what is asked of an effect
 abbrev Stores : Label → Phase → Effect → Type 0
 Stores l ph e =
-    (s : Store) → e .store ≡ some s → s .image ≡ ssdImage → (p : ℕ) → p < metaPages l → s .place ≡ metaPlace l p
-    → MetaStored l p (s .bytes) ph (e .state) (e .table)
+    (s : Store) → e .store ≡ some s
+    → (length (s .bytes) ≡ 4096)
+    × (s .image ≡ ssdImage → (p : ℕ) → p < metaPages l → s .place ≡ metaPlace l p → MetaStored l p (s .bytes) ph (e .state) (e .table))
 
 no-store : {A : Type 0} {s : Store} → none ≡ some s → A
 no-store {s = s} q = absurd (Option·none-ne-some s q)
 
 the-store : {s t : Store} → some s ≡ some t → s ≡ t
 the-store {s} {t} q = Option·some-injective s t q
+
+sized : {s t : Store} → s ≡ t → length (s .bytes) ≡ 4096 → length (t .bytes) ≡ 4096
+sized q n = ap (λ (u : Store). length (u .bytes)) (sym q) ∙ n
 
 -- a store on the HDD is none on the SSD
 isSsd : Image → Bool
@@ -92,16 +98,22 @@ hdd-not q i = clash {b = true} refl (sym (ap isSsd (ap (λ (t : Store). t .image
 one-store : (l : Label) (ph : Phase) (e : Effect) (q : ℕ) (bytes : List ℕ)
     → e .store ≡ some (record { image = ssdImage; place = metaPlace l q; bytes = bytes }) → MetaStored l q bytes ph (e .state) (e .table)
     → Stores l ph e
-one-store l ph e q bytes f M s g i p h pl =
-    let same : record { image = ssdImage; place = metaPlace l q; bytes = bytes } ≡ s = the-store (sym f ∙ g) in
-    let n : q ≡ p = let k : metaPlace l q ≡ metaPlace l p = ap (λ (t : Store). t .place) same ∙ pl in omega arith in
-    subst (λ (m : ℕ). MetaStored l m (s .bytes) ph (e .state) (e .table)) n
-    (subst (λ (t : Store). MetaStored l q (t .bytes) ph (e .state) (e .table)) same M)
+one-store l ph e q bytes f M s g = (sized same (M .is-page .size), at)
+  where
+    same : record { image = ssdImage; place = metaPlace l q; bytes = bytes } ≡ s
+    same = the-store (sym f ∙ g)
+
+    at : s .image ≡ ssdImage → (p : ℕ) → p < metaPages l → s .place ≡ metaPlace l p → MetaStored l p (s .bytes) ph (e .state) (e .table)
+    at i p h pl =
+        let n : q ≡ p = let k : metaPlace l q ≡ metaPlace l p = ap (λ (t : Store). t .place) same ∙ pl in omega arith in
+        subst (λ (m : ℕ). MetaStored l m (s .bytes) ph (e .state) (e .table)) n
+        (subst (λ (t : Store). MetaStored l q (t .bytes) ph (e .state) (e .table)) same M)
 
 -- an effect that stores elsewhere
-elsewhere : (l : Label) (ph : Phase) (e : Effect) (u : Store) → e .store ≡ some u → ((p : ℕ) → p < metaPages l → u .place ≢ metaPlace l p)
-    → Stores l ph e
-elsewhere l ph e u f n s g i p h pl = absurd (n p h (ap (λ (t : Store). t .place) (the-store (sym f ∙ g)) ∙ pl))
+elsewhere : (l : Label) (ph : Phase) (e : Effect) (u : Store) → e .store ≡ some u → length (u .bytes) ≡ 4096
+    → ((p : ℕ) → p < metaPages l → u .place ≢ metaPlace l p) → Stores l ph e
+elsewhere l ph e u f z n s g =
+    (sized (the-store (sym f ∙ g)) z, λ i p h pl. absurd (n p h (ap (λ (t : Store). t .place) (the-store (sym f ∙ g)) ∙ pl)))
 
 -- not formatting
 data Serving : Phase → Type 0 where
@@ -134,16 +146,17 @@ confirmed-stores l K r e table size R n W ph v q said =
     go recovering = refl
 
 -- data pages
-lands-elsewhere : (l : Label) (ph : Phase) (s : Slot) (d : List ℕ) (x : Box) → labelIn (x .state) ≡ l → Stores l ph (perform (lands s d) x)
+lands-elsewhere : (l : Label) (ph : Phase) (s : Slot) (d : List ℕ) (x : Box) → labelIn (x .state) ≡ l → length d ≡ 4096
+    → Stores l ph (perform (lands s d) x)
 unfolding perform
-lands-elsewhere l ph s d x e = go (writing (rowFlags (x .table) s))
+lands-elsewhere l ph s d x e z = go (writing (rowFlags (x .table) s))
   where
     past : (p : ℕ) → p < metaPages l → 1 + metaPages (labelIn (x .state)) + s .0 ≢ metaPlace l p
     past p h q = omega (arith, ap metaPages e)
 
     go : (o : Bool) → Stores l ph (landedAs o s d x)
-    go true = elsewhere l ph (landedAs true s d x) _ refl past
-    go false = elsewhere l ph (landedAs false s d x) _ refl past
+    go true = elsewhere l ph (landedAs true s d x) _ refl z past
+    go false = elsewhere l ph (landedAs false s d x) _ refl z past
 
 -- a legal box that is ready
 module _ (x : Box) (L : Legal x) (on : x .state .phase ≡ Ready) where
@@ -174,9 +187,11 @@ module _ (x : Box) (L : Legal x) (on : x .state .phase ≡ Ready) where
   does-stores (does-nothing z n) = λ s g. no-store g
   does-stores (does-use z H) = λ s g. no-store g
   does-stores (does-open z O) = opens-stores O
-  does-stores (does-copy z n C) = λ s g i. hdd-not (the-store g) i
-  does-stores (does-land H bl d size) = lands-elsewhere lab (x .state .phase) _ _ x refl
-  does-stores (does-fetch z H bl w) = lands-elsewhere lab (x .state .phase) _ _ x refl
+  does-stores (does-copy {s = s} z n C) =
+      λ t g. (sized (the-store g) (length-page (x .images .ssd) (dataPlace lab s) (omega (arith, L .ssd-size, C .low))), λ i. hdd-not (the-store g) i)
+  does-stores (does-land H bl d size) = lands-elsewhere lab (x .state .phase) _ _ x refl size
+  does-stores (does-fetch {b = b} z H bl w) =
+      lands-elsewhere lab (x .state .phase) _ _ x refl (length-page (x .images .hdd) (blockPlace lab b) (omega (arith, L .hdd-size, bl)))
   does-stores (does-rest n u) = λ s g. no-store g
   does-stores (does-confirm u n) =
       confirmed-stores lab (L .limits) (x .state) refl (x .table) (S .size) (S .legal) n (S .rule) (x .state .phase) serving 0 done
@@ -223,7 +238,7 @@ module _ (x : Box) (L : Legal x) where
 
   formats-stores : (d : ℕ) → x .state .phase ≡ Formatting d → Stores (labelIn (x .state)) (x .state .phase) (perform (formats d) x)
   unfolding perform
-  formats-stores zero on = elsewhere (labelIn (x .state)) (x .state .phase) (perform (formats 0) x) _ refl (λ p h q. omega arith)
+  formats-stores zero on = elsewhere (labelIn (x .state)) (x .state .phase) (perform (formats 0) x) _ refl length-zero (λ p h q. omega arith)
   formats-stores (suc q) on = go (told (leb (metaPages (labelIn (x .state))) q))
     where
       meta : MetaStored (labelIn (x .state)) q (encodeMeta 0 (windowIn (x .state)) (rowsOn q (x .table))) (x .state .phase)
@@ -235,7 +250,8 @@ module _ (x : Box) (L : Legal x) where
 
       go : Told (leb (metaPages (labelIn (x .state))) q) → Stores (labelIn (x .state)) (x .state .phase) (perform (formats (suc q)) x)
       go (told-true e) = elsewhere (labelIn (x .state)) (x .state .phase) (perform (formats (suc q)) x)
-          (record { image = ssdImage; place = 0; bytes = encodeLabel (labelIn (x .state)) }) (rw (formatStore, e)) (λ p h z. omega arith)
+          (record { image = ssdImage; place = 0; bytes = encodeLabel (labelIn (x .state)) }) (rw (formatStore, e))
+          (length-encode (labelIn (x .state))) (λ p h z. omega arith)
       go (told-false e) = one-store (labelIn (x .state)) (x .state .phase) (perform (formats (suc q)) x) q _ (rw (formatStore, e)) meta
 
   step-stores : (ph : Phase) → x .state .phase ≡ ph → (storesMeta (stepping (x .state) ph) && leb largestStamp (x .state .newest)) ≡ false
@@ -255,6 +271,15 @@ made-stores (is-service {c} k does) x e = does-stores x (service-legal c x k e) 
 
 pub stores-legally : (c : Call) (x : Box) → StoresLegally c x
 unfolding effectOf
-stores-legally c x r =
+stores-legally c x r s g =
     let e = none-of c x r in
-    subst (λ (o : Option Reason). Stores (labelIn (x .state)) (x .state .phase) (decided o c x)) (sym e) (made-stores (sorted c) x e)
+    subst (λ (o : Option Reason). Stores (labelIn (x .state)) (x .state .phase) (decided o c x)) (sym e) (made-stores (sorted c) x e) s g .1
+
+-- a refused call stores nothing, so this is of any call
+pub stores-whole : (c : Call) (x : Box) (s : Store) → effectOf c x .store ≡ some s → length (s .bytes) ≡ 4096
+unfolding effectOf
+stores-whole c x s = by-reason (judged c x) refl
+  where
+    by-reason : (o : Option Reason) → judged c x ≡ o → decided o c x .store ≡ some s → length (s .bytes) ≡ 4096
+    by-reason (some r) e g = no-store g
+    by-reason none e g = made-stores (sorted c) x e s g .0

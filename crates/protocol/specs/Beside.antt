@@ -5,6 +5,7 @@ use mathlib.Core.Logic.{_≢_, _⊎_}
 use mathlib.Core.Bool.{true, false}
 use mathlib.Core.List.{List}
 use mathlib.Core.Option.{Option, some, none}
+use lib.ListN.{length}
 use Rattle.pages.specs.Pages.{pageAt, putPage, zeroPage, IsPage}
 use Rattle.pages.specs.Parts.{Part}
 use Rattle.layout.specs.declared.Slot.{Slot}
@@ -49,6 +50,7 @@ WholeFormat = (slots blocks : ℕ) (x : Box) → refused (resultOf (format slots
 -- of them are.
 pub record OnePage (before after : List ℕ) (i : ℕ) : Type 0 where
   pub bytes : List ℕ
+  pub size : length bytes ≡ 4096
   pub stored : after ≡ putPage before i bytes
 
 pub record StoresThere (c : Call) (x : Box) : Type 0 where
