@@ -9,6 +9,7 @@ use lib.Dec.{eqb}
 use Rattle.layout.specs.declared.Block.{Block}
 use Rattle.protocol.specs.Box.{Box}
 use Rattle.protocol.specs.Plan.{Call, format, step, flush, reopen, offer, fetch, landFetch, lookUp, view, writeBack, land}
+use Rattle.protocol.specs.Kinds.{Kind, aFormat, aReopening, aStep, aService, kind}
 use Rattle.protocol.specs.Calls.{boxOf}
 use Rattle.protocol.specs.ReferenceDisk.{Disk}
 use Rattle.protocol.specs.Events.{World, call, run}
@@ -44,18 +45,14 @@ cRun [] k = k
 cRun (c ∷ cs) k = cRun cs (cMade c k)
 
 -- the calls that get past the words: a format or a reopening with any 71, any other call with words that are a record
+abbrev pub reachesBy : Kind → List ℕ → Bool
+reachesBy (aFormat l) words = eqb (length words) recordWords
+reachesBy aReopening words = eqb (length words) recordWords
+reachesBy aStep words = isRecord words
+reachesBy (aService a) words = isRecord words
+
 abbrev pub reaches : Call → List ℕ → Bool
-reaches (format slots blocks) words = eqb (length words) recordWords
-reaches step words = isRecord words
-reaches flush words = isRecord words
-reaches reopen words = eqb (length words) recordWords
-reaches (offer b) words = isRecord words
-reaches (fetch b) words = isRecord words
-reaches (landFetch b) words = isRecord words
-reaches (lookUp b) words = isRecord words
-reaches (view b) words = isRecord words
-reaches (writeBack b) words = isRecord words
-reaches (land b page) words = isRecord words
+reaches c words = reachesBy (kind c) words
 
 abbrev pub withIf : Bool → Call → List Call → List Call
 withIf true c cs = c ∷ cs
