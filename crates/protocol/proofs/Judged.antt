@@ -14,7 +14,7 @@ use Rattle.protocol.specs.Kinds.{Kind, kind}
 use Rattle.protocol.specs.Judge.{Reason, numberOf, test, askedFirst, askedThen, chain, firstOf, judged}
 use Rattle.protocol.specs.Calls.{decided, effectOf, resultOf}
 use Rattle.protocol.proofs.Reasons.{number-is, belongs}
-use Rattle.protocol.proofs.cases.Edges as computed-first
+use Rattle.protocol.proofs.cases.Scripts as computed-first
 use Rattle.protocol.proofs.cases.Rejected as rejected-first
 use Rattle.protocol.proofs.cases.Disk as disk-first
 use Rattle.protocol.proofs.why.Same as stated-first

@@ -3,8 +3,11 @@ pub mod Report
 pub mod Quick
 pub mod QuickRows
 pub mod Known
+pub mod Case
+pub mod Moves
+pub mod TwoPages
+pub mod Refusals
 pub mod Cases
+pub mod Scripts
 pub mod Rejected
-pub mod Shown
-pub mod Edges
 pub mod Disk

@@ -1,4 +1,4 @@
--- From bytes to the model: what each move on images, table and record is in it.
+-- From bytes to the model: windows, flags, rows and entries, and what is counted and swept for.
 pub mod Windows
 pub mod Flags
 pub mod Tables
@@ -7,12 +7,4 @@ pub mod Metas
 pub mod Counting
 pub mod Sweeps
 pub mod Abstract
-pub mod Stores
-pub mod Performed
-pub mod ReadyCalls
 pub mod Entries
-pub mod Reopens
-pub mod Passes
-pub mod Views
-pub mod MendingCalls
-pub mod Formatting

@@ -1,4 +1,4 @@
-// The declared types of the box. What every call does is said in specs/, and demand 3 is proved about it in proofs/.
+// The declared types of the box. What every call does is said in specs/, and crate theorem proves demand 3 of it.
 use layout::Block;
 use layout::Slot;
 use record::Record;

@@ -1,81 +1,29 @@
 -- Document 01's proved table of cases, P1 to P10: one table, and one statement that all of it holds.
-use Prim.Native.Nat.{ℕ, _+_, _*_}
+use Prim.Native.Nat.{ℕ, _+_}
 use mathlib.Core.Path.{_≡_, refl, ap, _∙_}
-use mathlib.Core.Bool.{Bool, true, false}
+use mathlib.Core.Bool.{false}
 use mathlib.Core.List.{List, [], _∷_}
-use mathlib.Core.Option.{Option, some}
+use mathlib.Core.Option.{some}
 use lib.ListN.{length, replicate}
 use Rattle.layout.specs.declared.Block.{Block}
 use Rattle.layout.specs.declared.Label.{Label}
-use Rattle.layout.specs.Places.{labelOf, metaPages, ssdLength, tableLength}
+use Rattle.layout.specs.Places.{labelOf, metaPages, ssdLength}
 use Rattle.record.specs.declared.Record.{Record}
 use Rattle.record.specs.declared.Phase.the-variants.{Formatting, Recovering, Ready}
 use Rattle.protocol.specs.Reply.{announced, copiedOut, inSlot, done}
 use Rattle.record.specs.Record.{recordOf}
-use Rattle.protocol.specs.Box.{Box, Effect, boxAfter}
-use Rattle.protocol.specs.Plan.{Call, format, step, flush, offer, land, fetch, landFetch, lookUp, plan}
-use Rattle.protocol.specs.Recovery.{Recovered, recoverFrom}
-use Rattle.protocol.specs.Perform.{perform}
-use Rattle.protocol.specs.Judge.{Reason, test}
-use Rattle.protocol.specs.Calls.{effectOf, resultOf}
+use Rattle.protocol.specs.Box.{Box, boxAfter}
+use Rattle.protocol.specs.Plan.{format, step, flush, offer, land, fetch, landFetch, lookUp}
+use Rattle.protocol.specs.Calls.{resultOf}
 use Rattle.protocol.specs.Events.{World, Event, call, called, run, steps, formatted, startOf}
 use Rattle.protocol.proofs.cases.Report.{nothing, label, meta, slot, block, Line, line, Report, report, diskOf, lost, unformatted, start, filled, metaPage, labelPage, pages}
-use Rattle.protocol.proofs.cases.Known.{Sized, known, known-shows}
+use Rattle.protocol.proofs.cases.Known.{Sized, known}
 use Rattle.protocol.proofs.cases.QuickRows.{walked, bothWalked, quickTest, quickRecover, quick-recover}
-
--- A script and what it shows, from where it begins, with the blocks that are read at its end.
-pub record Script : Type 0 where
-  pub sizes : Label
-  pub world : World
-  pub events : List Event
-  pub asked : List Block
-  pub wanted : Report
-
-abbrev pub scripted : Label → World → List Event → List Block → Report → Script
-scripted l w es bs wanted = record { sizes = l; world = w; events = es; asked = bs; wanted = wanted }
-
--- A case: a script; the bytes of the SSD image after some events; metadata pages, and what a reopening makes of them; a call, and
--- its effect on a box; its move alone, for which lengths do not matter; whether a refusal's condition holds.
-pub data Case : Type 0 where
-  script : Script → Case
-  bytes : World → List Event → ℕ → Case
-  recovery : Label → List (List ℕ) → Option Recovered → Case
-  effect move : Call → Box → Effect → Case
-  condition : Reason → Call → Box → Bool → Case
-
-abbrev pub Holds : Case → Type 0
-Holds (script p) = report (p .sizes) (p .events) (p .asked) (p .world) ≡ p .wanted
-Holds (bytes w es wanted) = length (run es w .box .images .ssd) ≡ wanted
-Holds (recovery l metas wanted) = recoverFrom l metas ≡ wanted
-Holds (effect c x wanted) = effectOf c x ≡ wanted
-Holds (move c x wanted) = perform (plan c x) x ≡ wanted
-Holds (condition r c x wanted) = test r c x ≡ wanted
-
-abbrev pub AllHold : List Case → Type 0
-AllHold [] = Unit {0}
-AllHold (c ∷ cs) = Holds c × AllHold cs
-
--- the proof of a case before those of the rest
-infixr 20 _also_
-abbrev pub _also_ : {A B : Type 0} → A → B → A × B
-a also b = (a, b)
-
--- a case that is computed only where the one before it holds: a wrong definition stops at the first case that shows it
-infixr 10 _first_
-abbrev pub _first_ : {A B : Type 0} → A → B → B
-a first b = b
-
--- "Slots 4, blocks 8 unless said"
-abbrev pub usual : Label
-usual = labelOf 4 8
-
--- "cache=lufuw", "layout=1", "slots=S", "blocks=B", each ended by byte 10, S and B being digits
-unfoldable pub textOf : ℕ → ℕ → List ℕ
-textOf s b =
-    99 ∷ 97 ∷ 99 ∷ 104 ∷ 101 ∷ 61 ∷ 108 ∷ 117 ∷ 102 ∷ 117 ∷ 119 ∷ 10
-    ∷ 108 ∷ 97 ∷ 121 ∷ 111 ∷ 117 ∷ 116 ∷ 61 ∷ 49 ∷ 10
-    ∷ 115 ∷ 108 ∷ 111 ∷ 116 ∷ 115 ∷ 61 ∷ s ∷ 10
-    ∷ 98 ∷ 108 ∷ 111 ∷ 99 ∷ 107 ∷ 115 ∷ 61 ∷ b ∷ 10 ∷ []
+use Rattle.protocol.proofs.cases.Report.{nothing, label, meta, slot, block, Line, line, Report, report, diskOf, lost, unformatted, start, filled, metaPage, labelPage, pages}
+use Rattle.protocol.proofs.cases.Known.{Sized, known}
+use Rattle.protocol.proofs.cases.QuickRows.{walked, bothWalked, quickTest, quickRecover, quick-recover}
+use Rattle.protocol.proofs.cases.Case.{Script, scripted, Case, Holds, AllHold, _also_, _first_, usual, one, two, many, textOf, fresh, Computed, shows, script, bytes, recovery}
+use Rattle.protocol.proofs.cases.Refusals.{sized-one, Refusals}
 
 -- P1 format stores 3 pages; SSD 24,576 bytes.
 abbrev pub formats : Label → List Event
@@ -219,9 +167,6 @@ p7 =
     (filled 7 ∷ []))
 
 -- P8 slots 1, blocks 2: offer 0, land, offer 1: copied out; again: slot 0.
-abbrev pub one : Label
-one = labelOf 1 2
-
 abbrev pub p8 : Script
 p8 =
     scripted one (start one)
@@ -247,9 +192,6 @@ p8 =
     })
 
 -- P9 slots 2, blocks 3: fetch and land 0 and 1, look up 0, offer 2: slot 1 taken, hand 0.
-abbrev pub two : Label
-two = labelOf 2 3
-
 abbrev pub p9 : Script
 p9 =
     scripted two (start two)
@@ -280,9 +222,6 @@ p9 =
 
 -- P10 slots 241, the metadata pages alone: page 0 has stamp 1, slot 0 alone in its window, entry 0 block 5 flags 7; page 1
 -- has stamp 2, slot 240 alone in its window, entry 240 block 6 flags 7; the rest zero. Reopening keeps 5 as dirty and drops 6.
-abbrev pub many : Label
-many = labelOf 241 8
-
 abbrev pub page₀ : List ℕ
 page₀ = metaPage (1 ∷ 0 ∷ 0 ∷ 0 ∷ 1 ∷ 0 ∷ []) (0 ∷ 0 ∷ 0 ∷ 0 ∷ []) (5 ∷ 0 ∷ 0 ∷ 0 ∷ 7 ∷ 0 ∷ 0 ∷ 0 ∷ [])
 
@@ -296,14 +235,6 @@ p10 =
       table = 5 ∷ 3 ∷ replicate 480 0;
       state = recordOf many (record { 0 = 0 }) 2 Recovering false (record { 0 = 240 } ∷ []);
     }))
-
--- What a format leaves, written out: the scripts are computed from there.
-abbrev pub fresh : Label → List ℕ → Box
-fresh l text = record {
-  images = record { ssd = pages (labelPage text ∷ filled 0 ∷ replicate (4096 * l .slots) 170 ∷ []); hdd = diskOf l };
-  table = replicate (tableLength l) 0;
-  state = recordOf l (record { 0 = 0 }) 0 Ready false [];
-}
 
 abbrev pub formatted-as : Label → List ℕ → Script
 formatted-as l text =
@@ -321,20 +252,17 @@ formatted-as l text =
       reads = [];
     })
 
--- A script is computed from a written-out box.
-abbrev pub Computed : Script → Box → Type 0
-Computed p x = known (p .sizes) (p .events) (p .asked) x ≡ record { shown = p .wanted; fine = true }
-
-pub shows : (p : Script) (x : Box) → p .world .box ≡ x → Sized (p .sizes) (x .images) → Computed p x → Holds (script p)
-shows p x e z h = known-shows (p .sizes) (p .events) (p .asked) (p .world) x (p .wanted) e z h
+computed-10 : Holds p10
+unfolding known walked bothWalked quickTest quickRecover
+computed-10 = Refusals first quick-recover 8 page₀ page₁ ∙ refl
 
 unformatted-usual : Sized usual (unformatted usual .images)
 unfolding known
-unformatted-usual = record { ssd-size = refl; hdd-size = refl }
+unformatted-usual = computed-10 first record { ssd-size = refl; hdd-size = refl }
 
 computed-1 : Computed p1 (unformatted usual)
 unfolding known textOf
-computed-1 = refl
+computed-1 = computed-10 first refl
 
 P1 : Holds (script p1)
 P1 = shows p1 (unformatted usual) refl unformatted-usual computed-1
@@ -349,7 +277,7 @@ box-after l es bs w = refl
 
 pub sized-usual : Sized usual (fresh usual (textOf 52 56) .images)
 unfolding known textOf
-sized-usual = record { ssd-size = refl; hdd-size = refl }
+sized-usual = computed-1 first record { ssd-size = refl; hdd-size = refl }
 
 ssd-bytes : ssdLength usual ≡ 24576
 unfolding metaPages
@@ -379,7 +307,7 @@ computed-one = computed-1 first refl
 
 unformatted-one : Sized one (unformatted one .images)
 unfolding known
-unformatted-one = record { ssd-size = refl; hdd-size = refl }
+unformatted-one = computed-1 first record { ssd-size = refl; hdd-size = refl }
 
 pub start-one : start one .box ≡ fresh one (textOf 49 50)
 unfolding metaPages
@@ -393,7 +321,7 @@ computed-two = computed-one first refl
 
 unformatted-two : Sized two (unformatted two .images)
 unfolding known
-unformatted-two = record { ssd-size = refl; hdd-size = refl }
+unformatted-two = computed-one first record { ssd-size = refl; hdd-size = refl }
 
 pub start-two : start two .box ≡ fresh two (textOf 50 51)
 unfolding metaPages
@@ -401,13 +329,9 @@ start-two =
     start-fresh two (textOf 50 51) refl
     (shows (formatted-as two (textOf 50 51)) (unformatted two) refl unformatted-two computed-two)
 
-pub sized-one : Sized one (fresh one (textOf 49 50) .images)
-unfolding known textOf
-sized-one = record { ssd-size = refl; hdd-size = refl }
-
 pub sized-two : Sized two (fresh two (textOf 50 51) .images)
 unfolding known textOf
-sized-two = record { ssd-size = refl; hdd-size = refl }
+sized-two = computed-two first record { ssd-size = refl; hdd-size = refl }
 
 computed-2 : Computed p2 (fresh usual (textOf 52 56))
 unfolding known textOf
@@ -437,13 +361,9 @@ computed-8 : Computed p8 (fresh one (textOf 49 50))
 unfolding known textOf
 computed-8 = computed-7 first refl
 
-computed-9 : Computed p9 (fresh two (textOf 50 51))
+pub computed-9 : Computed p9 (fresh two (textOf 50 51))
 unfolding known textOf
 computed-9 = computed-8 first refl
-
-pub computed-10 : Holds p10
-unfolding known walked bothWalked quickTest quickRecover
-computed-10 = computed-9 first quick-recover 8 page₀ page₁ ∙ refl
 
 usually : (p : Script) → p .world .box ≡ fresh usual (textOf 52 56) → Sized (p .sizes) (fresh usual (textOf 52 56) .images)
     → Computed p (fresh usual (textOf 52 56)) → Holds (script p)

@@ -31,7 +31,7 @@ use Rattle.protocol.specs.Events.{World, Memory, old, new, reopens, cut,
 use Rattle.protocol.specs.Demand3.{storedWindow, Outside, inWindow, place}
 use Rattle.protocol.proofs.cases.Report.{diskOf, filled, metaPage, pages}
 use Rattle.protocol.proofs.cases.Known.{known}
-use Rattle.protocol.proofs.cases.Cases.{two}
+use Rattle.protocol.proofs.cases.Case.{two}
 use Rattle.protocol.proofs.cases.Rejected as rejected-first
 
 -- a block's page is this, and its only content

@@ -28,7 +28,9 @@ use Rattle.protocol.specs.Events.{World, Event, call, readOf, mayFinish,
 use Rattle.protocol.specs.Demand3.{finishes, storedWindow, Place, slotSaid, place, own, Mends, Kept, Safe}
 use Rattle.protocol.proofs.cases.Report.{nothing, meta, Line, line, linesOf, Report, readsOf, report, lost, start, filled}
 use Rattle.protocol.proofs.cases.Known.{known}
-use Rattle.protocol.proofs.cases.Cases.{Script, scripted, Computed, shows, usual, one, textOf, fresh, sized-one, shown-3, shown-4}
+use Rattle.protocol.proofs.cases.Case.{Script, scripted, Computed, shows, usual, one, textOf, fresh}
+use Rattle.protocol.proofs.cases.Refusals.{sized-one}
+use Rattle.protocol.proofs.cases.Cases.{shown-3, shown-4}
 
 unfoldable pub five : Block
 five = record { 0 = 5 }

@@ -9,7 +9,7 @@ use lib.ListN.{length, length-append}
 use lib.Dec.{eqb, ltb}
 use borrow.Author.Tests.{eqb-true, not-true, lt-ltb, eq-eqb, ne-eqb}
 use Rattle.layout.proofs.Booleans.{Told, told, told-true, told-false, clash, and-parts, or-neither}
-use Rattle.protocol.proofs.cases.Edges as computed-first
+use Rattle.protocol.proofs.cases.Scripts as computed-first
 
 pub eqb-same : (n : ℕ) → eqb n n ≡ true
 eqb-same n = eq-eqb n n refl

@@ -17,7 +17,7 @@ use Rattle.protocol.specs.Perform.{confirmed, perform}
 use Rattle.protocol.specs.Judge.{judged}
 use Rattle.protocol.proofs.Does.{does-said}
 use Rattle.protocol.proofs.Sorted.{Sorted, is-format, is-reopen, is-step, is-service, sorted}
-use Rattle.protocol.proofs.cases.Edges as computed-first
+use Rattle.protocol.proofs.cases.Scripts as computed-first
 
 -- what a call does that no reason refuses is no refusal
 pub plan-answers : (c : Call) (x : Box) → judged c x ≡ none → refused (perform (plan c x) x .said) ≡ false

@@ -4,7 +4,7 @@ use mathlib.Core.Path.{_≡_, refl}
 use borrow.Author.Tests.{not-true}
 use Rattle.layout.proofs.Booleans.{Told, told, told-true, told-false, clash, and-of, and-parts, if-of, if-use, not-of}
 use Rattle.layout.proofs.RuleLaws.{_⇔_}
-use Rattle.protocol.proofs.cases.Edges as computed-first
+use Rattle.protocol.proofs.cases.Scripts as computed-first
 
 pub none-same : {t : Bool} {P : Type 0} → t ⇔ P → not t ⇔ (P → ⊥)
 none-same {t} {P} e = (λ h p. clash (e .1 p) (not-true t h), λ h. go (told t) h)

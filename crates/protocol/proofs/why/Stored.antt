@@ -12,7 +12,7 @@ use Rattle.record.specs.Record.{labelIn, windowIn}
 use Rattle.protocol.specs.Box.{Box, ssdImage, hddImage, Store}
 use Rattle.protocol.specs.Plan.{Move, stay, uses, opens, lands, copies, confirms, mends, begins, formats, recovers, storesMeta}
 use Rattle.protocol.specs.Perform.{confirmed, joined, mendedAt, formatStore, landedAs, perform}
-use Rattle.protocol.proofs.cases.Edges as computed-first
+use Rattle.protocol.proofs.cases.Scripts as computed-first
 
 -- a metadata page with the newest stamp plus 1; or nothing, a data page, a page of the disk, or a format's page
 pub data Stored (x : Box) : Bool → Option Store → Type 0 where

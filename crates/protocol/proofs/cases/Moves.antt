@@ -1,0 +1,133 @@
+-- Moves: what a call does where nothing refuses it. They need no whole image, so they are computed first: most wrong definitions stop
+-- here. The laws' first modules import the last of these files, so that all cases stand first in the log.
+use Prim.Native.Nat.{ℕ}
+use mathlib.Core.Path.{refl}
+use mathlib.Core.Bool.{Bool, true, false}
+use mathlib.Core.List.{List, [], _∷_}
+use mathlib.Core.Option.{none}
+use lib.ListN.{replicate}
+use Rattle.record.specs.declared.Phase.the-variants.{Formatting, Ready}
+use Rattle.protocol.specs.Reply.{announced, copiedOut, inSlot, done, onDisk, nothingToDo}
+use Rattle.record.specs.Record.{recordOf}
+use Rattle.protocol.specs.declared.Stored.the-variants.{Nothing, Ssd, Hdd}
+use Rattle.protocol.specs.Box.{Box, ssdImage, hddImage}
+use Rattle.protocol.specs.Plan.{step, flush, offer, land, fetch, landFetch, lookUp, writeBack}
+use Rattle.protocol.proofs.cases.Report.{diskOf, filled, metaPage, labelPage, pages}
+use Rattle.protocol.proofs.cases.Known.{known}
+use Rattle.layout.specs.declared.Slot.{Slot}
+use Rattle.record.specs.declared.Phase.{Phase}
+use Rattle.protocol.proofs.cases.Report.{diskOf, filled, metaPage, labelPage, pages}
+use Rattle.protocol.proofs.cases.Known.{known}
+use Rattle.protocol.proofs.cases.Case.{Case, names, AllHold, _first_, usual, two, textOf, imageless, leaving, stores, move}
+
+-- A box of two slots. The used flag (8) outlives an offer of a clean block,
+-- the landing and the writing back; neither that offer nor the writing back moves the hand, which is on slot 1.
+abbrev pub held : List ℕ → ℕ → Bool → List Slot → Box
+held table newest unconfirmed window = record {
+  images = record { ssd = pages (filled 1 ∷ filled 2 ∷ filled 3 ∷ filled 4 ∷ []); hdd = diskOf two };
+  table = table;
+  state = recordOf two (record { 0 = 1 }) newest Ready unconfirmed window;
+}
+
+abbrev pub moves : List Case
+moves =
+    move (lookUp (record { 0 = 1 })) (held (1 ∷ 1 ∷ 0 ∷ 0 ∷ []) 1 true [])
+    (leaving (inSlot (record { 0 = 0 })) none (held (1 ∷ 9 ∷ 0 ∷ 0 ∷ []) 1 true []))
+    ∷ move (lookUp (record { 0 = 0 })) (held (1 ∷ 1 ∷ 0 ∷ 0 ∷ []) 1 true []) (leaving onDisk none (held (1 ∷ 1 ∷ 0 ∷ 0 ∷ []) 1 true []))
+    ∷ move (offer (record { 0 = 1 })) (held (1 ∷ 9 ∷ 0 ∷ 0 ∷ []) 1 true [])
+    (leaving (announced (record { 0 = 0 }))
+    (stores ssdImage 1 (metaPage (2 ∷ 0 ∷ 0 ∷ 0 ∷ 1 ∷ 0 ∷ []) (0 ∷ 0 ∷ 0 ∷ 0 ∷ []) (1 ∷ 0 ∷ 0 ∷ 0 ∷ 7 ∷ 0 ∷ 0 ∷ 0 ∷ [])))
+    (held (1 ∷ 15 ∷ 0 ∷ 0 ∷ []) 2 false (record { 0 = 0 } ∷ [])))
+    ∷ move (land (record { 0 = 1 }) (filled 9)) (held (1 ∷ 15 ∷ 0 ∷ 0 ∷ []) 2 false (record { 0 = 0 } ∷ []))
+    (leaving done (stores ssdImage 2 (filled 9)) (held (1 ∷ 11 ∷ 0 ∷ 0 ∷ []) 2 true []))
+    ∷ move (land (record { 0 = 1 }) (filled 9)) (held (1 ∷ 11 ∷ 0 ∷ 0 ∷ []) 2 false [])
+    (leaving done (stores ssdImage 2 (filled 9)) (held (1 ∷ 11 ∷ 0 ∷ 0 ∷ []) 2 false []))
+    ∷ move (writeBack (record { 0 = 1 })) (held (1 ∷ 11 ∷ 0 ∷ 0 ∷ []) 2 true [])
+    (leaving done (stores hddImage 1 (filled 3)) (held (1 ∷ 9 ∷ 0 ∷ 0 ∷ []) 2 true []))
+    ∷ move (writeBack (record { 0 = 1 })) (held (1 ∷ 9 ∷ 0 ∷ 0 ∷ []) 2 true [])
+    (leaving nothingToDo none (held (1 ∷ 9 ∷ 0 ∷ 0 ∷ []) 2 true []))
+    ∷ move (writeBack (record { 0 = 0 })) (held (1 ∷ 11 ∷ 0 ∷ 0 ∷ []) 2 true [])
+    (leaving nothingToDo none (held (1 ∷ 11 ∷ 0 ∷ 0 ∷ []) 2 true []))
+    ∷ move flush (held (1 ∷ 11 ∷ 0 ∷ 0 ∷ []) 2 false []) (leaving nothingToDo none (held (1 ∷ 11 ∷ 0 ∷ 0 ∷ []) 2 false []))
+    -- a sweep of two used slots clears both flags, and takes the one under the hand; being dirty, it is copied out
+    ∷ move (fetch (record { 0 = 2 })) (held (1 ∷ 9 ∷ 0 ∷ 11 ∷ []) 2 false [])
+    (leaving copiedOut (stores hddImage 0 (filled 4)) (held (1 ∷ 1 ∷ 0 ∷ 1 ∷ []) 2 false []))
+    -- an open slot is passed with its used flag
+    ∷ move (fetch (record { 0 = 2 })) (held (1 ∷ 9 ∷ 0 ∷ 15 ∷ []) 2 false (record { 0 = 1 } ∷ []))
+    (leaving (announced (record { 0 = 0 }))
+    (stores ssdImage 1
+    (metaPage (3 ∷ 0 ∷ 0 ∷ 0 ∷ 2 ∷ 0 ∷ []) (1 ∷ 0 ∷ 0 ∷ 0 ∷ 0 ∷ 0 ∷ 0 ∷ 0 ∷ [])
+    (2 ∷ 0 ∷ 0 ∷ 0 ∷ 5 ∷ 0 ∷ 0 ∷ 0 ∷ 0 ∷ 0 ∷ 0 ∷ 0 ∷ 7 ∷ 0 ∷ 0 ∷ 0 ∷ [])))
+    (held (2 ∷ 5 ∷ 0 ∷ 15 ∷ []) 3 false (record { 0 = 1 } ∷ record { 0 = 0 } ∷ [])))
+    ∷ []
+
+-- Moves of a box of four slots, its images left out.
+abbrev pub four : List ℕ → ℕ → ℕ → Phase → Bool → List Slot → Box
+four table hand newest phase unconfirmed window =
+    imageless (record { table = table; state = recordOf usual (record { 0 = hand }) newest phase unconfirmed window })
+
+abbrev pub wide : List Case
+wide =
+    -- three slots are open, and the first or the second lands: the others stay, in their order
+    move (land (record { 0 = 5 }) (filled 9))
+    (four (5 ∷ 7 ∷ 6 ∷ 7 ∷ 7 ∷ 7 ∷ 0 ∷ 0 ∷ []) 3 3 Ready false (record { 0 = 0 } ∷ record { 0 = 1 } ∷ record { 0 = 2 } ∷ []))
+    (leaving done (stores ssdImage 2 (filled 9))
+    (four (5 ∷ 3 ∷ 6 ∷ 7 ∷ 7 ∷ 7 ∷ 0 ∷ 0 ∷ []) 3 3 Ready true (record { 0 = 1 } ∷ record { 0 = 2 } ∷ [])))
+    ∷ move (land (record { 0 = 6 }) (filled 9))
+    (four (5 ∷ 7 ∷ 6 ∷ 7 ∷ 7 ∷ 7 ∷ 0 ∷ 0 ∷ []) 3 3 Ready false (record { 0 = 0 } ∷ record { 0 = 1 } ∷ record { 0 = 2 } ∷ []))
+    (leaving done (stores ssdImage 3 (filled 9))
+    (four (5 ∷ 7 ∷ 6 ∷ 3 ∷ 7 ∷ 7 ∷ 0 ∷ 0 ∷ []) 3 3 Ready true (record { 0 = 0 } ∷ record { 0 = 2 } ∷ [])))
+    -- from the hand on slot 1, which is used, the sweep goes on to slot 2
+    ∷ move (fetch (record { 0 = 7 })) (four (3 ∷ 1 ∷ 4 ∷ 9 ∷ 6 ∷ 1 ∷ 0 ∷ 0 ∷ []) 1 2 Ready false [])
+    (leaving (announced (record { 0 = 2 }))
+    (stores ssdImage 1
+    (metaPage (3 ∷ 0 ∷ 0 ∷ 0 ∷ 1 ∷ 0 ∷ []) (2 ∷ 0 ∷ 0 ∷ 0 ∷ [])
+    (3 ∷ 0 ∷ 0 ∷ 0 ∷ 1 ∷ 0 ∷ 0 ∷ 0 ∷ 4 ∷ 0 ∷ 0 ∷ 0 ∷ 1 ∷ 0 ∷ 0 ∷ 0 ∷ 7 ∷ 0 ∷ 0 ∷ 0 ∷ 5 ∷ 0 ∷ 0 ∷ 0 ∷ [])))
+    (four (3 ∷ 1 ∷ 4 ∷ 1 ∷ 7 ∷ 5 ∷ 0 ∷ 0 ∷ []) 3 3 Ready false (record { 0 = 2 } ∷ [])))
+    -- a flush beside an open slot stores the window with it
+    ∷ move flush (four (5 ∷ 7 ∷ 6 ∷ 3 ∷ 0 ∷ 0 ∷ 0 ∷ 0 ∷ []) 2 2 Ready true (record { 0 = 0 } ∷ []))
+    (leaving done
+    (stores ssdImage 1
+    (metaPage (3 ∷ 0 ∷ 0 ∷ 0 ∷ 1 ∷ 0 ∷ []) (0 ∷ 0 ∷ 0 ∷ 0 ∷ [])
+    (5 ∷ 0 ∷ 0 ∷ 0 ∷ 7 ∷ 0 ∷ 0 ∷ 0 ∷ 6 ∷ 0 ∷ 0 ∷ 0 ∷ 3 ∷ 0 ∷ 0 ∷ 0 ∷ [])))
+    (four (5 ∷ 7 ∷ 6 ∷ 3 ∷ 0 ∷ 0 ∷ 0 ∷ 0 ∷ []) 2 3 Ready false (record { 0 = 0 } ∷ [])))
+    -- a format's last step sets hand 0, newest stamp 0 and settled, whatever they were
+    ∷ move step (four (replicate 8 0) 1 5 (Formatting 2) true [])
+    (leaving done (stores ssdImage 0 (labelPage (textOf 52 56))) (four (replicate 8 0) 0 0 Ready false []))
+    ∷ []
+
+-- Moves of a box of two slots: a second look-up leaves the used flag set, that of a dirty block sets it too; a fetch that lands sets
+-- unsettled.
+abbrev pub narrow : List Case
+narrow =
+    move (lookUp (record { 0 = 1 })) (held (1 ∷ 9 ∷ 0 ∷ 0 ∷ []) 1 true [])
+    (leaving (inSlot (record { 0 = 0 })) none (held (1 ∷ 9 ∷ 0 ∷ 0 ∷ []) 1 true []))
+    ∷ move (lookUp (record { 0 = 1 })) (held (1 ∷ 3 ∷ 0 ∷ 0 ∷ []) 1 true [])
+    (leaving (inSlot (record { 0 = 0 })) none (held (1 ∷ 11 ∷ 0 ∷ 0 ∷ []) 1 true []))
+    ∷ move (landFetch (record { 0 = 1 })) (held (1 ∷ 5 ∷ 0 ∷ 0 ∷ []) 2 false (record { 0 = 0 } ∷ []))
+    (leaving done (stores ssdImage 2 (filled 65)) (held (1 ∷ 1 ∷ 0 ∷ 0 ∷ []) 2 true []))
+    ∷ []
+
+-- the page that a call names is the one that it stores
+abbrev pub named : List Case
+named =
+    names (land (record { 0 = 1 }) (filled 9)) (held (1 ∷ 7 ∷ 0 ∷ 0 ∷ []) 2 false (record { 0 = 0 } ∷ [])) (Ssd 2)
+    ∷ names (writeBack (record { 0 = 1 })) (held (1 ∷ 3 ∷ 0 ∷ 0 ∷ []) 2 true []) (Hdd 1)
+    ∷ names (lookUp (record { 0 = 1 })) (held (1 ∷ 3 ∷ 0 ∷ 0 ∷ []) 2 true []) Nothing
+    ∷ []
+
+Moves : AllHold moves
+unfolding known
+Moves = (refl, (refl, (refl, (refl, (refl, (refl, (refl, (refl, (refl, (refl, (refl, tt)))))))))))
+
+Wide : AllHold wide
+unfolding known textOf
+Wide = Moves first (refl, (refl, (refl, (refl, (refl, tt)))))
+
+Narrow : AllHold narrow
+unfolding known
+Narrow = Wide first (refl, (refl, (refl, tt)))
+
+pub Named : AllHold named
+unfolding known
+Named = Narrow first (refl, (refl, (refl, tt)))

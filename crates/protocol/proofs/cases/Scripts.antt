@@ -1,0 +1,166 @@
+-- Further scripts: what P1 to P10 leave out of the calls, and cuts inside a call.
+use mathlib.Core.Path.{refl}
+use mathlib.Core.Bool.{false}
+use mathlib.Core.List.{List, [], _∷_}
+use Rattle.record.specs.declared.Phase.the-variants.{Recovering, Ready}
+use Rattle.protocol.specs.Reply.{announced, done, refusal, overwrite, onDisk}
+use Rattle.record.specs.Record.{recordOf}
+use Rattle.protocol.specs.Plan.{step, flush, offer, land, fetch, lookUp, view}
+use Rattle.protocol.specs.Events.{call, startOf, cut, old, new}
+use Rattle.protocol.proofs.cases.Report.{nothing, meta, slot, line, diskOf, lost, start, filled, metaPage, labelPage, pages, rubbish}
+use Rattle.protocol.proofs.cases.Known.{Sized, known}
+use Rattle.protocol.proofs.cases.Cases.{start-one, start-two, sized-two, computed-9}
+use Rattle.protocol.proofs.cases.Report.{nothing, meta, slot, line, diskOf, lost, start, filled, metaPage, labelPage, pages, rubbish}
+use Rattle.protocol.proofs.cases.Known.{Sized, known}
+use Rattle.protocol.proofs.cases.Case.{Script, scripted, Case, AllHold, _also_, _first_, one, two, textOf, fresh, Computed, shows, script}
+use Rattle.protocol.proofs.cases.Moves.{held}
+use Rattle.protocol.proofs.cases.Refusals.{sized-one}
+use Rattle.protocol.proofs.cases.Cases.{start-one, start-two, sized-two, computed-9}
+
+-- two open slots: an open slot is neither looked up nor viewed
+abbrev pub both-open : Script
+both-open =
+    scripted two (start two)
+    (call (offer (record { 0 = 2 })) ∷ call (fetch (record { 0 = 1 })) ∷ call (lookUp (record { 0 = 2 })) ∷ call
+    (lookUp (record { 0 = 1 })) ∷ [])
+    (record { 0 = 1 } ∷ record { 0 = 2 } ∷ [])
+    (record {
+      lines =
+          line (announced (record { 0 = 0 })) (meta 0) Ready
+          ∷ line (announced (record { 0 = 1 })) (meta 0) Ready
+          ∷ line onDisk nothing Ready
+          ∷ line onDisk nothing Ready ∷ [];
+      state = recordOf two (record { 0 = 0 }) 2 Ready false (record { 0 = 0 } ∷ record { 0 = 1 } ∷ []);
+      table = 2 ∷ 7 ∷ 1 ∷ 5 ∷ [];
+      ssd = pages (
+          labelPage (textOf 50 51)
+          ∷ metaPage (2 ∷ 0 ∷ 0 ∷ 0 ∷ 2 ∷ 0 ∷ []) (0 ∷ 0 ∷ 0 ∷ 0 ∷ 1 ∷ 0 ∷ 0 ∷ 0 ∷ [])
+          (2 ∷ 0 ∷ 0 ∷ 0 ∷ 7 ∷ 0 ∷ 0 ∷ 0 ∷ 1 ∷ 0 ∷ 0 ∷ 0 ∷ 5 ∷ 0 ∷ 0 ∷ 0 ∷ [])
+          ∷ filled 170 ∷ filled 170 ∷ []);
+      hdd = diskOf two;
+      reads = filled 65 ∷ filled 66 ∷ [];
+    })
+
+-- a dirty block is overwritten in its place and not announced: a cut keeps its flushed bytes
+abbrev pub overwritten : Script
+overwritten =
+    scripted one (start one)
+    (call (offer (record { 0 = 1 })) ∷ call (land (record { 0 = 1 }) (filled 9)) ∷ call flush ∷ call
+    (offer (record { 0 = 1 })) ∷ lost one ∷ [])
+    (record { 0 = 1 } ∷ [])
+    (record {
+      lines =
+          line (announced (record { 0 = 0 })) (meta 0) Ready
+          ∷ line done (slot 0) Ready
+          ∷ line done (meta 0) Ready
+          ∷ line overwrite nothing Ready
+          ∷ line done nothing Ready ∷ [];
+      state = recordOf one (record { 0 = 0 }) 2 Ready false [];
+      table = 1 ∷ 3 ∷ [];
+      ssd = pages (
+          labelPage (textOf 49 50) ∷ metaPage (2 ∷ 0 ∷ 0 ∷ 0 ∷ 0 ∷ 0 ∷ []) [] (1 ∷ 0 ∷ 0 ∷ 0 ∷ 3 ∷ 0 ∷ 0 ∷ 0 ∷ []) ∷ filled 9 ∷ []);
+      hdd = diskOf one;
+      reads = filled 9 ∷ [];
+    })
+
+-- before mending nothing but a step is served
+abbrev pub unserved : Script
+unserved =
+    scripted one (start one)
+    (call (offer (record { 0 = 1 })) ∷ lost one ∷ call (offer (record { 0 = 0 })) ∷ call (view (record { 0 = 1 })) ∷ call flush ∷ [])
+    (record { 0 = 1 } ∷ [])
+    (record {
+      lines =
+          line (announced (record { 0 = 0 })) (meta 0) Ready
+          ∷ line done nothing Recovering
+          ∷ line (refusal 6) nothing Recovering
+          ∷ line (refusal 6) nothing Recovering
+          ∷ line (refusal 6) nothing Recovering ∷ [];
+      state = recordOf one (record { 0 = 0 }) 1 Recovering false (record { 0 = 0 } ∷ []);
+      table = 0 ∷ 0 ∷ [];
+      ssd = pages (
+          labelPage (textOf 49 50)
+          ∷ metaPage (1 ∷ 0 ∷ 0 ∷ 0 ∷ 1 ∷ 0 ∷ []) (0 ∷ 0 ∷ 0 ∷ 0 ∷ []) (1 ∷ 0 ∷ 0 ∷ 0 ∷ 7 ∷ 0 ∷ 0 ∷ 0 ∷ [])
+          ∷ filled 170 ∷ []);
+      hdd = diskOf one;
+      reads = [] ∷ [];
+    })
+
+-- a clean block is viewed in its slot, not on the HDD: here the two differ
+abbrev pub clean-viewed : Script
+clean-viewed =
+    scripted two (startOf two (held (1 ∷ 1 ∷ 0 ∷ 0 ∷ []) 1 false [])) [] (record { 0 = 1 } ∷ [])
+    (record {
+      lines = [];
+      state = recordOf two (record { 0 = 1 }) 1 Ready false [];
+      table = 1 ∷ 1 ∷ 0 ∷ 0 ∷ [];
+      ssd = pages (filled 1 ∷ filled 2 ∷ filled 3 ∷ filled 4 ∷ []);
+      hdd = diskOf two;
+      reads = filled 3 ∷ [];
+    })
+
+-- cuts inside a call: a landing's page arrives and its slot is dropped all the same; a flush's page does not arrive, then it does
+abbrev pub cuts : Script
+cuts =
+    scripted one (start one)
+    (call (offer (record { 0 = 1 })) ∷ cut (land (record { 0 = 1 }) (filled 9)) new (rubbish one) ∷ call step ∷ call
+    (offer (record { 0 = 1 })) ∷ call (land (record { 0 = 1 }) (filled 9)) ∷ cut flush old (rubbish one) ∷ call step ∷ call
+    (offer (record { 0 = 1 })) ∷ call (land (record { 0 = 1 }) (filled 8)) ∷ cut flush new (rubbish one) ∷ [])
+    (record { 0 = 1 } ∷ [])
+    (record {
+      lines =
+          line (announced (record { 0 = 0 })) (meta 0) Ready
+          ∷ line done nothing Recovering
+          ∷ line done (meta 0) Ready
+          ∷ line (announced (record { 0 = 0 })) (meta 0) Ready
+          ∷ line done (slot 0) Ready
+          ∷ line done nothing Recovering
+          ∷ line done (meta 0) Ready
+          ∷ line (announced (record { 0 = 0 })) (meta 0) Ready
+          ∷ line done (slot 0) Ready
+          ∷ line done nothing Ready ∷ [];
+      state = recordOf one (record { 0 = 0 }) 6 Ready false [];
+      table = 1 ∷ 3 ∷ [];
+      ssd = pages (
+          labelPage (textOf 49 50) ∷ metaPage (6 ∷ 0 ∷ 0 ∷ 0 ∷ 0 ∷ 0 ∷ []) [] (1 ∷ 0 ∷ 0 ∷ 0 ∷ 3 ∷ 0 ∷ 0 ∷ 0 ∷ []) ∷ filled 8 ∷ []);
+      hdd = diskOf one;
+      reads = filled 8 ∷ [];
+    })
+
+sized-held : Sized two (held (1 ∷ 1 ∷ 0 ∷ 0 ∷ []) 1 false [] .images)
+unfolding known
+sized-held = computed-9 first record { ssd-size = refl; hdd-size = refl }
+
+computed-clean-viewed : Computed clean-viewed (held (1 ∷ 1 ∷ 0 ∷ 0 ∷ []) 1 false [])
+unfolding known
+computed-clean-viewed = computed-9 first refl
+
+computed-both-open : Computed both-open (fresh two (textOf 50 51))
+unfolding known textOf
+computed-both-open = computed-clean-viewed first refl
+
+computed-overwritten : Computed overwritten (fresh one (textOf 49 50))
+unfolding known textOf
+computed-overwritten = computed-both-open first refl
+
+computed-unserved : Computed unserved (fresh one (textOf 49 50))
+unfolding known textOf
+computed-unserved = computed-overwritten first refl
+
+computed-cuts : Computed cuts (fresh one (textOf 49 50))
+unfolding known textOf
+computed-cuts = computed-unserved first refl
+
+-- All further cases hold.
+pub scripts : List Case
+scripts = script both-open ∷ script overwritten ∷ script unserved ∷ script clean-viewed ∷ script cuts ∷ []
+
+pub all-scripts : AllHold scripts
+unfolding scripts
+all-scripts =
+    shows both-open (fresh two (textOf 50 51)) start-two sized-two computed-both-open
+    also shows overwritten (fresh one (textOf 49 50)) start-one sized-one computed-overwritten
+    also shows unserved (fresh one (textOf 49 50)) start-one sized-one computed-unserved
+    also shows clean-viewed (held (1 ∷ 1 ∷ 0 ∷ 0 ∷ []) 1 false []) refl sized-held computed-clean-viewed
+    also shows cuts (fresh one (textOf 49 50)) start-one sized-one computed-cuts
+    also tt

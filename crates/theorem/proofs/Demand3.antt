@@ -1,0 +1,203 @@
+-- Demand 3, proved: from what a format's last step leaves, every event keeps the invariant, and the invariant is safe.
+use Prim.Native.Nat.{ℕ, _+_, _*_, _%_, _/_, _<_}
+use mathlib.Core.Path.{_≡_, refl, sym, ap, subst, _∙_}
+use mathlib.Core.Bool.{Bool, true, false, cond}
+use mathlib.Core.List.{List, [], _∷_, List·Memᴰ·head}
+use native.Mathlib.Omega.{arith}
+use borrow.Author.Tests.{lt-ltb, le-ltb}
+use lib.ListN.{length, getD, replicate, length-replicate, List·getD-eq-default, getD-replicate}
+use lib.Dec.{ltb}
+use native.Mathlib.Decide.{decLt}
+use Rattle.pages.specs.Pages.{pageAt}
+use Rattle.layout.proofs.PlaceLaws.{meta-of-low}
+use Rattle.layout.specs.declared.Label.{Label}
+use Rattle.layout.specs.Places.{labelOf, metaPages, tableLength}
+use Rattle.layout.specs.MetaPage.{encodeMeta, rowsOn, stampOf}
+use Rattle.record.specs.declared.Phase.the-variants.{Ready}
+use Rattle.protocol.specs.Reply.{refused}
+use Rattle.protocol.specs.Rows.{valid}
+use Rattle.protocol.specs.Box.{Box}
+use Rattle.protocol.specs.Recovery.{metasOf, entryIn, Newest, newestOf}
+use Rattle.protocol.specs.Plan.{format}
+use Rattle.protocol.specs.Calls.{resultOf}
+use Rattle.protocol.specs.ReferenceDisk.{durable}
+use Rattle.protocol.specs.Events.{World, Event, run, formatted, startOf, AllFit}
+use Rattle.protocol.specs.Demand3.{Safe, Demand3}
+use Rattle.protocol.specs.Beside.{UpdateBeforeData}
+use Rattle.layout.proofs.Booleans.{clash}
+use Rattle.protocol.proofs.model.Base.{Window, nil-window, has-nil}
+use Rattle.protocol.proofs.model.Model as model
+use Rattle.protocol.proofs.model.Model.{Row, Plain}
+use Rattle.protocol.proofs.refine.Windows.{nums}
+use Rattle.protocol.proofs.refine.Flags.{rowOf, f0}
+use Rattle.protocol.proofs.refine.Tables.{rowAt, Rows}
+use Rattle.protocol.proofs.refine.Metas.{metas-at, length-metas, newest-none}
+use Rattle.theorem.proofs.refine.Stores.{page-stamp, page-entry, page-legal}
+use Rattle.theorem.proofs.refine.Formatting.{freeTable, Formatted, whole-format}
+use Rattle.theorem.proofs.Reachable.{run-inv}
+use Rattle.theorem.proofs.Claims.{views-of, reads-of, looks-of, allowed-of, taken-of, mends-of, flushes-of}
+use Rattle.theorem.proofs.Keeps.{keeps-of}
+use Rattle.theorem.proofs.UpdateFirst.{update-first}
+use Rattle.protocol.proofs.refine.Abstract.{Core, boxOfCore, entryRow, abs, Pages, Shape, is-ready, Inv}
+
+-- what is safe of every reachable world
+pub safe : (l : Label) (w : World) → Inv l w → Safe l w
+safe l w I = record {
+  views = views-of l w I;
+  reads = reads-of l w I;
+  looks = looks-of l w I;
+  allowed = allowed-of l w I;
+  taken = taken-of l w I;
+  mends = mends-of l w I;
+  flushes = flushes-of l w I;
+  keeps = keeps-of l w I;
+}
+
+-- a table of free rows
+free-word : (n k : ℕ) → getD {A = ℕ} (replicate n 0) k 0 ≡ 0
+free-word n k = go (decLt k n)
+  where
+    go : Dec (k < n) → getD {A = ℕ} (replicate n 0) k 0 ≡ 0
+    go (yes h) = getD-replicate n k 0 0 h
+    go (no h) = List·getD-eq-default (replicate n 0) 0 {n = k} (rw length-replicate (omega arith))
+
+free-size : (l : Label) → length (freeTable l) ≡ tableLength l
+free-size l = length-replicate {A = ℕ} (tableLength l) 0
+
+free-rows : (l : Label) → Rows l (freeTable l)
+free-rows l s h = rw (free-word (tableLength l) (2 * s), free-word (tableLength l) (2 * s + 1))
+    record { flags = f0; low = λ v. clash {b = false} v refl; free = λ v. refl }
+
+free-row : (l : Label) (s : ℕ) → rowAt (freeTable l) s ≡ Row.free
+unfolding rowAt rowOf
+free-row l s = rw (free-word (tableLength l) (2 * s), free-word (tableLength l) (2 * s + 1))
+
+-- what a format's last step leaves
+module _ (l : Label) (x y : Box) (F : Formatted l x y) where
+  abbrev core : Core
+  core = record {
+    ssd = F .ssd;
+    hdd = x .images .hdd;
+    table = freeTable l;
+    hand = record { 0 = 0 };
+    newest = 0;
+    recovering = false;
+    unconfirmed = false;
+    window = [];
+  }
+
+  none-open : Window (l .slots) (nums [])
+  unfolding nums
+  none-open = nil-window (l .slots)
+
+  page-is : (p : ℕ) → p < metaPages l → getD (metasOf l (F .ssd)) p [] ≡ encodeMeta 0 [] (rowsOn p (freeTable l))
+  page-is p h = metas-at l (F .ssd) p h ∙ F .meta-pages p h
+
+  stamp-zero : (p : ℕ) → p < metaPages l → stampOf (getD (metasOf l (F .ssd)) p []) ≡ 0
+  stamp-zero p h = ap stampOf (page-is p h)
+      ∙ page-stamp l (F .limits) (freeTable l) (free-size l) (free-rows l) 0 (omega arith) [] none-open p
+
+  pages : Pages l (metasOf l (F .ssd))
+  pages = record {
+    each = λ p h. rw (page-is p h) (page-legal l (F .limits) (freeTable l) (free-size l) (free-rows l) 0 (omega arith) [] none-open p
+        (λ _. refl));
+    apart = λ p q h k n z. absurd (z (stamp-zero p h));
+  }
+
+  newest-is : newestOf (metasOf l (F .ssd)) ≡ record { stamp = 0; window = [] }
+  newest-is = newest-none (metasOf l (F .ssd)) (λ p h. stamp-zero p (omega (arith, length-metas l (F .ssd))))
+
+  entry-is : (s : ℕ) → s < l .slots → entryIn (metasOf l (F .ssd)) (record { 0 = s }) ≡ record { block = record { 0 = 0 }; flags = 0 }
+  unfolding entryIn
+  entry-is s h =
+      let e = page-entry l (F .limits) (freeTable l) (free-size l) (free-rows l) 0 (omega arith) [] none-open (s / 240) (s % 240)
+      (omega arith) in
+      rw (page-is (s / 240) (meta-of-low l (record { 0 = s }) h))
+      (e ∙ rw (
+        free-word (tableLength l) (2 * (240 * (s / 240) + s % 240)),
+        free-word (tableLength l) (2 * (240 * (s / 240) + s % 240) + 1),
+      ))
+
+  entry-free : (s : ℕ) → entryRow l (metasOf l (F .ssd)) s ≡ Row.free
+  unfolding entryRow rowOf
+  entry-free s = go (decLt s (l .slots))
+    where
+      go : Dec (s < l .slots) → cond (ltb s (l .slots))
+          (rowOf (entryIn (metasOf l (F .ssd)) (record { 0 = s }) .block .0) (entryIn (metasOf l (F .ssd)) (record { 0 = s }) .flags))
+          Row.free ≡ Row.free
+      go (yes h) = rw (lt-ltb s (l .slots) h, entry-is s h)
+      go (no h) = rw (le-ltb s (l .slots) (omega arith))
+
+  plain : Plain
+  plain = record { page = λ b. pageAt (x .images .hdd) b; may = λ b. pageAt (x .images .hdd) b ∷ [] }
+
+  shape : Shape l core
+  shape = record {
+    images = record { limits = F .limits; ssd-size = F .ssd-size; hdd-size = F .hdd-size; label-page = F .label-page; pages = pages };
+    table-size = free-size l;
+    hand-ok = F .limits .some-slot;
+    rows = free-rows l;
+  }
+
+  stored-window-nil : abs l core .storedWindow ≡ []
+  unfolding abs nums
+  stored-window-nil = ap (λ (n : Newest). nums (n .window)) newest-is
+
+  no-row : {A : Type 0} (f : Row → Bool) → f Row.free ≡ false → (s : ℕ) → f (abs l core .row s) ≡ true → A
+  unfolding abs
+  no-row f e s v = clash v (ap f (free-row l s) ∙ e)
+
+  ready : model.Ready (abs l core) plain
+  unfolding abs plain nums
+  ready = record {
+    phase = refl;
+    in-range = λ s v. no-row model.valid refl s v;
+    in-blocks = λ s v. no-row model.valid refl s v;
+    window-rule = nil-window (l .slots);
+    stored-window-rule = rw stored-window-nil (nil-window (l .slots));
+    same-valid = λ s. rw (free-row l s, entry-free s);
+    same-block = λ s. rw (free-row l s, entry-free s);
+    dirty-below = λ s v. no-row model.dirtyRow refl s v;
+    open-row = λ s. ap model.openRow (free-row l s) ∙ sym (has-nil s);
+    window-stored = λ s h. clash h (has-nil s);
+    stored-open = λ s h. clash (rw stored-window-nil at h) (has-nil s);
+    settled = λ _ s h. clash (rw stored-window-nil at h) (has-nil s);
+    once = λ s t v. no-row model.valid refl s v;
+    cached = λ s v. no-row model.valid refl s v;
+    on-disk = λ b _. refl;
+    may-page = λ b. List·Memᴰ·head refl;
+    loose = λ b _. List·Memᴰ·head refl;
+    stamps = ap (λ (n : Newest). n .stamp) newest-is;
+    short = omega arith;
+    budget = omega (arith, ap length stored-window-nil);
+  }
+
+  start-inv : Inv l (startOf l (boxOfCore l core))
+  unfolding plain
+  start-inv = record {
+    core = core;
+    is-core = refl;
+    shape = shape;
+    plain = plain;
+    agrees = record { page = λ b h. refl; contents = λ b h. refl };
+    phased = is-ready ready;
+  }
+
+  pub formatted-inv : Inv l (startOf l y)
+  formatted-inv = subst (λ (z : Box). Inv l (startOf l z)) (sym (F .is-box)) start-inv
+
+-- every list of demand 3 leads to a reachable world
+pub reached : (slots blocks : ℕ) (x : Box) → refused (resultOf (format slots blocks) x .said) ≡ false → (es : List Event)
+    → AllFit (labelOf slots blocks) es (startOf (labelOf slots blocks) (formatted slots blocks x))
+    → Inv (labelOf slots blocks) (run es (startOf (labelOf slots blocks) (formatted slots blocks x)))
+reached slots blocks x f es g =
+    run-inv (labelOf slots blocks) es _ g (formatted-inv (labelOf slots blocks) x (formatted slots blocks x)
+    (whole-format slots blocks x f))
+
+-- Demand 3.
+pub demand3 : Demand3
+demand3 slots blocks x f es g = safe (labelOf slots blocks) _ (reached slots blocks x f es g)
+
+-- Update before data.
+pub update-before-data : UpdateBeforeData
+update-before-data slots blocks x f es g = update-first (labelOf slots blocks) _ (reached slots blocks x f es g)

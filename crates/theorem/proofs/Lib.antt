@@ -1,0 +1,15 @@
+pub mod model
+pub mod refine
+pub mod Reachable
+pub mod Claims
+pub mod PlaceOf
+pub mod Keeps
+pub mod UpdateFirst
+pub mod Demand3
+pub mod MendsSoon
+pub mod CopiesOnce
+pub mod Answered
+pub mod RoundTrip
+pub mod StoresLegally
+pub mod StoresThere
+pub mod ReopensFrom

@@ -1,0 +1,440 @@
+-- Each move on a reachable box: the box that it leaves, and that the crash argument sees the model's move.
+use Prim.Native.Nat.{ℕ, _+_, _*_, _/_, _%_, _^_, _<_}
+use mathlib.Core.Path.{_≡_, refl, sym, ap, _∙_}
+use mathlib.Core.Bool.{Bool, true, false, cond, not, _||_, or-true, or-false}
+use mathlib.Core.List.{List, [], _∷_, _++_}
+use native.Mathlib.Omega.{arith}
+use native.Mathlib.Numerals.{add-one}
+use native.Mathlib.Decide.{ℕ-discrete}
+use lib.ListN.{length, getD, set, length-set}
+use lib.Dec.{eqb}
+use Rattle.pages.specs.Pages.{pageAt, putPage}
+use Rattle.pages.proofs.PageLaws.{length-page}
+use Rattle.layout.specs.declared.Slot.{Slot}
+use Rattle.layout.specs.declared.Label.{Label}
+use Rattle.layout.specs.Places.{metaPages, tableLength}
+use Rattle.layout.specs.MetaPage.{encodeMeta, rowsOn}
+use Rattle.layout.specs.PageRule.{distinct}
+use Rattle.record.specs.declared.Phase.{Phase}
+use Rattle.protocol.specs.Reply.{Reply}
+use Rattle.protocol.specs.Rows.{rowFlags, setFlags, setRow, valid, dirty, writing, withUsed, withoutWriting, withoutDirty}
+use Rattle.record.specs.Record.{windowIn, recordOf, largestStamp}
+use Rattle.record.specs.Window.{without}
+use Rattle.protocol.specs.Box.{Box, left, boxAfter}
+use Rattle.protocol.specs.Recovery.{metasOf, Newest, newestOf, phaseOf, offPage}
+use Rattle.protocol.specs.Plan.{Move, uses, opens, lands, copies, confirms, mends}
+use Rattle.protocol.specs.Perform.{confirmed, landedAs, perform}
+use Rattle.protocol.specs.Judge.{isEmpty}
+use Rattle.record.proofs.RecordLaws.{window-in}
+use Rattle.protocol.proofs.model.Base as base
+use Rattle.layout.proofs.Booleans.{clash}
+use Rattle.protocol.proofs.model.Base.{upd, upd-same, upd-other, Window, metaNo}
+use Rattle.protocol.proofs.model.Model as model
+use Rattle.protocol.proofs.model.Model.{Row, openRow, blockOf, shut, cleaned, stored, landed, copied, mended, same-path}
+use Rattle.protocol.proofs.refine.Windows.{keep-all, nums, nums-off, nums-without, empty-nums}
+use Rattle.protocol.proofs.refine.Flags.{rowOf, Changed, changed-row, changed-shut, changed-clean, changed-used}
+use Rattle.protocol.proofs.refine.Tables.{rowAt, Rows, flags-at, flags-rows, at-open, at-block}
+use Rattle.protocol.proofs.refine.Sweeps.{Alike, alike-flags, alike-same}
+use Rattle.theorem.proofs.refine.Stores.{put-kept, put-entry, put-newest, put-page, data-kept, data-metas, data-page, disk-kept, disk-page}
+use Rattle.protocol.proofs.refine.Abstract.{Core, phaseFor, boxOfCore, entryRow, abs, Shape}
+
+-- the box that a move leaves
+abbrev pub after : Label → Core → Move → Box
+after l k v = boxAfter (left (perform v (boxOfCore l k)) (record { ssd = k .ssd; hdd = k .hdd }))
+
+-- another table and hand
+abbrev pub tabled : Core → List ℕ → Slot → Core
+tabled k v hand = record {
+  ssd = k .ssd;
+  hdd = k .hdd;
+  table = v;
+  hand = hand;
+  newest = k .newest;
+  recovering = k .recovering;
+  unconfirmed = k .unconfirmed;
+  window = k .window;
+}
+
+module _ (l : Label) (k : Core) (S : Shape l k) where
+  pub tabled-abs : (v : List ℕ) (hand : Slot) → Alike l (k .table) v → abs l (tabled k v hand) ≡ abs l k
+  unfolding abs
+  tabled-abs v hand A =
+      same-path _ _ record {
+        slots = refl;
+        blocks = refl;
+        row = A .row;
+        entry = λ s. refl;
+        hdd = λ b. refl;
+        slotPage = λ s. refl;
+        window = refl;
+        storedWindow = refl;
+        newest = refl;
+        stamp = refl;
+        unconfirmed = refl;
+        recovering = refl;
+      }
+
+  pub tabled-shape : (v : List ℕ) (hand : Slot) → Alike l (k .table) v → hand .0 < l .slots → Shape l (tabled k v hand)
+  tabled-shape v hand A h = record { images = S .images; table-size = A .size; hand-ok = h; rows = A .legal }
+
+  -- a look-up sets a used flag
+  pub uses-box : (s : ℕ) → after l k (uses (record { 0 = s })) ≡ boxOfCore l
+      (tabled k (setFlags (k .table) (record { 0 = s }) (withUsed (rowFlags (k .table) (record { 0 = s })))) (k .hand))
+  unfolding perform
+  uses-box s = refl
+
+  pub uses-alike : (s : ℕ) → s < l .slots → valid (getD (k .table) (2 * s + 1) 0) ≡ true
+      → Alike l (k .table) (setFlags (k .table) (record { 0 = s }) (withUsed (rowFlags (k .table) (record { 0 = s }))))
+  uses-alike s h v =
+      alike-flags l (k .table) (k .table) (alike-same l (k .table) (S .table-size) (S .rows)) s _ h (changed-used (S .rows s h .flags) _ v)
+
+-- a metadata store: page p, of the table v, with the window w
+abbrev pub storedCore : Core → List ℕ → Slot → List Slot → ℕ → Bool → Core
+storedCore k v hand w p r = record {
+  ssd = putPage (k .ssd) (1 + p) (encodeMeta (k .newest + 1) w (rowsOn p v));
+  hdd = k .hdd;
+  table = v;
+  hand = hand;
+  newest = k .newest + 1;
+  recovering = r;
+  unconfirmed = false;
+  window = w;
+}
+
+module _
+    (l : Label)
+    (k : Core)
+    (S : Shape l k)
+    (stamps : newestOf (metasOf l (k .ssd)) .stamp ≡ k .newest)
+    (left-over : k .newest < largestStamp)
+    (v : List ℕ)
+    (size : length v ≡ tableLength l)
+    (R : Rows l v)
+    (hand : Slot)
+    (hand-ok : hand .0 < l .slots)
+    (w : List Slot)
+    (W : Window (l .slots) (nums w))
+    (p : ℕ)
+    (p-page : p < metaPages l)
+    (r : Bool)
+  where
+    newer : newestOf (metasOf l (k .ssd)) .stamp < k .newest + 1
+    newer = omega arith
+
+    fits : k .newest + 1 < 2 ^ 32
+    fits = omega arith
+
+    pub stored-shape : Shape l (storedCore k v hand w p r)
+    stored-shape = record {
+      images = put-kept l (k .ssd) (k .hdd) (S .images) v size R (k .newest + 1) fits newer w W p p-page;
+      table-size = size;
+      hand-ok = hand-ok;
+      rows = R;
+    }
+
+    ents : (s : ℕ) → entryRow l (metasOf l (putPage (k .ssd) (1 + p) (encodeMeta (k .newest + 1) w (rowsOn p v)))) s ≡ cond (eqb (s / 240) p)
+        (rowAt v s) (entryRow l (metasOf l (k .ssd)) s)
+    ents = put-entry l (k .ssd) (k .hdd) (S .images) v size R (k .newest + 1) fits newer w W p p-page
+
+    dats : (s : ℕ) → pageAt (putPage (k .ssd) (1 + p) (encodeMeta (k .newest + 1) w (rowsOn p v))) (1 + metaPages l + s) ≡ pageAt (k .ssd)
+        (1 + metaPages l + s)
+    dats = put-page l (k .ssd) (k .hdd) (S .images) v size R (k .newest + 1) fits newer w W p p-page
+
+    news : newestOf (metasOf l (putPage (k .ssd) (1 + p) (encodeMeta (k .newest + 1) w (rowsOn p v)))) ≡
+        record { stamp = k .newest + 1; window = w }
+    news = put-newest l (k .ssd) (k .hdd) (S .images) v size R (k .newest + 1) fits newer w W p p-page
+
+    pub stored-abs : r ≡ k .recovering → abs l (storedCore k v hand w p r) ≡ stored p (rowAt v) (nums w) (abs l k)
+    unfolding abs stored metaNo
+    stored-abs e =
+        same-path _ _ record {
+          slots = refl;
+          blocks = refl;
+          row = λ s. refl;
+          entry = ents;
+          hdd = λ b. refl;
+          slotPage = dats;
+          window = refl;
+          storedWindow = ap (λ (n : Newest). nums (n .window)) news;
+          newest = add-one (k .newest);
+          stamp = ap (λ (n : Newest). n .stamp) news ∙ add-one (k .newest);
+          unconfirmed = refl;
+          recovering = e;
+        }
+
+    pub mended-abs : v ≡ k .table → w ≡ offPage p (k .window) → r ≡ not (isEmpty (offPage p (k .window)))
+        → abs l (storedCore k v hand w p r) ≡ mended p (abs l k)
+    unfolding abs mended metaNo
+    mended-abs ev ew e =
+        same-path _ _ record {
+          slots = refl;
+          blocks = refl;
+          row = λ s. ap (λ (t : List ℕ). rowAt t s) ev;
+          entry = λ s. ents s ∙ ap (λ (t : List ℕ). cond (eqb (s / 240) p) (rowAt t s) (entryRow l (metasOf l (k .ssd)) s)) ev;
+          hdd = λ b. refl;
+          slotPage = dats;
+          window = ap nums ew ∙ nums-off p (k .window);
+          storedWindow = ap (λ (n : Newest). nums (n .window)) news ∙ ap nums ew ∙ nums-off p (k .window);
+          newest = add-one (k .newest);
+          stamp = ap (λ (n : Newest). n .stamp) news ∙ add-one (k .newest);
+          unconfirmed = refl;
+          recovering = e ∙ ap not (sym (empty-nums (offPage p (k .window))) ∙ ap model.empty (nums-off p (k .window)));
+        }
+
+-- what a metadata store leaves, with the window of the record and that of the page
+abbrev twoWindows : Label → Core → List ℕ → Slot → ℕ → Phase → List Slot → List Slot → Box
+twoWindows l k v hand p ph w z = record {
+  images = record { ssd = putPage (k .ssd) (1 + p) (encodeMeta (k .newest + 1) z (rowsOn p v)); hdd = k .hdd };
+  table = v;
+  state = recordOf l hand (k .newest + 1) ph false w;
+}
+
+-- an offer or a fetch opens a slot
+pub opens-box : (l : Label) (k : Core) (s b f : ℕ) (v : List ℕ) (hand : Slot)
+    → after l k (opens (record { 0 = s }) (record { 0 = b }) f v hand)
+    ≡ boxOfCore l (storedCore k (setRow v (record { 0 = s }) (record { 0 = b }) f) hand (k .window ++ (record { 0 = s } ∷ [])) (s / 240)
+    (k .recovering))
+unfolding perform confirmed
+opens-box l k s b f v hand =
+    let v′ : List ℕ = setRow v (record { 0 = s }) (record { 0 = b }) f in
+    let ph : Phase = phaseFor (k .recovering) in
+    let join : List Slot → List Slot = λ w. w ++ (record { 0 = s } ∷ []) in
+    ap (λ (w : List Slot). twoWindows l k v′ hand (s / 240) ph (join w)
+    (windowIn (recordOf l hand (k .newest) ph (k .unconfirmed) (join w))))
+    (window-in l (k .hand) (k .newest) ph (k .unconfirmed) (k .window))
+    ∙ ap (λ (z : List Slot). twoWindows l k v′ hand (s / 240) ph (join (k .window)) z)
+    (window-in l hand (k .newest) ph (k .unconfirmed) (join (k .window)))
+
+-- a flush stores page 0
+pub confirms-box : (l : Label) (k : Core)
+    → after l k confirms ≡ boxOfCore l (storedCore k (k .table) (k .hand) (k .window) 0 (k .recovering))
+unfolding perform confirmed
+confirms-box l k =
+    let ph : Phase = phaseFor (k .recovering) in
+    ap (λ (z : List Slot). twoWindows l k (k .table) (k .hand) 0 ph (k .window) z)
+    (window-in l (k .hand) (k .newest) ph (k .unconfirmed) (k .window))
+
+pub phase-empty : (w : List Slot) → phaseOf w ≡ phaseFor (not (isEmpty w))
+phase-empty [] = refl
+phase-empty (s ∷ w) = refl
+
+-- a mending step
+pub mends-box : (l : Label) (k : Core) (p : ℕ)
+    → after l k (mends p) ≡ boxOfCore l (storedCore k (k .table) (k .hand) (offPage p (k .window)) p
+    (not (isEmpty (offPage p (k .window)))))
+unfolding perform confirmed
+mends-box l k p =
+    let ph : Phase = phaseFor (k .recovering) in
+    let rest : List Slot = offPage p (k .window) in
+    ap (λ (w : List Slot). twoWindows l k (k .table) (k .hand) p (phaseOf (offPage p w)) (offPage p w)
+    (windowIn (recordOf l (k .hand) (k .newest) (phaseOf (offPage p w)) (k .unconfirmed) (offPage p w))))
+    (window-in l (k .hand) (k .newest) ph (k .unconfirmed) (k .window))
+    ∙ ap (λ (z : List Slot). twoWindows l k (k .table) (k .hand) p (phaseOf rest) rest z)
+    (window-in l (k .hand) (k .newest) (phaseOf rest) (k .unconfirmed) rest)
+    ∙ ap (λ (q : Phase). twoWindows l k (k .table) (k .hand) p q rest rest) (phase-empty rest)
+
+-- a landing: of a closed slot the page alone, of an open one row and window too
+abbrev pub pagedCore : Label → Core → ℕ → List ℕ → Core
+pagedCore l k s d = record {
+  ssd = putPage (k .ssd) (1 + metaPages l + s) d;
+  hdd = k .hdd;
+  table = k .table;
+  hand = k .hand;
+  newest = k .newest;
+  recovering = k .recovering;
+  unconfirmed = k .unconfirmed;
+  window = k .window;
+}
+
+abbrev pub closedCore : Label → Core → ℕ → List ℕ → Core
+closedCore l k s d = record {
+  ssd = putPage (k .ssd) (1 + metaPages l + s) d;
+  hdd = k .hdd;
+  table = set (k .table) (2 * s + 1) (withoutWriting (getD (k .table) (2 * s + 1) 0));
+  hand = k .hand;
+  newest = k .newest;
+  recovering = k .recovering;
+  unconfirmed = true;
+  window = without (record { 0 = s }) (k .window);
+}
+
+abbrev pub landedCore : Bool → Label → Core → ℕ → List ℕ → Core
+landedCore true l k s d = closedCore l k s d
+landedCore false l k s d = pagedCore l k s d
+
+pub lands-box : (l : Label) (k : Core) (s : ℕ) (d : List ℕ) (o : Bool) → writing (getD (k .table) (2 * s + 1) 0) ≡ o
+    → after l k (lands (record { 0 = s }) d) ≡ boxOfCore l (landedCore o l k s d)
+unfolding perform
+lands-box l k s d o e = ap (λ (b : Bool). boxAfter
+    (left (landedAs b (record { 0 = s }) d (boxOfCore l k)) (record { ssd = k .ssd; hdd = k .hdd }))) e ∙ by o
+  where
+    closing : List Slot → Box
+    closing w = record {
+      images = record { ssd = putPage (k .ssd) (1 + metaPages l + s) d; hdd = k .hdd };
+      table = set (k .table) (2 * s + 1) (withoutWriting (getD (k .table) (2 * s + 1) 0));
+      state = recordOf l (k .hand) (k .newest) (phaseFor (k .recovering)) true (without (record { 0 = s }) w);
+    }
+
+    by : (o : Bool) → boxAfter (left (landedAs o (record { 0 = s }) d (boxOfCore l k)) (record { ssd = k .ssd; hdd = k .hdd })) ≡
+        boxOfCore l (landedCore o l k s d)
+    by true = ap closing (window-in l (k .hand) (k .newest) (phaseFor (k .recovering)) (k .unconfirmed) (k .window))
+    by false = refl
+
+module _ (l : Label) (k : Core) (S : Shape l k) (s : ℕ) (s-slot : s < l .slots) (d : List ℕ) (d-size : length d ≡ 4096) where
+  pub lands-shape : (o : Bool) → Shape l (landedCore o l k s d)
+  lands-shape true = record {
+    images = data-kept l (k .ssd) (k .hdd) (S .images) s s-slot d d-size;
+    table-size = length-set (k .table) (2 * s + 1) _ ∙ S .table-size;
+    hand-ok = S .hand-ok;
+    rows = flags-rows l (k .table) (S .table-size) s _ s-slot (S .rows)
+        (changed-row (S .rows s s-slot) (changed-shut (S .rows s s-slot .flags) _));
+  }
+  lands-shape false = record {
+    images = data-kept l (k .ssd) (k .hdd) (S .images) s s-slot d d-size;
+    table-size = S .table-size;
+    hand-ok = S .hand-ok;
+    rows = S .rows;
+  }
+
+  landed-metas : metasOf l (putPage (k .ssd) (1 + metaPages l + s) d) ≡ metasOf l (k .ssd)
+  landed-metas = data-metas l (k .ssd) (k .hdd) (S .images) s s-slot d d-size
+
+  landed-dats : (u : ℕ) → pageAt (putPage (k .ssd) (1 + metaPages l + s) d) (1 + metaPages l + u) ≡ upd
+      (λ v. pageAt (k .ssd) (1 + metaPages l + v)) s d u
+  landed-dats = data-page l (k .ssd) (k .hdd) (S .images) s s-slot d d-size
+
+  closed-row : (u : ℕ) → rowAt (set (k .table) (2 * s + 1) (withoutWriting (getD (k .table) (2 * s + 1) 0))) u ≡ upd (rowAt (k .table)) s
+      (shut (rowAt (k .table) s)) u
+  unfolding rowAt
+  closed-row u = flags-at l (k .table) (S .table-size) s _ s-slot u
+      ∙ ap (λ (r : Row). upd (rowAt (k .table)) s r u) (changed-shut (S .rows s s-slot .flags) (getD (k .table) (2 * s) 0) .row)
+
+  -- a row that is not open is as it was
+  shut-same : (r : Row) → openRow r ≡ false → shut r ≡ r
+  shut-same Row.free e = refl
+  shut-same (Row.clean b) e = refl
+  shut-same (Row.dirty b) e = refl
+  shut-same (Row.fetching b) e = clash refl e
+  shut-same (Row.writing b) e = clash refl e
+
+  paged-row : writing (getD (k .table) (2 * s + 1) 0) ≡ false → (u : ℕ)
+      → rowAt (k .table) u ≡ upd (rowAt (k .table)) s (shut (rowAt (k .table) s)) u
+  paged-row e u = go (ℕ-discrete u s)
+    where
+      go : Dec (u ≡ s) → rowAt (k .table) u ≡ upd (rowAt (k .table)) s (shut (rowAt (k .table) s)) u
+      go (yes q) = rw (q, upd-same) (sym (shut-same (rowAt (k .table) s) (at-open l (k .table) (S .rows) s s-slot ∙ e)))
+      go (no n) = sym (upd-other (rowAt (k .table)) s _ u n)
+
+  pub lands-abs : (o : Bool) → writing (getD (k .table) (2 * s + 1) 0) ≡ o → distinct (k .window) ≡ true
+      → base.has (nums (k .window)) s ≡ o → abs l (landedCore o l k s d) ≡ landed s d (abs l k)
+  unfolding abs landed
+  lands-abs true e di h =
+      same-path _ _ record {
+        slots = refl;
+        blocks = refl;
+        row = closed-row;
+        entry = λ u. ap (λ (m : List (List ℕ)). entryRow l m u) landed-metas;
+        hdd = λ b. refl;
+        slotPage = landed-dats;
+        window = nums-without (record { 0 = s }) (k .window) di;
+        storedWindow = ap (λ (m : List (List ℕ)). nums (newestOf m .window)) landed-metas;
+        newest = refl;
+        stamp = ap (λ (m : List (List ℕ)). newestOf m .stamp) landed-metas;
+        unconfirmed = sym (ap (λ (b : Bool). k .unconfirmed || b) (at-open l (k .table) (S .rows) s s-slot ∙ e) ∙ or-true (k .unconfirmed));
+        recovering = refl;
+      }
+  lands-abs false e di h =
+      same-path _ _ record {
+        slots = refl;
+        blocks = refl;
+        row = paged-row e;
+        entry = λ u. ap (λ (m : List (List ℕ)). entryRow l m u) landed-metas;
+        hdd = λ b. refl;
+        slotPage = landed-dats;
+        window = sym (keep-all (nums (k .window)) s h);
+        storedWindow = ap (λ (m : List (List ℕ)). nums (newestOf m .window)) landed-metas;
+        newest = refl;
+        stamp = ap (λ (m : List (List ℕ)). newestOf m .stamp) landed-metas;
+        unconfirmed = sym (ap (λ (b : Bool). k .unconfirmed || b) (at-open l (k .table) (S .rows) s s-slot ∙ e) ∙ or-false (k .unconfirmed));
+        recovering = refl;
+      }
+
+-- a copy to the disk
+abbrev pub copiedCore : Label → Core → ℕ → List ℕ → Slot → Core
+copiedCore l k s v hand = record {
+  ssd = k .ssd;
+  hdd = putPage (k .hdd) (getD v (2 * s) 0) (pageAt (k .ssd) (1 + metaPages l + s));
+  table = set v (2 * s + 1) (withoutDirty (getD v (2 * s + 1) 0));
+  hand = hand;
+  newest = k .newest;
+  recovering = k .recovering;
+  unconfirmed = k .unconfirmed;
+  window = k .window;
+}
+
+pub copies-box : (l : Label) (k : Core) (s : ℕ) (said : Reply) (v : List ℕ) (hand : Slot)
+    → after l k (copies (record { 0 = s }) said v hand) ≡ boxOfCore l (copiedCore l k s v hand)
+unfolding perform
+copies-box l k s said v hand = refl
+
+module _
+    (l : Label)
+    (k : Core)
+    (S : Shape l k)
+    (s : ℕ)
+    (s-slot : s < l .slots)
+    (v : List ℕ)
+    (A : Alike l (k .table) v)
+    (hand : Slot)
+    (hand-ok : hand .0 < l .slots)
+    (is-shut : writing (getD v (2 * s + 1) 0) ≡ false)
+    (is-valid : valid (getD v (2 * s + 1) 0) ≡ true)
+  where
+    block-low : getD v (2 * s) 0 < l .blocks
+    block-low = A .legal s s-slot .low is-valid
+
+    page-sized : length (pageAt (k .ssd) (1 + metaPages l + s)) ≡ 4096
+    page-sized = length-page (k .ssd) (1 + metaPages l + s) (omega (arith, S .images .ssd-size))
+
+    clean-row : Changed (getD v (2 * s) 0) (getD v (2 * s + 1) 0) (withoutDirty (getD v (2 * s + 1) 0))
+        (cleaned (rowOf (getD v (2 * s) 0) (getD v (2 * s + 1) 0 % 8)))
+    clean-row = changed-clean (A .legal s s-slot .flags) (getD v (2 * s) 0) is-shut
+
+    pub copies-shape : Shape l (copiedCore l k s v hand)
+    copies-shape = record {
+      images = disk-kept l (k .ssd) (k .hdd) (S .images) (getD v (2 * s) 0) block-low _ page-sized;
+      table-size = length-set v (2 * s + 1) _ ∙ A .size;
+      hand-ok = hand-ok;
+      rows = flags-rows l v (A .size) s _ s-slot (A .legal) (changed-row (A .legal s s-slot) clean-row);
+    }
+
+    block-is : blockOf (rowAt (k .table) s) ≡ getD v (2 * s) 0
+    block-is = ap blockOf (sym (A .row s)) ∙ at-block l v (A .legal) s s-slot is-valid
+
+    rows-are : (u : ℕ) → rowAt (set v (2 * s + 1) (withoutDirty (getD v (2 * s + 1) 0))) u ≡ upd (rowAt (k .table)) s
+        (cleaned (rowAt (k .table) s)) u
+    unfolding rowAt
+    rows-are u = flags-at l v (A .size) s _ s-slot u ∙ go (ℕ-discrete u s)
+      where
+        go : Dec (u ≡ s) → upd (rowAt v) s (rowOf (getD v (2 * s) 0) (withoutDirty (getD v (2 * s + 1) 0) % 8)) u ≡ upd
+            (rowAt (k .table)) s (cleaned (rowAt (k .table) s)) u
+        go (yes e) = rw (e, upd-same, upd-same) (clean-row .row ∙ ap cleaned (A .row s))
+        go (no n) = upd-other (rowAt v) s _ u n ∙ A .row u ∙ sym (upd-other (rowAt (k .table)) s _ u n)
+
+    pub copies-abs : abs l (copiedCore l k s v hand) ≡ copied s (abs l k)
+    unfolding abs copied
+    copies-abs =
+        same-path _ _ record {
+          slots = refl;
+          blocks = refl;
+          row = rows-are;
+          entry = λ u. refl;
+          hdd = λ b. rw block-is (disk-page l (k .ssd) (k .hdd) (S .images) (getD v (2 * s) 0) block-low _ page-sized b);
+          slotPage = λ u. refl;
+          window = refl;
+          storedWindow = refl;
+          newest = refl;
+          stamp = refl;
+          unconfirmed = refl;
+          recovering = refl;
+        }
