@@ -9,7 +9,7 @@ use read_path::land_fetch;
 use read_path::look_up;
 use record::Record;
 use recovery::reopen;
-use recovery::step;
+use steps::step;
 use write_path::land;
 use write_path::offer;
 ghost use mathlib.Core.Path.{_≡_};

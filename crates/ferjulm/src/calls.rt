@@ -228,7 +228,7 @@ pub extern "C" fn ferjulm_step(
         return 3;
     }
     let state = words::unpack(words);
-    let outcome = recovery::step::step(ssd, hdd, table, state);
+    let outcome = steps::step::step(ssd, hdd, table, state);
     let answer = outcome.answer;
     let stored = outcome.stored;
     closing::name(image, offset, answer, stored);

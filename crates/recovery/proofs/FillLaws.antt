@@ -24,8 +24,8 @@ use Rattle.layout.specs.Window.{slotsIn, windowFrom}
 use Rattle.record.specs.declared.Phase.{Phase}
 use Rattle.record.specs.Record.{recordWith}
 use Rattle.recovery.specs.Fill.{keptEntry, freed}
-use Rattle.recovery.specs.Pending.{phaseAt}
-use Rattle.recovery.proofs.MendLaws.{phase-at}
+use Rattle.steps.specs.Pending.{phaseAt}
+use Rattle.steps.proofs.MendLaws.{phase-at}
 
 -- one row more
 rows-more : (n : ℕ) (f : ℕ → Entry) → rowsFrom (suc n) f ≡ rowsFrom n f ++ (f n .block .0 ∷ f n .flags ∷ [])

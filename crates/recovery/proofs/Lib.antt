@@ -1,3 +1,1 @@
-pub mod MendLaws
-pub mod StepLaws
 pub mod FillLaws

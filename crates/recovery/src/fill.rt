@@ -1,5 +1,4 @@
 // The table and the record, from pages that keep every rule.
-use crate::step;
 use layout::Block;
 use layout::Entry;
 use layout::Label;
@@ -7,6 +6,7 @@ use layout::Slot;
 use layout::Window;
 use record::Record;
 use record::state;
+use steps::step;
 use stored::image;
 ghost use mathlib.Core.Path.{_≡_};
 ghost use mathlib.Core.Bool.{true};

@@ -1,4 +1,3 @@
-// Power is back: the box is reopened from its two images, and mended before it serves.
+// Power is back: the box is reopened from its two images. Steps mend it before it serves.
 pub mod fill;
 pub mod reopen;
-pub mod step;

@@ -3,4 +3,3 @@ pub mod ScanLaws
 pub mod ConditionLaws
 pub mod CountLaws
 pub mod AgreeLaws
-pub mod SweepLaws

@@ -2,7 +2,6 @@
 // by slot number here; what the record keeps of it, the window and the hand, too.
 pub mod condition;
 pub mod rows;
-pub mod sweep;
 pub mod window;
 
 // What one pass over the table finds: whether every row keeps its rule and, if so, how many are writing, how many are not
@@ -12,11 +11,4 @@ pub struct Scan {
     pub writing: u32,
     pub busy: u32,
     pub at: u32,
-}
-
-// What a sweep takes: a slot, after so many were passed, which lose their used flags (all slots, where the first round met
-// no unused one); or no slot, since all are open.
-pub enum Swept {
-    Took(layout::Slot, u32),
-    Stuck,
 }

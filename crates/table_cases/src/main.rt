@@ -10,9 +10,9 @@ use protocol::Condition;
 use record::Phase;
 use record::Record;
 use record::state;
-use table::Swept;
+use sweeping::Swept;
+use sweeping::sweep;
 use table::rows;
-use table::sweep;
 
 // A word of a table whose row i holds block i, with other flags in the last 63 rows.
 fn word(i: usize, flags: u32, last: u32) -> u32 {

@@ -17,11 +17,11 @@ use Rattle.protocol.proofs.model.Model.{dirtyRow, openRow}
 use Rattle.protocol.proofs.refine.Flags.{Flags, f0, f1, f3, f5, f7, f9, f11, f13, f15}
 use Rattle.protocol.proofs.refine.Tables.{Rows, at-dirty, at-open, each-get, each-of}
 use Rattle.protocol.proofs.refine.Sweeps.{alike-same, next-low, swept}
-use Rattle.table.specs.declared.Swept.{Swept}
-use Rattle.table.specs.declared.Swept.the-variants.{Took, Stuck}
+use Rattle.sweeping.specs.declared.Swept.{Swept}
+use Rattle.sweeping.specs.declared.Swept.the-variants.{Took, Stuck}
 use Rattle.table.specs.Scan.{lowestOf}
-use Rattle.table.specs.Sweeps.{closed, unused, lapEnd, lapFrom, sweptOf, clearedFrom, victimOf}
-use Rattle.table.proofs.SweepLaws.{nth, nth-meets, cleared-alike, sweep-is}
+use Rattle.sweeping.specs.Sweeps.{closed, unused, lapEnd, lapFrom, sweptOf, clearedFrom, victimOf}
+use Rattle.sweeping.proofs.SweepLaws.{nth, nth-meets, cleared-alike, sweep-is}
 
 abbrev took-some : Swept → Bool
 took-some (Took s k) = true

@@ -31,10 +31,10 @@ use Rattle.protocol.specs.Judge.{slotOpen, hasSlot, windowFull, allOpen, stamps
 use Rattle.protocol.specs.Calls.{effectOf, boxOf}
 use Rattle.protocol.proofs.refine.Flags.{legal-row}
 use Rattle.protocol.proofs.refine.Tables.{Rows, each-get}
-use Rattle.table.specs.declared.Swept.{Swept}
-use Rattle.table.specs.declared.Swept.the-variants.{Took, Stuck}
+use Rattle.sweeping.specs.declared.Swept.{Swept}
+use Rattle.sweeping.specs.declared.Swept.the-variants.{Took, Stuck}
 use Rattle.table.specs.Scan.{legalRows}
-use Rattle.table.specs.Sweeps.{sweptOf, clearedFrom}
+use Rattle.sweeping.specs.Sweeps.{sweptOf, clearedFrom}
 use Rattle.turns.specs.declared.turn.Turn.{Turn}
 use Rattle.turns.specs.declared.turn.Turn.the-variants.{Refused, Passes, Opens, CopiesOut}
 use Rattle.judging.specs.declared.Judged.{Judged}

@@ -22,10 +22,10 @@ use Rattle.protocol.specs.Sweep.{nextSlot}
 use Rattle.protocol.specs.Plan.{stay, opens, copies}
 use Rattle.protocol.specs.Perform.{perform}
 use Rattle.protocol.specs.Judge.{slotOpen, hasSlot, windowFull, allOpen, stampsSpent, numberOf}
-use Rattle.table.specs.declared.Swept.{Swept}
-use Rattle.table.specs.declared.Swept.the-variants.{Took, Stuck}
+use Rattle.sweeping.specs.declared.Swept.{Swept}
+use Rattle.sweeping.specs.declared.Swept.the-variants.{Took, Stuck}
 use Rattle.table.specs.Scan.{legalRows}
-use Rattle.table.specs.Sweeps.{sweptOf, clearedFrom}
+use Rattle.sweeping.specs.Sweeps.{sweptOf, clearedFrom}
 use Rattle.turns.specs.declared.turn.Turn.{Turn}
 use Rattle.turns.specs.declared.turn.Turn.the-variants.{Refused, Passes, Opens, CopiesOut}
 

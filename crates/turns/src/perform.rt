@@ -8,7 +8,7 @@ use protocol::Outcome;
 use record::LARGEST_STAMP;
 use record::Record;
 use record::state;
-use table::sweep;
+use sweeping::sweep;
 ghost use mathlib.Core.Path.{_≡_};
 ghost use mathlib.Core.Bool.{true};
 ghost use Prim.Native.Nat.{_-_};

@@ -4,13 +4,13 @@ use layout::Slot;
 use layout::WINDOW;
 use protocol::Condition;
 use record::Record;
-use table::Swept;
-use table::sweep;
+use sweeping::Swept;
+use sweeping::sweep;
 ghost use mathlib.Core.Path.{_≡_};
 ghost use Prim.Native.Nat.{_+_, _*_, _<_};
 ghost use lib.ListN.{length};
 ghost use Rattle.layout.specs.Places.{tableLength};
-ghost use Rattle.table.specs.declared.Swept.the-variants.{Took};
+ghost use Rattle.sweeping.specs.declared.Swept.the-variants.{Took};
 ghost use Rattle.turns.specs.Turns.{Seen, Within, isPass, takeTurn, sweepTurn, cleanTurn, offerTurn, fetchTurn};
 
 // What an offer or a fetch does: refused by a number (8, 10, 11 or 12); passes, the answer being "overwrite"; opens a slot with these
