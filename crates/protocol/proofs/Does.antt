@@ -15,13 +15,13 @@ use Rattle.layout.specs.declared.Label.{Label}
 use Rattle.layout.specs.Places.{blockPlace}
 use Rattle.protocol.specs.declared.Condition.{Condition}
 use Rattle.protocol.specs.Reply.{Reply, refused}
-use Rattle.protocol.specs.Rows.{rowFlags, setRow, valid, dirty, writing, withWriting, openRows}
+use Rattle.protocol.specs.Rows.{rowFlags, setFlags, setRow, valid, dirty, writing, withWriting, openRows}
 use Rattle.record.specs.Record.{labelIn, windowIn, largestStamp}
 use Rattle.protocol.specs.Box.{Box}
 use Rattle.protocol.specs.Condition.{conditionOf, isOpen, takesWrite, takesFetch}
 use Rattle.protocol.specs.Sweep.{Victim, sweep}
 use Rattle.protocol.specs.Plan.{flush, offer, fetch, landFetch, lookUp, view, writeBack, land, Move, stay, uses, opens, lands, copies, confirms, takesAs, takes, offering, fetching, landing, landingFetch, lookingUp, writingBack, flushing, plan, storesMeta}
-use Rattle.protocol.specs.Perform.{confirmed, landedAs, perform}
+use Rattle.protocol.specs.Perform.{confirmed, landedFlags, landedState, perform}
 use Rattle.protocol.specs.Kinds.{toServe, toSettle, toWrite, toFetch, toLandFetch, toLand, Aim, aims, noBlock}
 use Rattle.protocol.specs.Judge.{wrongLength, blockTooHigh, slotOpen, wrongState, windowFull, stampsSpent, lengthTest, test, judged}
 use Rattle.protocol.specs.ReferenceDisk.{Disk, fedCall}
@@ -32,7 +32,7 @@ use Rattle.protocol.proofs.refine.Tables.{rowAt, at-open, at-dirty}
 use Rattle.protocol.proofs.refine.Conditions.{Held, Stands, absent, is-clean, is-dirty, is-writing, is-fetching, stands}
 use Rattle.protocol.proofs.refine.Sweeps.{Alike, alike-same, next-low, Swept, took, stuck, swept}
 use Rattle.record.proofs.WindowLaws.{take-array}
-use Rattle.protocol.proofs.Sound.{Sound, room, sound-alike, sound-uses, sound-copies, sound-opens, sound-closes}
+use Rattle.protocol.proofs.Sound.{Sound, room, sound-alike, sound-uses, sound-copies, sound-opens, sound-lands, sound-closes}
 use Rattle.protocol.proofs.Judged.{passed}
 use Rattle.protocol.proofs.Accepted.{Legal, service-legal}
 
@@ -77,30 +77,22 @@ pub data Does (x : Box) : Aim → Move → Type 0 where
       → Does x a (copies s said v hand)
   -- a write lands in its block's slot, open or dirty; a fetch in one that is open
   does-land : {b : Block} {s : Slot} {page : List ℕ} → Held (labelIn (x .state)) (x .table) (b .0) (s .0) → b .0 < x .state .label .blocks
-      → dirty (rowFlags (x .table) s) ≡ true → length page ≡ 4096 → Does x (aims b (toLand page)) (lands s page)
+      → dirty (rowFlags (x .table) s) ≡ true → length page ≡ 4096 → Does x (aims b (toLand page)) (lands true s page)
   does-fetch : {a : Aim} {b : Block} {s : Slot} → Quiet a → Held (labelIn (x .state)) (x .table) (b .0) (s .0) → b .0 < x .state .label .blocks
-      → writing (rowFlags (x .table) s) ≡ true → Does x a (lands s (pageAt (x .images .hdd) (blockPlace (labelIn (x .state)) b)))
+      → writing (rowFlags (x .table) s) ≡ true → Does x a (lands false s (pageAt (x .images .hdd) (blockPlace (labelIn (x .state)) b)))
   -- a flush with nothing to confirm, and with something
   does-rest : {b : Block} {said : Reply} → refused said ≡ false → x .state .unconfirmed ≡ false → Does x (aims b toSettle) (stay said)
   does-confirm : {b : Block} → x .state .unconfirmed ≡ true → x .state .newest < largestStamp → Does x (aims b toSettle) confirms
 
 -- it is no refusal
-pub lands-said : (x : Box) (s : Slot) (page : List ℕ) → refused (perform (lands s page) x .said) ≡ false
-unfolding perform
-lands-said x s page = go (writing (rowFlags (x .table) s))
-  where
-    go : (w : Bool) → refused (landedAs w s page x .said) ≡ false
-    go true = refl
-    go false = refl
-
 pub does-said : {x : Box} {a : Aim} {m : Move} → Does x a m → refused (perform m x .said) ≡ false
 unfolding perform confirmed
 does-said (does-nothing z n) = n
 does-said (does-use z H) = refl
 does-said (does-open z O) = refl
 does-said (does-copy z n C) = n
-does-said {x} (does-land {s = s} {page = page} H bl y size) = lands-said x s page
-does-said {x} (does-fetch {s = s} z H bl w) = lands-said x s _
+does-said (does-land H bl y size) = refl
+does-said (does-fetch z H bl w) = refl
 does-said (does-rest n u) = n
 does-said (does-confirm u n) = refl
 
@@ -115,13 +107,16 @@ abbrev Kept : Box → Move → Type 0
 Kept x m = Sound (labelIn (x .state)) (perform m x .table) (windowIn (perform m x .state))
 
 module _ (x : Box) (S : Sound (labelIn (x .state)) (x .table) (windowIn (x .state))) where
-  lands-sound : {b : ℕ} {s : Slot} → Held (labelIn (x .state)) (x .table) b (s .0) → (page : List ℕ) → Kept x (lands s page)
+  lands-sound : (write : Bool) {b : ℕ} {s : Slot} → Held (labelIn (x .state)) (x .table) b (s .0) → (page : List ℕ)
+      → Kept x (lands write s page)
   unfolding perform windowIn
-  lands-sound {b} {s} H page = go (writing (rowFlags (x .table) s))
+  lands-sound write {b} {s} H page = go (writing (rowFlags (x .table) s)) refl
     where
-      go : (w : Bool) → Sound (labelIn (x .state)) (landedAs w s page x .table) (windowIn (landedAs w s page x .state))
-      go true = rw take-array (sound-closes S (s .0) (H .low))
-      go false = S
+      go : (o : Bool) → writing (rowFlags (x .table) s) ≡ o
+          → Sound (labelIn (x .state)) (setFlags (x .table) s (landedFlags write (rowFlags (x .table) s)))
+          (windowIn (landedState o s (x .state)))
+      go true e = rw take-array (sound-closes S write (s .0) (H .low) (H .held))
+      go false e = sound-lands S write (s .0) (H .low) (H .held) e
 
   pub does-sound : {a : Aim} {m : Move} → Does x a m → Kept x m
   unfolding perform confirmed windowIn
@@ -129,8 +124,8 @@ module _ (x : Box) (S : Sound (labelIn (x .state)) (x .table) (windowIn (x .stat
   does-sound (does-use {s = s} z H) = sound-uses S (s .0) (H .low) (H .held)
   does-sound (does-open z O) = rw take-array (opening-sound O S)
   does-sound (does-copy {s = s} z n C) = sound-copies (sound-alike S (C .alike)) (s .0) (C .low) (C .is-shut)
-  does-sound (does-land {page = page} H bl y size) = lands-sound H page
-  does-sound (does-fetch z H bl w) = lands-sound H _
+  does-sound (does-land {page = page} H bl y size) = lands-sound true H page
+  does-sound (does-fetch {b = b} z H bl w) = lands-sound false H (pageAt (x .images .hdd) (blockPlace (labelIn (x .state)) b))
   does-sound (does-rest n u) = S
   does-sound (does-confirm u n) = S
 

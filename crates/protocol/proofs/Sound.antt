@@ -16,8 +16,9 @@ use Rattle.layout.specs.PageRule.{distinct, inRange}
 use Rattle.layout.proofs.Booleans.{Told, told, told-true, told-false, clash}
 use Rattle.layout.proofs.RuleLaws.{_⇔_}
 use Rattle.record.specs.declared.Phase.the-variants.{Ready}
-use Rattle.protocol.specs.Rows.{setFlags, setRow, rowFlags, valid, writing, withUsed, withoutWriting, withoutDirty, eachRow, openRows}
+use Rattle.protocol.specs.Rows.{setFlags, setRow, rowFlags, valid, writing, withUsed, withoutDirty, eachRow, openRows}
 use Rattle.record.specs.Window.{without}
+use Rattle.protocol.specs.Perform.{landedFlags}
 use Rattle.protocol.specs.Judge.{rowTest, agreeTest}
 use Rattle.protocol.specs.Why.{ReadyAgree}
 use Rattle.protocol.proofs.model.Base as base
@@ -25,7 +26,7 @@ use Rattle.protocol.proofs.model.Base.{upd, upd-same, upd-other, has, W
 use Rattle.protocol.proofs.model.Model.{Row, openRow, shut}
 use Rattle.protocol.proofs.model.Rows.{shut-open, cleaned-open}
 use Rattle.protocol.proofs.refine.Windows.{nums, length-nums, nums-append, nums-one, has-nums, nums-without, distinct-nums, below-nums, window-of}
-use Rattle.protocol.proofs.refine.Flags.{rowOf, LegalRow, legal-row, row-legal, Changed, changed-row, changed-shut, changed-clean, changed-used}
+use Rattle.protocol.proofs.refine.Flags.{rowOf, LegalRow, legal-row, row-legal, Changed, changed-row, changed-clean, changed-used, changed-landed}
 use Rattle.protocol.proofs.refine.Tables.{rowAt, rowAt-out, Rows, set-at, set-rows, length-row, flags-at, flags-rows, at-open, each-get, each-of}
 use Rattle.protocol.proofs.refine.Counting.{window-count}
 use Rattle.protocol.proofs.refine.Sweeps.{Alike}
@@ -108,25 +109,31 @@ module _ {l : Label} {t : List ℕ} {w : List Slot} (S : Sound l t w) where
       at u (yes e) = rw (e, upd-same, has-snoc) o
       at u (no n) = rw (upd-other, has-snoc-other) (S .open-is u)
 
-  -- a slot is closed
-  pub sound-closes : (s : ℕ) → s < l .slots
-      → Sound l (setFlags t (record { 0 = s }) (withoutWriting (rowFlags t (record { 0 = s })))) (without (record { 0 = s }) w)
-  sound-closes s h = record {
+  -- a page lands in a slot that is not open
+  pub sound-lands : (write : Bool) (s : ℕ) → s < l .slots → valid (getD t (2 * s + 1) 0) ≡ true → writing (getD t (2 * s + 1) 0) ≡ false
+      → Sound l (setFlags t (record { 0 = s }) (landedFlags write (rowFlags t (record { 0 = s })))) w
+  sound-lands write s h v o =
+      sound-flags s _ h (changed-landed write (S .legal s h .flags) _ v) (shut-open (rowOf (getD t (2 * s) 0) (getD t (2 * s + 1) 0 % 8)) ∙ sym (at-open l t (S .legal) s h ∙ o))
+
+  -- a page lands in an open slot, which is closed
+  pub sound-closes : (write : Bool) (s : ℕ) → s < l .slots → valid (getD t (2 * s + 1) 0) ≡ true
+      → Sound l (setFlags t (record { 0 = s }) (landedFlags write (rowFlags t (record { 0 = s })))) (without (record { 0 = s }) w)
+  sound-closes write s h v = record {
     size = length-set t (2 * s + 1) _ ∙ S .size;
     legal = flags-rows l t (S .size) s _ h (S .legal) (changed-row (S .legal s h) C);
     rule = rw names (keep-window _ (l .slots) (nums w) (S .rule));
     open-is = λ u. ap openRow (flags-at l t (S .size) s _ h u) ∙ at u (ℕ-discrete u s) ∙ ap (λ (z : List ℕ). has z u) (sym names);
   }
     where
-      C : Changed (getD t (2 * s) 0) (getD t (2 * s + 1) 0) (withoutWriting (getD t (2 * s + 1) 0))
+      C : Changed (getD t (2 * s) 0) (getD t (2 * s + 1) 0) (landedFlags write (getD t (2 * s + 1) 0))
           (shut (rowOf (getD t (2 * s) 0) (getD t (2 * s + 1) 0 % 8)))
-      C = changed-shut (S .legal s h .flags) (getD t (2 * s) 0)
+      C = changed-landed write (S .legal s h .flags) (getD t (2 * s) 0) v
 
       names : nums (without (record { 0 = s }) w) ≡ base.without (nums w) s
       names = nums-without (record { 0 = s }) w (sym (distinct-nums w) ∙ S .rule .apart)
 
       at : (u : ℕ) → Dec (u ≡ s)
-          → openRow (upd (rowAt t) s (rowOf (getD t (2 * s) 0) (withoutWriting (getD t (2 * s + 1) 0) % 8)) u) ≡ has (base.without (nums w) s) u
+          → openRow (upd (rowAt t) s (rowOf (getD t (2 * s) 0) (landedFlags write (getD t (2 * s + 1) 0) % 8)) u) ≡ has (base.without (nums w) s) u
       at u (yes e) =
           rw (e, upd-same, C .row, has-keep-out (λ z. not (eqb z s)) (nums w) s (not-same s))
           (shut-open (rowOf (getD t (2 * s) 0) (getD t (2 * s + 1) 0 % 8)))

@@ -44,19 +44,26 @@ joined s hand r = withWindow (withHand r hand) (r .unconfirmed) (windowIn r ++ (
 abbrev pub dataStore : Slot → List ℕ → Box → Store
 dataStore s page x = record { image = ssdImage; place = dataPlace (labelIn (x .state)) s; bytes = page }
 
--- "An open slot leaves the window, loses the writing flag and sets unsettled"; a closed one changes the page alone
-abbrev pub landedAs : Bool → Slot → List ℕ → Box → Effect
-landedAs true s page x =
+-- the flags after a landing: an open slot "loses the writing flag"; document 02, N2: "From now on landing a write sets it too" (the
+-- used flag, of a slot that was open or not); "landing a fetch doesn't"
+abbrev pub landedFlags : Bool → ℕ → ℕ
+landedFlags true flags = withUsed (withoutWriting flags)
+landedFlags false flags = withoutWriting flags
+
+-- "An open slot leaves the window .. and sets unsettled"; one that was not open changes neither
+abbrev pub landedState : Bool → Slot → Record → Record
+landedState true s r = withWindow r true (without s (windowIn r))
+landedState false s r = r
+
+-- a landing, of a write or of a fetch
+abbrev pub landedIn : Bool → Slot → List ℕ → Box → Effect
+landedIn write s page x =
     record {
       said = done;
-      state = withWindow (x .state) true (without s (windowIn (x .state)));
-      table = setFlags (x .table) s (withoutWriting (rowFlags (x .table) s));
+      state = landedState (writing (rowFlags (x .table) s)) s (x .state);
+      table = setFlags (x .table) s (landedFlags write (rowFlags (x .table) s));
       store = some (dataStore s page x);
     }
-landedAs false s page x = record { said = done; state = x .state; table = x .table; store = some (dataStore s page x) }
-
-abbrev pub landedIn : Slot → List ℕ → Box → Effect
-landedIn s page x = landedAs (writing (rowFlags (x .table) s)) s page x
 
 -- "copy its page to its HDD block, mark it clean"
 abbrev pub copiedFrom : Slot → Reply → List ℕ → Slot → Box → Effect
@@ -110,7 +117,7 @@ perform (uses s) x =
     record { said = inSlot s; state = x .state; table = setFlags (x .table) s (withUsed (rowFlags (x .table) s)); store = none }
 perform (opens s b flags table hand) x =
     confirmed (metaOf s) (announced s) (joined s hand (x .state)) (setRow table s b flags)
-perform (lands s page) x = landedIn s page x
+perform (lands write s page) x = landedIn write s page x
 perform (copies s said table hand) x = copiedFrom s said table hand x
 perform confirms x = confirmed 0 done (x .state) (x .table)
 perform (mends p) x = confirmed p done (mendedAt p (x .state)) (x .table)

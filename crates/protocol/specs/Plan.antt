@@ -35,8 +35,8 @@ pub data Move : Type 0 where
   uses : Slot → Move
   -- a slot is opened for a block with these flags; the table that the sweep left, and the hand after
   opens : Slot → Block → ℕ → List ℕ → Slot → Move
-  -- a page goes into a slot, and an open slot is closed
-  lands : Slot → List ℕ → Move
+  -- a page goes into a slot, by a write or by a fetch (document 02, N2: true for a write), and an open slot is closed
+  lands : Bool → Slot → List ℕ → Move
   -- a dirty slot's page is copied to its block; the answer, the table that the sweep left, and the hand after
   copies : Slot → Reply → List ℕ → Slot → Move
   -- metadata page 0 is stored
@@ -82,8 +82,8 @@ fetching x b (Fetching s) = stay nothingToDo
 abbrev pub landing : List ℕ → Condition → Move
 landing page NotCached = stay nothingToDo
 landing page (Clean s) = stay nothingToDo
-landing page (Dirty s) = lands s page
-landing page (Writing s) = lands s page
+landing page (Dirty s) = lands true s page
+landing page (Writing s) = lands true s page
 landing page (Fetching s) = stay nothingToDo
 
 -- "Land a fetch: copies the HDD page into the slot and closes it likewise" (not open for fetch: refused by 9)
@@ -92,7 +92,7 @@ landingFetch x b NotCached = stay nothingToDo
 landingFetch x b (Clean s) = stay nothingToDo
 landingFetch x b (Dirty s) = stay nothingToDo
 landingFetch x b (Writing s) = stay nothingToDo
-landingFetch x b (Fetching s) = lands s (pageAt (x .images .hdd) (blockPlace (labelIn (x .state)) b))
+landingFetch x b (Fetching s) = lands false s (pageAt (x .images .hdd) (blockPlace (labelIn (x .state)) b))
 
 -- "Look up a block: its slot, if cached and not open, and set its used flag; else "on disk""
 abbrev pub lookingUp : Condition → Move
@@ -148,7 +148,7 @@ abbrev pub storesMeta : Move → Bool
 storesMeta (stay p) = false
 storesMeta (uses s) = false
 storesMeta (opens s b f t h) = true
-storesMeta (lands s d) = false
+storesMeta (lands w s d) = false
 storesMeta (copies s p t h) = false
 storesMeta confirms = true
 storesMeta (mends p) = true

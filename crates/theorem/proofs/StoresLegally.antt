@@ -29,7 +29,7 @@ use Rattle.record.specs.Record.{labelIn, windowIn, withHand, withPhase, withSta
 use Rattle.protocol.specs.Box.{Box, Image, ssdImage, hddImage, Store, Effect}
 use Rattle.protocol.specs.Recovery.{offPage}
 use Rattle.protocol.specs.Plan.{Call, step, opens, lands, mends, formats, lowestPage, stepping, plan, storesMeta, Move}
-use Rattle.protocol.specs.Perform.{confirmed, joined, landedAs, mendedAt, formatStore, formatState, perform}
+use Rattle.protocol.specs.Perform.{confirmed, joined, landedIn, mendedAt, formatStore, formatState, perform}
 use Rattle.protocol.specs.Judge.{Reason, isEmpty, agreeTest, test, judged, stampsSpent}
 use Rattle.protocol.specs.Calls.{decided, effectOf}
 use Rattle.protocol.specs.Beside.{stampStored, MetaStored, StoresLegally}
@@ -146,17 +146,13 @@ confirmed-stores l K r e table size R n W ph v q said =
     go recovering = refl
 
 -- data pages
-lands-elsewhere : (l : Label) (ph : Phase) (s : Slot) (d : List ℕ) (x : Box) → labelIn (x .state) ≡ l → length d ≡ 4096
-    → Stores l ph (perform (lands s d) x)
+lands-elsewhere : (l : Label) (ph : Phase) (write : Bool) (s : Slot) (d : List ℕ) (x : Box) → labelIn (x .state) ≡ l → length d ≡ 4096
+    → Stores l ph (perform (lands write s d) x)
 unfolding perform
-lands-elsewhere l ph s d x e z = go (writing (rowFlags (x .table) s))
+lands-elsewhere l ph write s d x e z = elsewhere l ph (landedIn write s d x) _ refl z past
   where
     past : (p : ℕ) → p < metaPages l → 1 + metaPages (labelIn (x .state)) + s .0 ≢ metaPlace l p
     past p h q = omega (arith, ap metaPages e)
-
-    go : (o : Bool) → Stores l ph (landedAs o s d x)
-    go true = elsewhere l ph (landedAs true s d x) _ refl z past
-    go false = elsewhere l ph (landedAs false s d x) _ refl z past
 
 -- a legal box that is ready
 module _ (x : Box) (L : Legal x) (on : x .state .phase ≡ Ready) where
@@ -189,9 +185,9 @@ module _ (x : Box) (L : Legal x) (on : x .state .phase ≡ Ready) where
   does-stores (does-open z O) = opens-stores O
   does-stores (does-copy {s = s} z n C) =
       λ t g. (sized (the-store g) (length-page (x .images .ssd) (dataPlace lab s) (omega (arith, L .ssd-size, C .low))), λ i. hdd-not (the-store g) i)
-  does-stores (does-land H bl d size) = lands-elsewhere lab (x .state .phase) _ _ x refl size
+  does-stores (does-land H bl d size) = lands-elsewhere lab (x .state .phase) true _ _ x refl size
   does-stores (does-fetch {b = b} z H bl w) =
-      lands-elsewhere lab (x .state .phase) _ _ x refl (length-page (x .images .hdd) (blockPlace lab b) (omega (arith, L .hdd-size, bl)))
+      lands-elsewhere lab (x .state .phase) false _ _ x refl (length-page (x .images .hdd) (blockPlace lab b) (omega (arith, L .hdd-size, bl)))
   does-stores (does-rest n u) = λ s g. no-store g
   does-stores (does-confirm u n) =
       confirmed-stores lab (L .limits) (x .state) refl (x .table) (S .size) (S .legal) n (S .rule) (x .state .phase) serving 0 done

@@ -72,11 +72,11 @@ wide =
     move (land (record { 0 = 5 }) (filled 9))
     (four (5 ∷ 7 ∷ 6 ∷ 7 ∷ 7 ∷ 7 ∷ 0 ∷ 0 ∷ []) 3 3 Ready false (record { 0 = 0 } ∷ record { 0 = 1 } ∷ record { 0 = 2 } ∷ []))
     (leaving done (stores ssdImage 2 (filled 9))
-    (four (5 ∷ 3 ∷ 6 ∷ 7 ∷ 7 ∷ 7 ∷ 0 ∷ 0 ∷ []) 3 3 Ready true (record { 0 = 1 } ∷ record { 0 = 2 } ∷ [])))
+    (four (5 ∷ 11 ∷ 6 ∷ 7 ∷ 7 ∷ 7 ∷ 0 ∷ 0 ∷ []) 3 3 Ready true (record { 0 = 1 } ∷ record { 0 = 2 } ∷ [])))
     ∷ move (land (record { 0 = 6 }) (filled 9))
     (four (5 ∷ 7 ∷ 6 ∷ 7 ∷ 7 ∷ 7 ∷ 0 ∷ 0 ∷ []) 3 3 Ready false (record { 0 = 0 } ∷ record { 0 = 1 } ∷ record { 0 = 2 } ∷ []))
     (leaving done (stores ssdImage 3 (filled 9))
-    (four (5 ∷ 7 ∷ 6 ∷ 3 ∷ 7 ∷ 7 ∷ 0 ∷ 0 ∷ []) 3 3 Ready true (record { 0 = 0 } ∷ record { 0 = 2 } ∷ [])))
+    (four (5 ∷ 7 ∷ 6 ∷ 11 ∷ 7 ∷ 7 ∷ 0 ∷ 0 ∷ []) 3 3 Ready true (record { 0 = 0 } ∷ record { 0 = 2 } ∷ [])))
     -- from the hand on slot 1, which is used, the sweep goes on to slot 2
     ∷ move (fetch (record { 0 = 7 })) (four (3 ∷ 1 ∷ 4 ∷ 9 ∷ 6 ∷ 1 ∷ 0 ∷ 0 ∷ []) 1 2 Ready false [])
     (leaving (announced (record { 0 = 2 }))
@@ -97,7 +97,7 @@ wide =
     ∷ []
 
 -- Moves of a box of two slots: a second look-up leaves the used flag set, that of a dirty block sets it too; a fetch that lands sets
--- unsettled.
+-- unsettled and leaves the used flag; a write that lands in place sets that flag and leaves unsettled (document 02, N2).
 abbrev pub narrow : List Case
 narrow =
     move (lookUp (record { 0 = 1 })) (held (1 ∷ 9 ∷ 0 ∷ 0 ∷ []) 1 true [])
@@ -106,6 +106,10 @@ narrow =
     (leaving (inSlot (record { 0 = 0 })) none (held (1 ∷ 11 ∷ 0 ∷ 0 ∷ []) 1 true []))
     ∷ move (landFetch (record { 0 = 1 })) (held (1 ∷ 5 ∷ 0 ∷ 0 ∷ []) 2 false (record { 0 = 0 } ∷ []))
     (leaving done (stores ssdImage 2 (filled 65)) (held (1 ∷ 1 ∷ 0 ∷ 0 ∷ []) 2 true []))
+    ∷ move (landFetch (record { 0 = 1 })) (held (1 ∷ 13 ∷ 0 ∷ 0 ∷ []) 2 false (record { 0 = 0 } ∷ []))
+    (leaving done (stores ssdImage 2 (filled 65)) (held (1 ∷ 9 ∷ 0 ∷ 0 ∷ []) 2 true []))
+    ∷ move (land (record { 0 = 1 }) (filled 9)) (held (1 ∷ 3 ∷ 0 ∷ 0 ∷ []) 2 false [])
+    (leaving done (stores ssdImage 2 (filled 9)) (held (1 ∷ 11 ∷ 0 ∷ 0 ∷ []) 2 false []))
     ∷ []
 
 -- the page that a call names is the one that it stores
@@ -126,7 +130,7 @@ Wide = Moves first (refl, (refl, (refl, (refl, (refl, tt)))))
 
 Narrow : AllHold narrow
 unfolding known
-Narrow = Wide first (refl, (refl, (refl, tt)))
+Narrow = Wide first (refl, (refl, (refl, (refl, (refl, tt)))))
 
 pub Named : AllHold named
 unfolding known

@@ -5,7 +5,7 @@ use mathlib.Core.List.{List, [], _∷_}
 use Rattle.record.specs.declared.Phase.the-variants.{Recovering, Ready}
 use Rattle.protocol.specs.Reply.{announced, done, refusal, overwrite, onDisk}
 use Rattle.record.specs.Record.{recordOf}
-use Rattle.protocol.specs.Plan.{step, flush, offer, land, fetch, lookUp, view}
+use Rattle.protocol.specs.Plan.{step, flush, offer, land, fetch, lookUp, view, landFetch}
 use Rattle.protocol.specs.Events.{call, startOf, cut, old, new}
 use Rattle.protocol.proofs.cases.Report.{nothing, meta, slot, line, diskOf, lost, start, filled, metaPage, labelPage, pages, rubbish}
 use Rattle.protocol.proofs.cases.Known.{Sized, known}
@@ -127,6 +127,30 @@ cuts =
       reads = filled 8 ∷ [];
     })
 
+-- document 02, N2: "With slots 2 and blocks 3, write and land 0, fetch and land 1, offer 2: slot 1 is taken"
+abbrev pub edited : Script
+edited =
+    scripted two (start two)
+    (call (offer (record { 0 = 0 })) ∷ call (land (record { 0 = 0 }) (filled 9)) ∷ call (fetch (record { 0 = 1 })) ∷ call
+    (landFetch (record { 0 = 1 })) ∷ call (offer (record { 0 = 2 })) ∷ [])
+    (record { 0 = 0 } ∷ [])
+    (record {
+      lines =
+          line (announced (record { 0 = 0 })) (meta 0) Ready
+          ∷ line done (slot 0) Ready
+          ∷ line (announced (record { 0 = 1 })) (meta 0) Ready
+          ∷ line done (slot 1) Ready
+          ∷ line (announced (record { 0 = 1 })) (meta 0) Ready ∷ [];
+      state = recordOf two (record { 0 = 0 }) 3 Ready false (record { 0 = 1 } ∷ []);
+      table = 0 ∷ 3 ∷ 2 ∷ 7 ∷ [];
+      ssd = pages (
+          labelPage (textOf 50 51)
+          ∷ metaPage (3 ∷ 0 ∷ 0 ∷ 0 ∷ 1 ∷ 0 ∷ []) (1 ∷ 0 ∷ 0 ∷ 0 ∷ []) (0 ∷ 0 ∷ 0 ∷ 0 ∷ 3 ∷ 0 ∷ 0 ∷ 0 ∷ 2 ∷ 0 ∷ 0 ∷ 0 ∷ 7 ∷ 0 ∷ 0 ∷ 0 ∷ [])
+          ∷ filled 9 ∷ filled 65 ∷ []);
+      hdd = diskOf two;
+      reads = filled 9 ∷ [];
+    })
+
 sized-held : Sized two (held (1 ∷ 1 ∷ 0 ∷ 0 ∷ []) 1 false [] .images)
 unfolding known
 sized-held = computed-9 first record { ssd-size = refl; hdd-size = refl }
@@ -147,13 +171,17 @@ computed-unserved : Computed unserved (fresh one (textOf 49 50))
 unfolding known textOf
 computed-unserved = computed-overwritten first refl
 
+computed-edited : Computed edited (fresh two (textOf 50 51))
+unfolding known textOf
+computed-edited = computed-unserved first refl
+
 computed-cuts : Computed cuts (fresh one (textOf 49 50))
 unfolding known textOf
-computed-cuts = computed-unserved first refl
+computed-cuts = computed-edited first refl
 
 -- All further cases hold.
 pub scripts : List Case
-scripts = script both-open ∷ script overwritten ∷ script unserved ∷ script clean-viewed ∷ script cuts ∷ []
+scripts = script both-open ∷ script overwritten ∷ script unserved ∷ script edited ∷ script clean-viewed ∷ script cuts ∷ []
 
 pub all-scripts : AllHold scripts
 unfolding scripts
@@ -161,6 +189,7 @@ all-scripts =
     shows both-open (fresh two (textOf 50 51)) start-two sized-two computed-both-open
     also shows overwritten (fresh one (textOf 49 50)) start-one sized-one computed-overwritten
     also shows unserved (fresh one (textOf 49 50)) start-one sized-one computed-unserved
+    also shows edited (fresh two (textOf 50 51)) start-two sized-two computed-edited
     also shows clean-viewed (held (1 ∷ 1 ∷ 0 ∷ 0 ∷ []) 1 false []) refl sized-held computed-clean-viewed
     also shows cuts (fresh one (textOf 49 50)) start-one sized-one computed-cuts
     also tt

@@ -10,6 +10,7 @@ use borrow.Author.Tests.{lt-ltb, ltb-true, eqb-true, eq-eqb, not-true, not-false
 use Rattle.layout.specs.declared.Label.{Label}
 use Rattle.layout.specs.PageRule.{pairTest, legalFlags}
 use Rattle.protocol.specs.Rows.{valid, dirty, writing, used, withoutDirty, withoutWriting, withoutUsed, withUsed, withWriting}
+use Rattle.protocol.specs.Perform.{landedFlags}
 use Rattle.protocol.specs.Judge.{rowTest}
 use Rattle.layout.proofs.Booleans.{clash, and-parts, or-cases}
 use Rattle.protocol.proofs.model.Model as model
@@ -240,6 +241,14 @@ changed-open f9 b v o d = record { legal = f15; still = refl; row = refl }
 changed-open f11 b v o d = clash refl d
 changed-open f13 b v o d = clash refl o
 changed-open f15 b v o d = clash refl o
+
+-- a landing closes the row, and of a write sets used
+pub changed-landed : (write : Bool) {f : ℕ} → Flags f → (b : ℕ) → valid f ≡ true → Changed b f (landedFlags write f) (shut (rowOf b (f % 8)))
+changed-landed false F b v = changed-shut F b
+changed-landed true F b v =
+    let c = changed-shut F b in
+    let d = changed-used (c .legal) b (c .still ∙ v) in
+    record { legal = d .legal; still = d .still ∙ c .still; row = d .row ∙ c .row }
 
 -- a changed row is legal
 pub changed-row : {l : Label} {b f g : ℕ} {r : Row} → LegalRow l b f → Changed b f g r → LegalRow l b g

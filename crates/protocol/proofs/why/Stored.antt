@@ -7,11 +7,11 @@ use Rattle.pages.specs.Pages.{pageAt}
 use Rattle.layout.specs.declared.Slot.{Slot}
 use Rattle.layout.specs.Places.{metaPlace, dataPlace, blockPlace, metaOf}
 use Rattle.layout.specs.MetaPage.{encodeMeta, rowsOn}
-use Rattle.protocol.specs.Rows.{rowBlock, rowFlags, setRow, writing}
+use Rattle.protocol.specs.Rows.{rowBlock, setRow}
 use Rattle.record.specs.Record.{labelIn, windowIn}
 use Rattle.protocol.specs.Box.{Box, ssdImage, hddImage, Store}
 use Rattle.protocol.specs.Plan.{Move, stay, uses, opens, lands, copies, confirms, mends, begins, formats, recovers, storesMeta}
-use Rattle.protocol.specs.Perform.{confirmed, joined, mendedAt, formatStore, landedAs, perform}
+use Rattle.protocol.specs.Perform.{confirmed, joined, mendedAt, formatStore, perform}
 use Rattle.protocol.proofs.cases.Scripts as computed-first
 
 -- a metadata page with the newest stamp plus 1; or nothing, a data page, a page of the disk, or a format's page
@@ -34,11 +34,7 @@ unfolding perform confirmed
 stored (stay p) x = nothing
 stored (uses s) x = nothing
 stored (opens s b f t h) x = metadata (metaOf s) (windowIn (joined s h (x .state))) (rowsOn (metaOf s) (setRow t s b f))
-stored (lands s page) x = go (writing (rowFlags (x .table) s))
-  where
-    go : (w : Bool) → Stored x false (landedAs w s page x .store)
-    go true = slotPage s page
-    go false = slotPage s page
+stored (lands w s page) x = slotPage s page
 stored (copies s p t h) x = diskPage (blockPlace (labelIn (x .state)) (rowBlock t s))
     (pageAt (x .images .ssd) (dataPlace (labelIn (x .state)) s))
 stored confirms x = metadata 0 (windowIn (x .state)) (rowsOn 0 (x .table))

@@ -15,24 +15,24 @@ use Rattle.layout.specs.declared.Label.{Label}
 use Rattle.layout.specs.Places.{metaPages, tableLength}
 use Rattle.layout.specs.MetaPage.{encodeMeta, rowsOn}
 use Rattle.layout.specs.PageRule.{distinct}
+use Rattle.record.specs.declared.Record.{Record}
 use Rattle.record.specs.declared.Phase.{Phase}
 use Rattle.protocol.specs.Reply.{Reply}
-use Rattle.protocol.specs.Rows.{rowFlags, setFlags, setRow, valid, dirty, writing, withUsed, withoutWriting, withoutDirty}
+use Rattle.protocol.specs.Rows.{rowFlags, setFlags, setRow, valid, dirty, writing, withUsed, withoutDirty}
 use Rattle.record.specs.Record.{windowIn, recordOf, largestStamp}
 use Rattle.record.specs.Window.{without}
 use Rattle.protocol.specs.Box.{Box, left, boxAfter}
 use Rattle.protocol.specs.Recovery.{metasOf, Newest, newestOf, phaseOf, offPage}
 use Rattle.protocol.specs.Plan.{Move, uses, opens, lands, copies, confirms, mends}
-use Rattle.protocol.specs.Perform.{confirmed, landedAs, perform}
+use Rattle.protocol.specs.Perform.{confirmed, landedFlags, landedState, perform}
 use Rattle.protocol.specs.Judge.{isEmpty}
 use Rattle.record.proofs.RecordLaws.{window-in}
 use Rattle.protocol.proofs.model.Base as base
-use Rattle.layout.proofs.Booleans.{clash}
 use Rattle.protocol.proofs.model.Base.{upd, upd-same, upd-other, Window, metaNo}
 use Rattle.protocol.proofs.model.Model as model
-use Rattle.protocol.proofs.model.Model.{Row, openRow, blockOf, shut, cleaned, stored, landed, copied, mended, same-path}
+use Rattle.protocol.proofs.model.Model.{Row, blockOf, shut, cleaned, stored, landed, copied, mended, same-path}
 use Rattle.protocol.proofs.refine.Windows.{keep-all, nums, nums-off, nums-without, empty-nums}
-use Rattle.protocol.proofs.refine.Flags.{rowOf, Changed, changed-row, changed-shut, changed-clean, changed-used}
+use Rattle.protocol.proofs.refine.Flags.{rowOf, Changed, changed-row, changed-clean, changed-used, changed-landed}
 use Rattle.protocol.proofs.refine.Tables.{rowAt, Rows, flags-at, flags-rows, at-open, at-block}
 use Rattle.protocol.proofs.refine.Sweeps.{Alike, alike-flags, alike-same}
 use Rattle.theorem.proofs.refine.Stores.{put-kept, put-entry, put-newest, put-page, data-kept, data-metas, data-page, disk-kept, disk-page}
@@ -233,131 +233,104 @@ mends-box l k p =
     (window-in l (k .hand) (k .newest) (phaseOf rest) (k .unconfirmed) rest)
     ∙ ap (λ (q : Phase). twoWindows l k (k .table) (k .hand) p q rest rest) (phase-empty rest)
 
--- a landing: of a closed slot the page alone, of an open one row and window too
-abbrev pub pagedCore : Label → Core → ℕ → List ℕ → Core
-pagedCore l k s d = record {
+-- a landing: the page and the row's flags; of an open slot the window and unsettled too
+abbrev pub leftWindow : Bool → ℕ → List Slot → List Slot
+leftWindow true s w = without (record { 0 = s }) w
+leftWindow false s w = w
+
+abbrev pub leftUnconfirmed : Bool → Bool → Bool
+leftUnconfirmed true u = true
+leftUnconfirmed false u = u
+
+abbrev pub landedCore : Bool → Bool → Label → Core → ℕ → List ℕ → Core
+landedCore o write l k s d = record {
   ssd = putPage (k .ssd) (1 + metaPages l + s) d;
   hdd = k .hdd;
-  table = k .table;
+  table = set (k .table) (2 * s + 1) (landedFlags write (getD (k .table) (2 * s + 1) 0));
   hand = k .hand;
   newest = k .newest;
   recovering = k .recovering;
-  unconfirmed = k .unconfirmed;
-  window = k .window;
+  unconfirmed = leftUnconfirmed o (k .unconfirmed);
+  window = leftWindow o s (k .window);
 }
 
-abbrev pub closedCore : Label → Core → ℕ → List ℕ → Core
-closedCore l k s d = record {
-  ssd = putPage (k .ssd) (1 + metaPages l + s) d;
-  hdd = k .hdd;
-  table = set (k .table) (2 * s + 1) (withoutWriting (getD (k .table) (2 * s + 1) 0));
-  hand = k .hand;
-  newest = k .newest;
-  recovering = k .recovering;
-  unconfirmed = true;
-  window = without (record { 0 = s }) (k .window);
-}
-
-abbrev pub landedCore : Bool → Label → Core → ℕ → List ℕ → Core
-landedCore true l k s d = closedCore l k s d
-landedCore false l k s d = pagedCore l k s d
-
-pub lands-box : (l : Label) (k : Core) (s : ℕ) (d : List ℕ) (o : Bool) → writing (getD (k .table) (2 * s + 1) 0) ≡ o
-    → after l k (lands (record { 0 = s }) d) ≡ boxOfCore l (landedCore o l k s d)
+pub lands-box : (l : Label) (k : Core) (s : ℕ) (d : List ℕ) (o write : Bool) → writing (getD (k .table) (2 * s + 1) 0) ≡ o
+    → after l k (lands write (record { 0 = s }) d) ≡ boxOfCore l (landedCore o write l k s d)
 unfolding perform
-lands-box l k s d o e = ap (λ (b : Bool). boxAfter
-    (left (landedAs b (record { 0 = s }) d (boxOfCore l k)) (record { ssd = k .ssd; hdd = k .hdd }))) e ∙ by o
+lands-box l k s d o write e = ap (λ (b : Bool). landing (landedState b (record { 0 = s }) (boxOfCore l k .state))) e ∙ by o
   where
-    closing : List Slot → Box
-    closing w = record {
+    landing : Record → Box
+    landing r = record {
       images = record { ssd = putPage (k .ssd) (1 + metaPages l + s) d; hdd = k .hdd };
-      table = set (k .table) (2 * s + 1) (withoutWriting (getD (k .table) (2 * s + 1) 0));
-      state = recordOf l (k .hand) (k .newest) (phaseFor (k .recovering)) true (without (record { 0 = s }) w);
+      table = set (k .table) (2 * s + 1) (landedFlags write (getD (k .table) (2 * s + 1) 0));
+      state = r;
     }
 
-    by : (o : Bool) → boxAfter (left (landedAs o (record { 0 = s }) d (boxOfCore l k)) (record { ssd = k .ssd; hdd = k .hdd })) ≡
-        boxOfCore l (landedCore o l k s d)
-    by true = ap closing (window-in l (k .hand) (k .newest) (phaseFor (k .recovering)) (k .unconfirmed) (k .window))
+    closing : List Slot → Record
+    closing w = recordOf l (k .hand) (k .newest) (phaseFor (k .recovering)) true (without (record { 0 = s }) w)
+
+    by : (o : Bool) → landing (landedState o (record { 0 = s }) (boxOfCore l k .state)) ≡ boxOfCore l (landedCore o write l k s d)
+    by true = ap (λ (w : List Slot). landing (closing w))
+        (window-in l (k .hand) (k .newest) (phaseFor (k .recovering)) (k .unconfirmed) (k .window))
     by false = refl
 
-module _ (l : Label) (k : Core) (S : Shape l k) (s : ℕ) (s-slot : s < l .slots) (d : List ℕ) (d-size : length d ≡ 4096) where
-  pub lands-shape : (o : Bool) → Shape l (landedCore o l k s d)
-  lands-shape true = record {
-    images = data-kept l (k .ssd) (k .hdd) (S .images) s s-slot d d-size;
-    table-size = length-set (k .table) (2 * s + 1) _ ∙ S .table-size;
-    hand-ok = S .hand-ok;
-    rows = flags-rows l (k .table) (S .table-size) s _ s-slot (S .rows)
-        (changed-row (S .rows s s-slot) (changed-shut (S .rows s s-slot .flags) _));
-  }
-  lands-shape false = record {
-    images = data-kept l (k .ssd) (k .hdd) (S .images) s s-slot d d-size;
-    table-size = S .table-size;
-    hand-ok = S .hand-ok;
-    rows = S .rows;
-  }
+module _
+    (l : Label)
+    (k : Core)
+    (S : Shape l k)
+    (s : ℕ)
+    (s-slot : s < l .slots)
+    (d : List ℕ)
+    (d-size : length d ≡ 4096)
+    (write : Bool)
+    (is-valid : valid (getD (k .table) (2 * s + 1) 0) ≡ true)
+  where
+    landed-row : Changed (getD (k .table) (2 * s) 0) (getD (k .table) (2 * s + 1) 0) (landedFlags write (getD (k .table) (2 * s + 1) 0))
+        (shut (rowOf (getD (k .table) (2 * s) 0) (getD (k .table) (2 * s + 1) 0 % 8)))
+    landed-row = changed-landed write (S .rows s s-slot .flags) _ is-valid
 
-  landed-metas : metasOf l (putPage (k .ssd) (1 + metaPages l + s) d) ≡ metasOf l (k .ssd)
-  landed-metas = data-metas l (k .ssd) (k .hdd) (S .images) s s-slot d d-size
+    pub lands-shape : (o : Bool) → Shape l (landedCore o write l k s d)
+    lands-shape o = record {
+      images = data-kept l (k .ssd) (k .hdd) (S .images) s s-slot d d-size;
+      table-size = length-set (k .table) (2 * s + 1) _ ∙ S .table-size;
+      hand-ok = S .hand-ok;
+      rows = flags-rows l (k .table) (S .table-size) s _ s-slot (S .rows) (changed-row (S .rows s s-slot) landed-row);
+    }
 
-  landed-dats : (u : ℕ) → pageAt (putPage (k .ssd) (1 + metaPages l + s) d) (1 + metaPages l + u) ≡ upd
-      (λ v. pageAt (k .ssd) (1 + metaPages l + v)) s d u
-  landed-dats = data-page l (k .ssd) (k .hdd) (S .images) s s-slot d d-size
+    landed-metas : metasOf l (putPage (k .ssd) (1 + metaPages l + s) d) ≡ metasOf l (k .ssd)
+    landed-metas = data-metas l (k .ssd) (k .hdd) (S .images) s s-slot d d-size
 
-  closed-row : (u : ℕ) → rowAt (set (k .table) (2 * s + 1) (withoutWriting (getD (k .table) (2 * s + 1) 0))) u ≡ upd (rowAt (k .table)) s
-      (shut (rowAt (k .table) s)) u
-  unfolding rowAt
-  closed-row u = flags-at l (k .table) (S .table-size) s _ s-slot u
-      ∙ ap (λ (r : Row). upd (rowAt (k .table)) s r u) (changed-shut (S .rows s s-slot .flags) (getD (k .table) (2 * s) 0) .row)
+    landed-rows : (u : ℕ) → rowAt (set (k .table) (2 * s + 1) (landedFlags write (getD (k .table) (2 * s + 1) 0))) u
+        ≡ upd (rowAt (k .table)) s (shut (rowAt (k .table) s)) u
+    unfolding rowAt
+    landed-rows u = flags-at l (k .table) (S .table-size) s _ s-slot u ∙ ap (λ (r : Row). upd (rowAt (k .table)) s r u) (landed-row .row)
 
-  -- a row that is not open is as it was
-  shut-same : (r : Row) → openRow r ≡ false → shut r ≡ r
-  shut-same Row.free e = refl
-  shut-same (Row.clean b) e = refl
-  shut-same (Row.dirty b) e = refl
-  shut-same (Row.fetching b) e = clash refl e
-  shut-same (Row.writing b) e = clash refl e
+    pub lands-abs : (o : Bool) → writing (getD (k .table) (2 * s + 1) 0) ≡ o → distinct (k .window) ≡ true
+        → base.has (nums (k .window)) s ≡ o → abs l (landedCore o write l k s d) ≡ landed s d (abs l k)
+    unfolding abs landed
+    lands-abs o e di h =
+        same-path _ _ record {
+          slots = refl;
+          blocks = refl;
+          row = landed-rows;
+          entry = λ u. ap (λ (m : List (List ℕ)). entryRow l m u) landed-metas;
+          hdd = λ b. refl;
+          slotPage = data-page l (k .ssd) (k .hdd) (S .images) s s-slot d d-size;
+          window = windowed o h;
+          storedWindow = ap (λ (m : List (List ℕ)). nums (newestOf m .window)) landed-metas;
+          newest = refl;
+          stamp = ap (λ (m : List (List ℕ)). newestOf m .stamp) landed-metas;
+          unconfirmed = sym (ap (λ (b : Bool). k .unconfirmed || b) (at-open l (k .table) (S .rows) s s-slot ∙ e) ∙ joins o);
+          recovering = refl;
+        }
+      where
+        windowed : (o : Bool) → base.has (nums (k .window)) s ≡ o → nums (leftWindow o s (k .window)) ≡ base.without (nums (k .window)) s
+        windowed true h = nums-without (record { 0 = s }) (k .window) di
+        windowed false h = sym (keep-all (nums (k .window)) s h)
 
-  paged-row : writing (getD (k .table) (2 * s + 1) 0) ≡ false → (u : ℕ)
-      → rowAt (k .table) u ≡ upd (rowAt (k .table)) s (shut (rowAt (k .table) s)) u
-  paged-row e u = go (ℕ-discrete u s)
-    where
-      go : Dec (u ≡ s) → rowAt (k .table) u ≡ upd (rowAt (k .table)) s (shut (rowAt (k .table) s)) u
-      go (yes q) = rw (q, upd-same) (sym (shut-same (rowAt (k .table) s) (at-open l (k .table) (S .rows) s s-slot ∙ e)))
-      go (no n) = sym (upd-other (rowAt (k .table)) s _ u n)
-
-  pub lands-abs : (o : Bool) → writing (getD (k .table) (2 * s + 1) 0) ≡ o → distinct (k .window) ≡ true
-      → base.has (nums (k .window)) s ≡ o → abs l (landedCore o l k s d) ≡ landed s d (abs l k)
-  unfolding abs landed
-  lands-abs true e di h =
-      same-path _ _ record {
-        slots = refl;
-        blocks = refl;
-        row = closed-row;
-        entry = λ u. ap (λ (m : List (List ℕ)). entryRow l m u) landed-metas;
-        hdd = λ b. refl;
-        slotPage = landed-dats;
-        window = nums-without (record { 0 = s }) (k .window) di;
-        storedWindow = ap (λ (m : List (List ℕ)). nums (newestOf m .window)) landed-metas;
-        newest = refl;
-        stamp = ap (λ (m : List (List ℕ)). newestOf m .stamp) landed-metas;
-        unconfirmed = sym (ap (λ (b : Bool). k .unconfirmed || b) (at-open l (k .table) (S .rows) s s-slot ∙ e) ∙ or-true (k .unconfirmed));
-        recovering = refl;
-      }
-  lands-abs false e di h =
-      same-path _ _ record {
-        slots = refl;
-        blocks = refl;
-        row = paged-row e;
-        entry = λ u. ap (λ (m : List (List ℕ)). entryRow l m u) landed-metas;
-        hdd = λ b. refl;
-        slotPage = landed-dats;
-        window = sym (keep-all (nums (k .window)) s h);
-        storedWindow = ap (λ (m : List (List ℕ)). nums (newestOf m .window)) landed-metas;
-        newest = refl;
-        stamp = ap (λ (m : List (List ℕ)). newestOf m .stamp) landed-metas;
-        unconfirmed = sym (ap (λ (b : Bool). k .unconfirmed || b) (at-open l (k .table) (S .rows) s s-slot ∙ e) ∙ or-false (k .unconfirmed));
-        recovering = refl;
-      }
+        joins : (o : Bool) → (k .unconfirmed || o) ≡ leftUnconfirmed o (k .unconfirmed)
+        joins true = or-true (k .unconfirmed)
+        joins false = or-false (k .unconfirmed)
 
 -- a copy to the disk
 abbrev pub copiedCore : Label → Core → ℕ → List ℕ → Slot → Core

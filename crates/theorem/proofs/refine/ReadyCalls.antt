@@ -39,7 +39,7 @@ use Rattle.protocol.proofs.refine.Flags.{rowOf}
 use Rattle.protocol.proofs.refine.Tables.{rowAt, set-at, at-open, at-block, at-valid, at-dirty}
 use Rattle.protocol.proofs.refine.Conditions.{Held, is-dirty}
 use Rattle.protocol.proofs.Sound.{Sound, writing-is, room}
-use Rattle.protocol.proofs.Does.{Absent, Opening, Copying, Quiet, Does, does-nothing, does-use, does-open, does-copy, does-land, does-fetch, does-rest, does-confirm, lands-said, opening-sound}
+use Rattle.protocol.proofs.Does.{Absent, Opening, Copying, Quiet, Does, does-nothing, does-use, does-open, does-copy, does-land, does-fetch, does-rest, does-confirm, opening-sound}
 use Rattle.theorem.proofs.refine.Performed.{after, tabled-abs, tabled-shape, uses-box, uses-alike, storedCore, stored-shape, stored-abs, opens-box, confirms-box, landedCore, lands-box, lands-shape, lands-abs, copiedCore, copies-box, copies-shape, copies-abs}
 use Rattle.protocol.proofs.refine.Abstract.{Core, boxOfCore, abs, Shape, ready-sound, Agrees, is-ready, Inv}
 
@@ -209,15 +209,17 @@ module _ (l : Label) (k : Core) (S : Shape l k) (d : Disk) (p : Plain) (A : Agre
     lands-asks page H bl = let r = held-row l k S p R H in
         record { held = r .0; holds-b = r .1; slot-below = H .low; block-below = bl }
 
-    lands-next : (s : ℕ) (page : List ℕ) (p′ : Plain) (o : Bool) → s < l .slots → length page ≡ 4096
+    lands-next : (write : Bool) {b s : ℕ} (page : List ℕ) (p′ : Plain) (o : Bool) → Held l (k .table) b s → length page ≡ 4096
         → writing (getD (k .table) (2 * s + 1) 0) ≡ o → Agrees l (fedCall (a .purpose) (a .block) d) p′
         → model.Ready (landed s page (abs l k)) p′
-        → Inv l (calledAs c (perform (lands (record { 0 = s }) page) (boxOfCore l k)) (worldOf l k d))
-    lands-next s page p′ o h size e A′ R′ =
+        → Inv l (calledAs c (perform (lands write (record { 0 = s }) page) (boxOfCore l k)) (worldOf l k d))
+    unfolding perform
+    lands-next write {b} {s} page p′ o H size e A′ R′ =
         let T = ready-sound l k S p R in
-        next (lands (record { 0 = s }) page) (landedCore o l k s page) p′ (lands-said (boxOfCore l k) (record { 0 = s }) page)
-        (lands-box l k s page o e) (lands-shape l k S s h page size o) A′
-        (rw (lands-abs l k S s h page size o e (sym (distinct-nums (k .window)) ∙ T .rule .apart) (sym (writing-is T s h) ∙ e)) R′)
+        next (lands write (record { 0 = s }) page) (landedCore o write l k s page) p′ refl (lands-box l k s page o write e)
+        (lands-shape l k S s (H .low) page size write (H .held) o) A′
+        (rw (lands-abs l k S s (H .low) page size write (H .held) o e (sym (distinct-nums (k .window)) ∙ T .rule .apart)
+        (sym (writing-is T s (H .low)) ∙ e)) R′)
 
     fetched-ready : {b s : ℕ} → Held l (k .table) b s → b < l .blocks → writing (getD (k .table) (2 * s + 1) 0) ≡ true
         → model.Ready (landed s (pageAt (k .hdd) b) (abs l k)) p
@@ -272,10 +274,10 @@ module _ (l : Label) (k : Core) (S : Shape l k) (d : Disk) (p : Plain) (A : Agre
   service-next c K (does-open z O) = opens-next c K z O
   service-next c K (does-copy {said = said} z n C) = copies-next c K z C said n
   service-next c K (does-land {b = b} {s = s} {page = page} H bl y size) =
-      lands-next c K (s .0) page _ (writing (rowFlags (k .table) s)) (H .low) size refl (agrees-written b page)
+      lands-next c K true page _ (writing (rowFlags (k .table) s)) H size refl (agrees-written b page)
       (written-ready c K page H bl y)
   service-next c K (does-fetch {b = b} {s = s} z H bl w) =
-      lands-next c K (s .0) (pageAt (k .hdd) (b .0)) p true (H .low) (length-page (k .hdd) (b .0) (omega (arith, S .images .hdd-size))) w
+      lands-next c K false (pageAt (k .hdd) (b .0)) p true H (length-page (k .hdd) (b .0) (omega (arith, S .images .hdd-size))) w
       (quiet c K z) (fetched-ready c K H bl w)
   service-next c K (does-rest {said = said} n u) =
       stays c K said (settle p) n agrees-settled (settled-ready (abs l k) p R (unfold abs in u))
