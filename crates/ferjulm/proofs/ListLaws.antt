@@ -23,8 +23,8 @@ use Rattle.record.proofs.WindowLaws.{length-array}
 use Rattle.protocol.specs.Reply.{Reply, refusal, answer, refused}
 use Rattle.protocol.specs.Rows.{rowFlags, writing}
 use Rattle.protocol.specs.Box.{Box, left, Result, boxAfter}
-use Rattle.protocol.specs.Plan.{Call, format, step, flush, reopen, offer, fetch, landFetch, lookUp, view, writeBack, land, Move, lands, lowestPage, stepping, plan}
-use Rattle.protocol.specs.Perform.{confirmed, landedAs, formatState, perform}
+use Rattle.protocol.specs.Plan.{Call, format, step, flush, reopen, offer, fetch, landFetch, lookUp, view, writeBack, land, Move, lowestPage, stepping, plan}
+use Rattle.protocol.specs.Perform.{confirmed, landedState, formatState, perform}
 use Rattle.protocol.specs.Recovery.{labelAt, metasOf, newestOf, recover, offPage}
 use Rattle.protocol.specs.Kinds.{Aim}
 use Rattle.protocol.specs.Judge.{Reason, badRows, test, judged}
@@ -78,13 +78,9 @@ unfolding windowIn
 in-few r h = omega (arith, length-take (r .count) (r .window))
 
 module _ (x : Box) (whole : Whole (x .state)) where
-  lands-whole : (s : Slot) (page : List ℕ) → Whole (perform (lands s page) x .state)
-  unfolding perform
-  lands-whole s page = go (writing (rowFlags (x .table) s))
-    where
-      go : (w : Bool) → Whole (landedAs w s page x .state)
-      go true = length-array _ (omega (arith, without-few s (windowIn (x .state)), in-few (x .state) whole))
-      go false = whole
+  landed-whole : (o : Bool) (s : Slot) → Whole (landedState o s (x .state))
+  landed-whole true s = length-array _ (omega (arith, without-few s (windowIn (x .state)), in-few (x .state) whole))
+  landed-whole false s = whole
 
   steps-whole : (p : Phase) → Whole (perform (stepping (x .state) p) x .state)
   unfolding perform confirmed
@@ -108,8 +104,8 @@ module _ (x : Box) (whole : Whole (x .state)) where
   does-whole S (does-open {s = s} z O) =
       length-array _ (omega (arith, length-append (windowIn (x .state)) (s ∷ []), room S (O .few), length-nums (windowIn (x .state))))
   does-whole S (does-copy z n C) = whole
-  does-whole S (does-land {s = s} {page = page} H bl y size) = lands-whole s page
-  does-whole S (does-fetch {s = s} z H bl w) = lands-whole s _
+  does-whole S (does-land {s = s} H bl y size) = landed-whole (writing (rowFlags (x .table) s)) s
+  does-whole S (does-fetch {s = s} z H bl w) = landed-whole (writing (rowFlags (x .table) s)) s
   does-whole S (does-rest n u) = whole
   does-whole S (does-confirm u n) = whole
 

@@ -18,12 +18,12 @@ ghost use Rattle.pages.specs.Pages.{pageAt, putPage};
 ghost use Rattle.layout.specs.Places.{metaPages, metaPlace, dataPlace, blockPlace, metaOf, hddLength, ssdLength};
 ghost use Rattle.layout.specs.MetaPage.{encodeMeta, rowsOn};
 ghost use Rattle.layout.specs.PageRule.{listed};
-ghost use Rattle.protocol.specs.Rows.{rowBlock, rowFlags, setFlags, setRow, dirty, writing, withUsed, withoutWriting, withoutDirty};
+ghost use Rattle.protocol.specs.Rows.{rowBlock, rowFlags, setFlags, setRow, dirty, withUsed, withoutWriting, withoutDirty};
 ghost use Rattle.layout.specs.Window.{windowMost};
 ghost use Rattle.record.specs.Record.{largestStamp, labelIn, windowIn, withStamp, withWindow};
 ghost use Rattle.record.specs.Window.{without};
 ghost use Rattle.record.specs.Rule.{recordTest};
-ghost use Rattle.protocol.specs.Perform.{joined};
+ghost use Rattle.protocol.specs.Perform.{joined, landedFlags};
 ghost use Rattle.protocol.specs.declared.Answer.the-variants.{Announced};
 ghost use Rattle.protocol.specs.declared.Stored.the-variants.{Ssd, Hdd};
 ghost use Rattle.judging.specs.Fits.{FitsRecord};
@@ -111,17 +111,59 @@ pub fn open_slot(
     confirm(ssd, table, next, places::meta_of(s), Answer::Announced(s))
 }
 
-// Closes an open slot: it loses the writing flag and leaves the window.
-pub fn close_slot(table: &mut [u32], state: Record, s: Slot) -> Record
-    requires { ⌜ recordTest state ≡ true ⌝ }
-    requires { ⌜ listed s (windowIn state) ≡ true ⌝ }
+// Flags without writing.
+fn without_writing(flags: u32) -> u32
+    ensures { λ r. ⌜ (r ≡ withoutWriting flags) × (r ≤ flags) ⌝ }
+{
+    if flags / 4 % 2 == 1 {
+        return flags - 4;
+    }
+    flags
+}
+
+// Flags with used.
+fn with_used(flags: u32) -> u32
+    requires { ⌜ flags < 16 ⌝ }
+    ensures { λ r. ⌜ r ≡ withUsed flags ⌝ }
+{
+    if flags / 8 % 2 == 1 {
+        return flags;
+    }
+    flags + 8
+}
+
+// Flags after a landing: not writing, and used if a write landed.
+fn landed_flags(write: bool, flags: u32) -> u32
+    requires { ⌜ flags < 16 ⌝ }
+    ensures { λ r. ⌜ r ≡ landedFlags write flags ⌝ }
+{
+    let closed = without_writing(flags);
+    if write {
+        return with_used(closed);
+    }
+    closed
+}
+
+// The row of a slot in which a page landed, by a write or by a fetch.
+pub fn land_row(table: &mut [u32], s: Slot, write: bool)
     requires { ⌜ 2 * s .0 + 1 < length (now table) ⌝ }
-    requires { ⌜ writing (rowFlags (now table) s) ≡ true ⌝ }
-    ensures { λ q. ⌜ (q ≡ withWindow state true (without s (windowIn state))) × (now (table .exit) ≡ setFlags (now (table .entry)) s (withoutWriting (rowFlags (now (table .entry)) s))) ⌝ }
+    requires { ⌜ rowFlags (now table) s < 16 ⌝ }
+    ensures { λ _. ⌜ now (table .exit) ≡ setFlags (now (table .entry)) s (landedFlags write (rowFlags (now (table .entry)) s)) ⌝ }
 {
     let k = 2 * (s.0 as usize) + 1;
     let flags = table[k];
-    table[k] = flags - 4;
+    table[k] = landed_flags(write, flags);
+}
+
+// Closes an open slot in which a page landed: its row, and it leaves the window.
+pub fn close_slot(table: &mut [u32], state: Record, s: Slot, write: bool) -> Record
+    requires { ⌜ recordTest state ≡ true ⌝ }
+    requires { ⌜ listed s (windowIn state) ≡ true ⌝ }
+    requires { ⌜ 2 * s .0 + 1 < length (now table) ⌝ }
+    requires { ⌜ rowFlags (now table) s < 16 ⌝ }
+    ensures { λ q. ⌜ (q ≡ withWindow state true (without s (windowIn state))) × (now (table .exit) ≡ setFlags (now (table .entry)) s (landedFlags write (rowFlags (now (table .entry)) s))) ⌝ }
+{
+    land_row(table, s, write);
     state::left(state, s)
 }
 
@@ -175,17 +217,6 @@ pub fn copy_out(ssd: &[u8], hdd: &mut [u8], table: &mut [u32], state: Record, s:
     table[k + 1] = flags - 2;
     let number = place as u32;
     Stored::Hdd(number)
-}
-
-// Flags with used.
-fn with_used(flags: u32) -> u32
-    requires { ⌜ flags < 16 ⌝ }
-    ensures { λ r. ⌜ r ≡ withUsed flags ⌝ }
-{
-    if flags / 8 % 2 == 1 {
-        return flags;
-    }
-    flags + 8
 }
 
 // Sets a slot's used flag.

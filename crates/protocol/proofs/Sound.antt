@@ -113,7 +113,8 @@ module _ {l : Label} {t : List ℕ} {w : List Slot} (S : Sound l t w) where
   pub sound-lands : (write : Bool) (s : ℕ) → s < l .slots → valid (getD t (2 * s + 1) 0) ≡ true → writing (getD t (2 * s + 1) 0) ≡ false
       → Sound l (setFlags t (record { 0 = s }) (landedFlags write (rowFlags t (record { 0 = s })))) w
   sound-lands write s h v o =
-      sound-flags s _ h (changed-landed write (S .legal s h .flags) _ v) (shut-open (rowOf (getD t (2 * s) 0) (getD t (2 * s + 1) 0 % 8)) ∙ sym (at-open l t (S .legal) s h ∙ o))
+      sound-flags s _ h (changed-landed write (S .legal s h .flags) _ v)
+      (shut-open (rowOf (getD t (2 * s) 0) (getD t (2 * s + 1) 0 % 8)) ∙ sym (at-open l t (S .legal) s h ∙ o))
 
   -- a page lands in an open slot, which is closed
   pub sound-closes : (write : Bool) (s : ℕ) → s < l .slots → valid (getD t (2 * s + 1) 0) ≡ true

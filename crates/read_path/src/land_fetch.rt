@@ -1,4 +1,4 @@
-// "Land a fetch: copies the HDD page into the slot and closes it likewise."
+// "Land a fetch: copies the HDD page into the slot and closes it likewise." Document 02, N2: it sets no used flag.
 use layout::Block;
 use layout::Slot;
 use layout::places;
@@ -32,7 +32,7 @@ pub fn land_fetch(
         Condition::Writing(_) => answers::refused(9, state),
         Condition::Fetching(s) => {
             let stored = moves::copy_in(ssd, hdd, state, s, block);
-            let next = moves::close_slot(table, state, s);
+            let next = moves::close_slot(table, state, s, false);
             answers::stored(Answer::Done, next, stored)
         }
     }

@@ -1,4 +1,5 @@
-// "Land 4,096 bytes for a block open for writing, or dirty and not open: store its slot's page."
+// "Land 4,096 bytes for a block open for writing, or dirty and not open: store its slot's page." Document 02, N2: it sets the used
+// flag, of a slot that was open or not.
 use layout::Block;
 use layout::Slot;
 use layout::places;
@@ -31,11 +32,12 @@ pub fn land(
         Condition::Clean(_) => answers::refused(9, state),
         Condition::Dirty(s) => {
             let stored = moves::store_page(ssd, state, s, page);
+            moves::land_row(table, s, true);
             answers::stored(Answer::Done, state, stored)
         }
         Condition::Writing(s) => {
             let stored = moves::store_page(ssd, state, s, page);
-            let next = moves::close_slot(table, state, s);
+            let next = moves::close_slot(table, state, s, true);
             answers::stored(Answer::Done, next, stored)
         }
         Condition::Fetching(_) => answers::refused(9, state),

@@ -9,6 +9,7 @@ use Rattle.protocol.specs.Calls.{boxOf, landFetchOf}
 use Rattle.judging.proofs.JudgingLaws.{found}
 use Rattle.judging.proofs.ServeLaws.{refused-by, land-fetch-judges}
 use Rattle.judging.proofs.ReadyLaws.{open-listed}
+use Rattle.judging.proofs.SlotLaws.{flags-low}
 use Rattle.judging.proofs.ServedLaws.{Served, served}
 use Rattle.judging.proofs.CallLaws.{land-fetch-wrong, land-fetch-is}
 use borrow.Author.Needs.{needs}
@@ -89,8 +90,14 @@ copy-in-requires c κs =
 close-slot-requires : tie.Need-close-slot-requires
 close-slot-requires c κs =
     let e = c .before .before .before .before .before .before .before .before in
-    let R = known e .row _ (c .before .before .before .before .before .before .condition .given .1) in
-    (known e .box .box .record-kept, (open-listed _ _ _ _ _ (known e .box) _ (R .low) (R .writing-is), (R .within, R .writing-is)))
+    let a = start e .args in
+    let R = known e .row _ (c .before .before .before .before .before .before .condition .given .1) in (
+      known e .box .box .record-kept,
+      (
+        open-listed _ _ _ _ _ (known e .box) _ (R .low) (R .writing-is),
+        (R .within, flags-low (a .state) (a .table .now) (known e .box .box .sound .table-size) (known e .box .box .rows) _ (R .low)),
+      ),
+    )
 
 stored-requires : tie.Need-stored-requires
 stored-requires c κs = search needs
@@ -140,7 +147,7 @@ returns-6 c =
     let k = c .before .before .before .before .before .before .before .before .before .before .condition .given .1 in
     let z = c .before .before .before .close-slot .ensures in
     let d = c .before .before .before .before .before .before .before .copy-in .ensures in
-    rw (c .stored .ensures, d .0, d .1, z .0, z .1)
+    rw (c .stored .ensures, d .0, d .1, z .0, z .1, known e .row _ k .writing-is)
     (rw (perform, known e .row _ k .writing-is) at (done e _ k refl))
 
 pub land-fetch-spec : {M : Type 1} → statement M

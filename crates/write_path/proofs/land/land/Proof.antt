@@ -1,7 +1,10 @@
 use mathlib.Core.Path.{_≡_, refl}
 use mathlib.Core.Bool.{true, false}
+use Prim.Native.Nat.{_<_}
 use lib.ListN.{length}
+use Rattle.layout.specs.declared.Slot.{Slot}
 use Rattle.protocol.specs.declared.Condition.{Condition}
+use Rattle.protocol.specs.Rows.{rowFlags}
 use Rattle.protocol.specs.Box.{left, refusing}
 use Rattle.protocol.specs.Plan.{land, landing}
 use Rattle.protocol.specs.Perform.{perform}
@@ -10,6 +13,7 @@ use Rattle.protocol.specs.Calls.{boxOf, landOf}
 use Rattle.judging.proofs.JudgingLaws.{found}
 use Rattle.judging.proofs.ServeLaws.{refused-by, land-judges}
 use Rattle.judging.proofs.ReadyLaws.{open-listed}
+use Rattle.judging.proofs.SlotLaws.{flags-low}
 use Rattle.judging.proofs.ServedLaws.{Served, served}
 use Rattle.judging.proofs.CallLaws.{land-wrong, land-is}
 use borrow.Author.Needs.{needs}
@@ -36,6 +40,11 @@ done : (c : tie.Else1) (k : Condition) → c .before .judge-block .result .condi
     left (perform (landing (a .page .now) k) x) (x .images) ≡ landOf (a .ssd .now) (a .hdd .now) (a .table .now) (a .state) (a .block) (a .page .now)
 done c k e o = let a = start c .args in
     land-is (a .ssd .now) (a .hdd .now) (a .table .now) (a .state) (a .block) k (known c .is k e) (a .page .now) (known c .none) o
+
+-- the flags of a slot's row
+low-flags : (c : tie.Else1) (s : Slot) → s .0 < start c .args .state .label .slots → rowFlags (start c .args .table .now) s < 16
+low-flags c = let a = start c .args in
+    flags-low (a .state) (a .table .now) (known c .box .box .sound .table-size) (known c .box .box .rows)
 
 judge-block-requires : tie.Need-judge-block-requires
 judge-block-requires c κs = search needs
@@ -75,6 +84,12 @@ store-page-requires c κs =
     let R = known e .row _ (c .before .before .condition .given .1) in
     (known e .box .box .sound .ssd-size, (known e .box .box .page-size, (known e .box .box .fits .slots-most, R .low)))
 
+land-row-requires : tie.Need-land-row-requires
+land-row-requires c κs =
+    let e = c .before .before .before .before .before .before .before .before in
+    let R = known e .row _ (c .before .before .before .before .before .before .condition .given .1) in
+    (R .within, low-flags e _ (R .low))
+
 stored-requires : tie.Need-stored-requires
 stored-requires c κs = search needs
 
@@ -91,7 +106,7 @@ close-slot-requires : tie.Need-close-slot-requires
 close-slot-requires c κs =
     let e = c .before .before .before .before .before .before .before .before in
     let R = known e .row _ (c .before .before .before .before .before .before .condition2 .given .1) in
-    (known e .box .box .record-kept, (open-listed _ _ _ _ _ (known e .box) _ (R .low) (R .writing-is), (R .within, R .writing-is)))
+    (known e .box .box .record-kept, (open-listed _ _ _ _ _ (known e .box) _ (R .low) (R .writing-is), (R .within, low-flags e _ (R .low))))
 
 stored-requires-2 : tie.Need-stored-requires-2
 stored-requires-2 c κs = search needs
@@ -127,10 +142,11 @@ same-length-5 c = search needs
 returns-4 : tie.Need-returns-4
 unfolding perform
 returns-4 c =
-    let e = c .before .before .before .before .before .before .before .before in
-    let k = c .before .before .before .before .before .before .condition .given .1 in
-    let d = c .before .before .before .store-page .ensures in
-    rw (c .stored .ensures, d .0, d .1)
+    let e = c .before .before .before .before .before .before .before .before .before .before .before .before in
+    let k = c .before .before .before .before .before .before .before .before .before .before .condition .given .1 in
+    let z = c .before .before .before .land-row .ensures in
+    let d = c .before .before .before .before .before .before .before .store-page .ensures in
+    rw (c .stored .ensures, d .0, d .1, z, known e .row _ k .writing-is)
     (rw (perform, known e .row _ k .writing-is) at (done e _ k refl))
 
 same-length-6 : tie.Need-same-length-6
@@ -146,7 +162,7 @@ returns-5 c =
     let k = c .before .before .before .before .before .before .before .before .before .before .condition2 .given .1 in
     let z = c .before .before .before .close-slot .ensures in
     let d = c .before .before .before .before .before .before .before .store-page2 .ensures in
-    rw (c .stored2 .ensures, d .0, d .1, z .0, z .1)
+    rw (c .stored2 .ensures, d .0, d .1, z .0, z .1, known e .row _ k .writing-is)
     (rw (perform, known e .row _ k .writing-is) at (done e _ k refl))
 
 same-length-8 : tie.Need-same-length-8
@@ -171,6 +187,7 @@ land-spec =
     refused-requires-3
     enum-known-condition
     store-page-requires
+    land-row-requires
     stored-requires
     enum-known-condition-2
     store-page-requires-2
