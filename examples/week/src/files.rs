@@ -7,7 +7,7 @@ use std::ops::Range;
 
 /// The blocks of the survey file, of the scans, and of other files.
 pub const SURVEY: Range<u32> = 8..13;
-pub const SCANS: Range<u32> = 32..52;
+pub const SCANS: Range<u32> = 32..43;
 pub const OTHERS: Range<u32> = 20..23;
 
 /// A file as the pages of its blocks, zero past its end.

@@ -39,6 +39,13 @@ impl Bench {
         self.boxes.iter_mut().for_each(change);
     }
 
+    /// Sets the used flags of all slots, or clears them.
+    pub fn set_used(&mut self, used: bool) {
+        let flag = if used { 8 } else { 0 };
+        let set = |row: &mut [u32]| row[1] = row[1] % 8 + flag;
+        self.set(|w| w.table.chunks_exact_mut(2).for_each(set));
+    }
+
     /// Opens all of the open slots for writing.
     pub fn open_all(&mut self) {
         let open = self.open.clone();

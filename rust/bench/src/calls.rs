@@ -55,8 +55,9 @@ fn swept<S: Side>(b: &mut Bench) {
     let next = b.next_out();
     b.untimed::<S>(101, Call::Offer(next));
     b.untimed::<S>(0, Call::Land(next, &LANDED));
+    b.set_used(false);
     b.time::<S>("offer, copied out", 103, Call::Offer(b.spare));
-    b.set(|w| w.table.chunks_exact_mut(2).for_each(|row| row[1] |= 8));
+    b.set_used(true);
     let next = b.next_out();
     b.time::<S>(
         "offer, announced (all were used)",
@@ -67,10 +68,11 @@ fn swept<S: Side>(b: &mut Bench) {
     b.open_all();
 }
 
-/// Lands the announced spare block and writes it back; `next` lost its slot.
+/// Lands the announced spare block, writes it back and clears the used flags; `next` lost its slot.
 fn clean_again<S: Side>(b: &mut Bench, next: u32) {
     b.untimed::<S>(0, Call::Land(b.spare, &LANDED));
     b.untimed::<S>(0, Call::WriteBack(b.spare));
+    b.set_used(false);
     b.spare = next;
 }
 

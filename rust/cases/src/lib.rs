@@ -5,6 +5,7 @@ pub mod call;
 pub mod disk;
 mod generated;
 pub mod kept;
+mod landings;
 mod listed;
 mod lists;
 mod paper;
@@ -26,6 +27,7 @@ pub fn lines() -> Vec<String> {
         recovery::lines(),
         reopening::lines(),
         lists::lines(),
+        landings::lines(),
         refusals::lines(),
         windows::lines(),
         stamps::lines(),

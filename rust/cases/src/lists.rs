@@ -5,7 +5,7 @@ use crate::listed::Listed;
 /// Title, slots, blocks and calls.
 type List = (&'static str, u32, u32, &'static str);
 
-const LISTS: [List; 6] = [
+const LISTS: [List; 7] = [
     // a block written, written over, confirmed, brought to the disk, and written again
     (
         "writes",
@@ -54,6 +54,13 @@ const LISTS: [List; 6] = [
         2,
         3,
         "fetch 0, land fetch 0, fetch 1, land fetch 1, look up 0, offer 2, land 2 A",
+    ),
+    // document 02, N2: a block that was written keeps its slot before one that was fetched
+    (
+        "two slots, one written",
+        2,
+        3,
+        "offer 0, land 0 A, fetch 1, land fetch 1, offer 2, land 2 B",
     ),
 ];
 

@@ -50,7 +50,10 @@ fn each_call_stores_the_page_that_it_names() {
     assert_eq!(made(&mut rig, "write back 240").1, Some(hdd(240)));
     assert_eq!(made(&mut rig, "write back 240").1, None);
 
-    // the hand is on slot 0, whose block is dirty
+    // all slots are used, by a landed write or a look-up: the sweep comes round to the hand, on slot 0, whose block is dirty
+    for block in (1..GEOMETRY.slots).step_by(2) {
+        assert_eq!(made(&mut rig, &format!("look up {block}")).1, None);
+    }
     let (said, stored) = made(&mut rig, "offer 490");
     let row = 2 * rig.record.hand().0 as usize;
     assert_eq!(said, Answer::CopiedOut);

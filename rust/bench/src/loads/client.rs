@@ -10,14 +10,23 @@ use std::collections::VecDeque;
 /// An open slot's block, and the number to land for a write.
 type Open = (u32, Option<u64>);
 
+#[derive(Clone, Copy)]
+pub struct How {
+    /// How many slots are open at most.
+    pub depth: usize,
+    /// After how many landed writes it flushes; 0: never.
+    pub flush_every: u64,
+    /// Whether landing a write sets the used flag (document 02, N2). If not, the table gets it back as it was, after each landing:
+    /// the slots that are taken are then those of the order before.
+    pub landing_uses: bool,
+}
+
 pub struct Client {
     pub cache: Counted,
     pub events: Events,
     pub hits: u64,
     open: VecDeque<Open>,
-    depth: usize,
-    /// After how many landed writes it flushes; 0: never.
-    flush_every: u64,
+    how: How,
     since_flush: u64,
     /// What each block should read as.
     wanted: Vec<u64>,
@@ -26,14 +35,13 @@ pub struct Client {
 }
 
 impl Client {
-    pub fn new(slots: u32, blocks: u32, depth: usize, flush_every: u64) -> Client {
+    pub fn new(slots: u32, blocks: u32, how: How) -> Client {
         Client {
             cache: Counted::new(slots, blocks),
             events: Events::default(),
             hits: 0,
             open: VecDeque::new(),
-            depth,
-            flush_every,
+            how,
             since_flush: 0,
             wanted: (1..=blocks as u64).collect(),
             next: blocks as u64,
@@ -65,13 +73,25 @@ impl Client {
 
     fn land(&mut self, block: u32, number: u64) {
         fill(&mut self.page, number);
+        let at = self.flags_at(block).unwrap();
+        let used = self.cache.world.table[at] & 8;
         assert!(self.cache.call(Call::Land(block, &self.page)) == 0);
+        if !self.how.landing_uses {
+            self.cache.world.table[at] = 3 + used;
+        }
         self.wanted[block as usize] = number;
         self.since_flush += 1;
-        if self.since_flush == self.flush_every {
+        if self.since_flush == self.how.flush_every {
             self.since_flush = 0;
             assert!([0, 106].contains(&self.cache.call(Call::Flush)));
         }
+    }
+
+    /// Where the table has the flags of the block's row, if it has one.
+    fn flags_at(&self, block: u32) -> Option<usize> {
+        let mut rows = self.cache.world.table.chunks_exact(2);
+        let row = rows.position(|row| row[0] == block && row[1] != 0)?;
+        Some(2 * row + 1)
     }
 
     /// Lands what is open for the block, and makes room for one more.
@@ -79,7 +99,7 @@ impl Client {
         if let Some(at) = self.open.iter().position(|(b, _)| *b == block) {
             self.finish(at);
         }
-        if self.open.len() == self.depth {
+        if self.open.len() == self.how.depth {
             self.finish(0);
         }
     }
@@ -101,13 +121,7 @@ impl Client {
 
     fn write(&mut self, block: u32) {
         self.make_room(block);
-        let before = self
-            .cache
-            .world
-            .table
-            .chunks_exact(2)
-            .any(|row| row[0] == block && row[1] != 0);
-        self.hits += before as u64;
+        self.hits += self.flags_at(block).is_some() as u64;
         self.next += 1;
         let number = self.next;
         if self.announce(Call::Offer(block)) {

@@ -6,7 +6,7 @@ mod orders;
 mod trace;
 
 use crate::report::Table;
-use client::Client;
+use client::{Client, How};
 use counted::Stores;
 use orders::{Events, ORDERS};
 use trace::{Load, Trace, LOADS};
@@ -26,9 +26,16 @@ struct Run {
     kept: [Vec<f64>; 1 + ORDERS.len()],
 }
 
-fn run(load: &Load, depth: usize, flush_every: u64) -> Run {
+/// Up to 16 slots open, and no flush.
+const USUAL: How = How {
+    depth: 16,
+    flush_every: 0,
+    landing_uses: true,
+};
+
+fn run(load: &Load, how: How) -> Run {
     let mut trace = Trace::new(load, BLOCKS);
-    let mut client = Client::new(SLOTS, BLOCKS, depth, flush_every);
+    let mut client = Client::new(SLOTS, BLOCKS, how);
     (0..WARM).for_each(|_| client.serve(trace.next()));
     client.cache.stores = Stores::default();
     client.events = Events::default();
@@ -78,13 +85,23 @@ fn add_row(table: &mut Table, names: [&str; 2], hits: u64, stores: [u64; 3], kep
     table.row(cells);
 }
 
-/// The box with flushes and without, then the rivals on the decisions of the box without.
+/// The box without flushes, with the order of slots before document 02's N2 and with flushes; then the rivals on the decisions of
+/// the box without.
 fn add_load(table: &mut Table, load: &Load) {
-    let without = run(load, 16, 0);
+    let without = run(load, USUAL);
+    let flushing = |flush_every| How {
+        flush_every,
+        ..USUAL
+    };
+    let before = How {
+        landing_uses: false,
+        ..USUAL
+    };
     let boxes = [
         ("box, no flush", &without),
-        ("box, flush after 16 writes", &run(load, 16, 16)),
-        ("box, flush after each write", &run(load, 16, 1)),
+        ("box, no flush, used by look-ups alone", &run(load, before)),
+        ("box, flush after 16 writes", &run(load, flushing(16))),
+        ("box, flush after each write", &run(load, flushing(1))),
     ];
     for (name, run) in boxes {
         let stores = [run.stores.metadata, run.stores.data, run.stores.copy_outs];
@@ -124,7 +141,7 @@ pub fn depths() -> String {
         "least",
     ]);
     for depth in [1, 16, 63] {
-        let run = run(&LOADS[3], depth, 0);
+        let run = run(&LOADS[3], How { depth, ..USUAL });
         let names = ["box, no flush"]
             .into_iter()
             .chain(ORDERS.iter().map(|order| order.name));

@@ -61,6 +61,7 @@ pub fn land(w: &mut World, block: u32, page: &[u8]) -> Answer {
     if flags / 4 % 2 == 1 {
         close(w, &mut r, slot);
     }
+    w.table[2 * slot as usize + 1] |= 8;
     pack(&mut w.record, &r);
     Ok(0)
 }
