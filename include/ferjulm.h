@@ -19,7 +19,8 @@
  * - Slots and blocks are two kinds of number, each counted from 0.
  *
  * A row of the table is two words for a slot, the table's words 2 * slot and 2 * slot + 1: the block, and its flags, a sum of 1
- * valid, 2 dirty, 4 writing (the slot is open) and 8 used (looked up since a sweep last passed). A free row is zero.
+ * valid, 2 dirty, 4 writing (the slot is open) and 8 used (looked up, or landed by a write, since a sweep last passed). A free
+ * row is zero.
  *
  * Lengths are counted in elements: bytes of an image or page, 32-bit words of table and record. Nothing else has to hold of
  * what is lent: any length, any bytes and any words are judged, and refused by number where they break a rule. What is lent
@@ -168,9 +169,9 @@ uint32_t ferjulm_offer(uint8_t *ssd, size_t ssd_len, uint8_t *hdd, size_t hdd_le
                        uint32_t *record, size_t record_len, uint32_t block, uint32_t *slot, uint32_t *image,
                        uint64_t *offset);
 
-/* Lands a page for a block that is open for writing, or dirty and not open: stores it in the block's slot, and closes the
- * slot if it was open. The bytes of a slot that was open last only after a later metadata store, which a flush makes. May
- * refuse with 7 and 9; a page of other than 4,096 bytes is 4.
+/* Lands a page for a block that is open for writing, or dirty and not open: stores it in the block's slot, sets the slot's used
+ * flag, and closes it if it was open. The bytes of a slot that was open last only after a later metadata store, which a flush
+ * makes. May refuse with 7 and 9; a page of other than 4,096 bytes is 4.
  */
 uint32_t ferjulm_land(uint8_t *ssd, size_t ssd_len, const uint8_t *hdd, size_t hdd_len, uint32_t *table, size_t table_len,
                       uint32_t *record, size_t record_len, uint32_t block, const uint8_t *page, size_t page_len,
@@ -183,7 +184,7 @@ uint32_t ferjulm_fetch(uint8_t *ssd, size_t ssd_len, uint8_t *hdd, size_t hdd_le
                        uint32_t *record, size_t record_len, uint32_t block, uint32_t *slot, uint32_t *image,
                        uint64_t *offset);
 
-/* Lands a fetch: copies the block's HDD page into its slot, and closes it. May refuse with 7 and 9. */
+/* Lands a fetch: copies the block's HDD page into its slot, and closes it; sets no used flag. May refuse with 7 and 9. */
 uint32_t ferjulm_land_fetch(uint8_t *ssd, size_t ssd_len, const uint8_t *hdd, size_t hdd_len, uint32_t *table,
                             size_t table_len, uint32_t *record, size_t record_len, uint32_t block, uint32_t *image,
                             uint64_t *offset);

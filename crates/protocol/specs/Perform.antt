@@ -44,8 +44,8 @@ joined s hand r = withWindow (withHand r hand) (r .unconfirmed) (windowIn r ++ (
 abbrev pub dataStore : Slot → List ℕ → Box → Store
 dataStore s page x = record { image = ssdImage; place = dataPlace (labelIn (x .state)) s; bytes = page }
 
--- the flags after a landing: an open slot "loses the writing flag"; document 02, N2: "From now on landing a write sets it too" (the
--- used flag, of a slot that was open or not); "landing a fetch doesn't"
+-- the flags after a landing: an open slot "loses the writing flag". Document 02, N2: not "Only a look-up sets the used flag", but
+-- "landing a write sets it too; landing a fetch doesn't", whether the slot was open or not
 abbrev pub landedFlags : Bool → ℕ → ℕ
 landedFlags true flags = withUsed (withoutWriting flags)
 landedFlags false flags = withoutWriting flags

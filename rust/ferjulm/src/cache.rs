@@ -129,7 +129,8 @@ impl<'a> Cache<'a> {
         self.judged(code).map(|code| Offered::of(code, out))
     }
 
-    /// Lands a page for a block that is open for writing, or dirty and not open: the slot's page, which it stored.
+    /// Lands a page for a block that is open for writing, or dirty and not open: the slot's page, which it stored. The slot counts as
+    /// used, as after a look-up: a sweep passes it once before it takes it.
     ///
     /// # Errors
     /// 3 to 6, 7 (the block) and 9 (it is neither).
@@ -149,7 +150,8 @@ impl<'a> Cache<'a> {
         self.judged(code).map(|code| Fetched::of(code, out))
     }
 
-    /// Lands a fetch: copies the HDD page into the slot that the fetch opened: the slot's page, which it stored.
+    /// Lands a fetch: copies the HDD page into the slot that the fetch opened: the slot's page, which it stored. The slot does not count
+    /// as used by it.
     ///
     /// # Errors
     /// 3 to 6, 7 (the block) and 9 (it is not open for fetch).
