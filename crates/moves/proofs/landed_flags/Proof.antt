@@ -1,5 +1,7 @@
+use mathlib.Core.Path.{ap, _∙_}
 use native.Mathlib.Omega.{arith}
 use borrow.Author.Needs.{needs}
+use Rattle.protocol.specs.Rows.{withUsed}
 use Rattle.moves.proofs.landed_flags.Statement.{statement}
 use Rattle.moves.proofs.landed_flags.Tie as tie
 
@@ -10,7 +12,9 @@ with-used-requires : tie.Need-with-used-requires
 with-used-requires c κs = omega (arith, c .before .without-writing .ensures .1, c .before .before .pre)
 
 returns : tie.Need-returns
-returns c = rw (c .with-used .ensures, c .before .before .without-writing .ensures .0, c .before .if1 .taken)
+returns c =
+    let closed = c .before .before .without-writing .ensures .0 in
+    c .with-used .ensures ∙ ap withUsed closed ∙ rw (c .before .if1 .taken)
 
 returns-2 : tie.Need-returns-2
 returns-2 c = rw (c .before .without-writing .ensures .0, c .if1 .left)
