@@ -1,10 +1,13 @@
 -- A box that passes 3, 4 and 5, whatever it is: what its record and its table are.
-use Prim.Native.Nat.{_<_}
-use mathlib.Core.Path.{_≡_, sym, refl, subst}
+use Prim.Native.Nat.{_≤_, _<_}
+use mathlib.Core.Path.{_≡_, refl, sym, ap, subst, _∙_}
 use mathlib.Core.Bool.{Bool, true, false, not, _&&_}
+use mathlib.Core.List.{List}
 use mathlib.Core.Option.{none}
-use lib.ListN.{length}
-use borrow.Author.Tests.{ltb-true, eqb-true, not-false}
+use native.Mathlib.Omega.{arith}
+use lib.ListN.{length, drop}
+use borrow.Author.Tests.{ltb-true, eqb-true, not-false, lt-ltb, le-leb, eq-eqb}
+use Rattle.layout.specs.declared.Slot.{Slot}
 use Rattle.layout.specs.Places.{Limits, ssdLength, hddLength, tableLength}
 use Rattle.layout.proofs.PlaceLaws.{within}
 use Rattle.layout.proofs.Booleans.{clash, and-parts}
@@ -16,13 +19,15 @@ use Rattle.protocol.specs.Rows.{eachRow}
 use Rattle.protocol.specs.Box.{Box}
 use Rattle.protocol.specs.Plan.{Call, step}
 use Rattle.protocol.specs.Kinds.{Aim, aService, kind}
-use Rattle.protocol.specs.Judge.{badRecord, wrongLength, badRows, wrongPhase, lengthsTest, lengthTest, rowTest, agreeTest, rowsTest, isReady, pageLengthTest, test, judged}
+use Rattle.protocol.specs.Judge.{badRecord, wrongLength, badRows, wrongPhase, lengthsTest, lengthTest, rowTest, agreeTest, rowsTest, isReady, pageLengthTest, test, askedFirst, judged}
+use Rattle.record.specs.Window.{zeroSlots}
 use Rattle.record.specs.Rule.{stepsTest, recordTest}
+use Rattle.record.proofs.WindowLaws.{length-array, zero-past}
 use Rattle.record.proofs.RecordLaws.{parts, window-length, window-array}
 use Rattle.protocol.proofs.model.Base.{Window}
-use Rattle.protocol.proofs.refine.Windows.{nums, window-of}
+use Rattle.protocol.proofs.refine.Windows.{nums, length-nums, distinct-nums, below-nums, window-of}
 use Rattle.protocol.proofs.refine.Tables.{Rows}
-use Rattle.protocol.proofs.Judged.{passed, passed-first}
+use Rattle.protocol.proofs.Judged.{NoneHold, passed, passed-first}
 use Rattle.protocol.proofs.Sound.{Sound, sound-of, rows-legal}
 use Rattle.protocol.proofs.why.RowsRules.{agree-same}
 
@@ -96,3 +101,35 @@ legal-sound x L on =
     sound-of (labelIn (x .state)) (x .table) (windowIn (x .state)) (L .table-size) (L .rows) (L .window-rule)
     (agree-same Ready (x .table) (windowIn (x .state)) .0
     (subst (λ (p : Phase). agreeTest p (x .table) (windowIn (x .state)) ≡ true) on (L .agree)))
+
+-- and a legal box passes them
+module _ (x : Box) (L : Legal x) where
+  pub legal-record : recordTest (x .state) ≡ true
+  unfolding recordTest
+  legal-record =
+      let w : List Slot = windowIn (x .state) in
+      let few : length w ≤ 63 = omega (arith, L .window-rule .fits, length-nums w) in
+      rw (
+        within (labelIn (x .state)) .1 (L .limits),
+        lt-ltb _ _ (L .hand-low),
+        L .steps,
+        le-leb (x .state .count) 63 (omega (arith, L .count-is, few)),
+        eq-eqb _ _ (ap length (L .array-is) ∙ length-array w few),
+        sym (below-nums (labelIn (x .state)) w) ∙ L .window-rule .in-slots,
+        sym (distinct-nums w) ∙ L .window-rule .apart,
+        L .count-is,
+      ) (ap (λ (v : List Slot). zeroSlots (drop (length w) v)) (L .array-is) ∙ zero-past w)
+
+  pub legal-lengths : lengthTest (labelIn (x .state)) (x .images) (x .table) ≡ true
+  unfolding lengthTest lengthsTest
+  legal-lengths = rw (eq-eqb _ _ (L .ssd-size), eq-eqb _ _ (L .hdd-size), eq-eqb _ _ (L .table-size))
+
+  pub legal-rows : rowsTest (x .state) (x .table) ≡ true
+  unfolding rowsTest
+  legal-rows = rw (rows-legal (labelIn (x .state)) (x .table) (L .table-size) .1 (L .rows)) (L .agree)
+
+  -- so where it is ready no service is refused by what is asked first
+  pub legal-first : x .state .phase ≡ Ready → (c : Call) {a : Aim} → kind c ≡ aService a → pageLengthTest (a .purpose) ≡ true
+      → NoneHold (askedFirst (kind c)) (λ r. test r c x)
+  unfolding test
+  legal-first on c k m = rw k (rw legal-record, (rw (k, legal-lengths, m), (rw (k, legal-rows), (rw (k, on), tt))))

@@ -5,6 +5,7 @@ pub mod refine
 pub mod Sound
 pub mod Judged
 pub mod Accepted
+pub mod Closed
 pub mod Does
 pub mod Sorted
 pub mod ReadsAnywhere

@@ -3,7 +3,7 @@ use Prim.Native.Nat.{ℕ, _-_, _*_, _%_, min, _≤_, _<_}
 use mathlib.Core.Path.{_≡_}
 use mathlib.Core.Logic.{_≢_, _⊎_}
 use mathlib.Core.Bool.{true, false}
-use mathlib.Core.List.{List}
+use mathlib.Core.List.{List, [], _∷_, _++_, map, List·Mem, List·Permᴰ, Pairwise}
 use mathlib.Core.Option.{Option, some, none}
 use lib.ListN.{length}
 use Rattle.pages.specs.Pages.{pageAt, putPage, zeroPage, IsPage}
@@ -23,12 +23,12 @@ use Rattle.protocol.specs.Reply.{Reply, refused, announced, overwrite, c
 use Rattle.protocol.specs.Rows.{rowBlock, rowFlags, valid, dirty, writing}
 use Rattle.record.specs.Record.{labelIn, windowIn}
 use Rattle.protocol.specs.Box.{Images, Box, ssdImage, Store, Effect, refusing, boxAfter}
-use Rattle.protocol.specs.Condition.{conditionOf}
+use Rattle.protocol.specs.Condition.{conditionOf, isOpen}
 use Rattle.protocol.specs.Plan.{Call, format, step, reopen, offer, fetch, land, landFetch}
 use Rattle.protocol.specs.Recovery.{labelAt, metasOf, entryIn, storedRows, Recovered, recoverFrom}
 use Rattle.protocol.specs.Judge.{noLabel, wrongLength, test}
 use Rattle.protocol.specs.Calls.{effectOf, resultOf, boxOf, viewOf}
-use Rattle.protocol.specs.Events.{World, Arrival, Event, lent, readOf, called, crashed, run, steps, formatted, startOf, AllFit}
+use Rattle.protocol.specs.Events.{World, Memory, Arrival, new, Event, call, cut, lent, readOf, called, crashed, run, steps, formatted, startOf, AllFit}
 use Rattle.protocol.specs.Demand3.{storedWindow}
 
 -- On any images, table and record.
@@ -147,6 +147,77 @@ pub record ReadsAnywhere (ssd hdd : Part) (table : List ℕ) (state : Record) (b
 -- the world after the call or before it
 abbrev pub CutLeaves : Call → Arrival → World → Type 0
 CutLeaves c a w = (crashed c a w ≡ called c w) ⊎ (crashed c a w ≡ w)
+
+-- Document 02, N11: "Landings come back in either order."
+
+-- a landing: of a write, with its bytes, or of a fetch
+pub data Landing : Type 0 where
+  ofWrite : Block → List ℕ → Landing
+  ofFetch : Block → Landing
+
+abbrev pub landingCall : Landing → Call
+landingCall (ofWrite b page) = land b page
+landingCall (ofFetch b) = landFetch b
+
+abbrev pub landingBlock : Landing → Block
+landingBlock (ofWrite b page) = b
+landingBlock (ofFetch b) = b
+
+-- "each open": the landing is accepted, and its block is open, so it does not land in place
+pub record LandsOpen (c : Landing) (x : Box) : Type 0 where
+  pub accepted : refused (resultOf (landingCall c) x .said) ≡ false
+  pub is-open : isOpen (conditionOf (x .table) (landingBlock c)) ≡ true
+
+-- "different blocks"
+abbrev pub OtherBlock : Landing → Landing → Type 0
+OtherBlock c d = landingBlock c .0 ≢ landingBlock d .0
+
+-- "for two different blocks, each open .., for writes and fetches mixed"
+pub record TwoOpen (c d : Landing) (x : Box) : Type 0 where
+  pub one : LandsOpen c x
+  pub other : LandsOpen d x
+  pub different : OtherBlock c d
+
+-- the box that a landing leaves
+abbrev pub landed : Landing → Box → Box
+landed c x = boxAfter (resultOf (landingCall c) x)
+
+-- "landing one and then the other leaves the same images, table and record as the reverse order"
+abbrev pub EitherOrder : Type 0
+EitherOrder = (c d : Landing) (x : Box) → TwoOpen c d x → landed d (landed c x) ≡ landed c (landed d x)
+
+-- after either of them the other is open still, and accepted
+abbrev pub StillOpen : Type 0
+StillOpen = (c d : Landing) (x : Box) → TwoOpen c d x → LandsOpen d (landed c x) × LandsOpen c (landed d x)
+
+-- "and that a cut after both reads alike": whatever events come after both, box and reference disk are the same; so they are where the
+-- cut breaks the second off, its page stored
+pub record LandAlike (c d : Landing) (w : World) : Type 0 where
+  pub after-both : (es : List Event)
+      → run (call (landingCall c) ∷ call (landingCall d) ∷ es) w ≡ run (call (landingCall d) ∷ call (landingCall c) ∷ es) w
+  pub cut-at-second : (j : Memory) (es : List Event)
+      → run (call (landingCall c) ∷ cut (landingCall d) new j ∷ es) w ≡ run (call (landingCall d) ∷ cut (landingCall c) new j ∷ es) w
+
+abbrev pub AlikeAfter : Type 0
+AlikeAfter = (c d : Landing) (w : World) → TwoOpen c d (w .box) → LandAlike c d w
+
+-- "Any arrangement of a whole set of open blocks follows from it": landings of open blocks, each of another block
+pub record OpenSet (cs : List Landing) (x : Box) : Type 0 where
+  pub each : (c : Landing) → List·Mem c cs → LandsOpen c x
+  pub different : Pairwise OtherBlock cs
+
+-- each lands open as its turn comes
+abbrev pub AllLand : List Landing → Box → Type 0
+AllLand [] x = Unit {0}
+AllLand (c ∷ cs) x = LandsOpen c x × AllLand cs (landed c x)
+
+-- in any arrangement all of them land open, and what comes after is the same
+pub record Arrangement (cs ds : List Landing) (w : World) : Type 0 where
+  pub all-land : AllLand ds (w .box)
+  pub same : (es : List Event) → run (map (λ c. call (landingCall c)) cs ++ es) w ≡ run (map (λ c. call (landingCall c)) ds ++ es) w
+
+abbrev pub Arranged : Type 0
+Arranged = (cs ds : List Landing) (w : World) → OpenSet cs (w .box) → List·Permᴰ cs ds → Arrangement cs ds w
 
 -- In a list of demand 3, update before data: what is stored of a slot as bytes land in it.
 

@@ -36,6 +36,22 @@ length-less s (t ∷ w) h = go (told (eqb (t .0) (s .0))) (length-less s w)
     go (told-true e) ih = rw e
     go (told-false e) ih = rw e (ap suc (ih (rw (eqb-turn (s .0) (t .0), e) at h)))
 
+-- two slots leave in either order
+pub without-comm : (s t : Slot) (w : List Slot) → without s (without t w) ≡ without t (without s w)
+unfolding without
+without-comm s t [] = refl
+without-comm s t (u ∷ w) = go (told (eqb (u .0) (s .0))) (told (eqb (u .0) (t .0))) (without-comm s t w)
+  where
+    go : Told (eqb (u .0) (s .0)) → Told (eqb (u .0) (t .0)) → without s (without t w) ≡ without t (without s w)
+        → without s (elim (eqb (u .0) (t .0)) [ true ↦ w | false ↦ u ∷ without t w ])
+        ≡ without t (elim (eqb (u .0) (s .0)) [ true ↦ w | false ↦ u ∷ without s w ])
+    go (told-true a) (told-true b) ih =
+        let e : s .0 ≡ t .0 = sym (eqb-true _ _ a) ∙ eqb-true _ _ b in
+        rw (a, b) (ap (λ (n : ℕ). without (record { 0 = n }) w) e)
+    go (told-true a) (told-false b) ih = rw (a, b) (rw (without, a))
+    go (told-false a) (told-true b) ih = rw (a, b) (rw (without, b))
+    go (told-false a) (told-false b) ih = rw (a, b) (rw (without, a, b) (ap (λ (l : List Slot). u ∷ l) ih))
+
 -- what stands at a place: what stood there, or from the slot's place on what stood one place on
 pub without-at : (s : Slot) (w : List Slot) (i : ℕ) (d : Slot)
     → getD (without s w) i d ≡ getD w (i + choose (listed s (take (suc i) w)) 1 0) d

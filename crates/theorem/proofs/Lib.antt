@@ -13,3 +13,5 @@ pub mod RoundTrip
 pub mod StoresLegally
 pub mod StoresThere
 pub mod ReopensFrom
+pub mod Landings
+pub mod Arranged

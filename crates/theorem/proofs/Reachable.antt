@@ -166,33 +166,37 @@ reopened-inv l j w I = go (refused (resultOf reopen (withMemory j (w .box)) .sai
     go false e = taken-inv l j w I (table-right l (I .core) (I .plain) (I .shape .images) (inv-stored I) (withMemory j (w .box))
         (memory-images I j) e)
 
+-- what a cut with the page new leaves, by the call's store
+abbrev cutAt : Call → World → Option Store → World
+cutAt c w o = let v = takenIf (made new o) (called c w) w in
+    record { box = record { images = survived new o (w .box .images); table = v .box .table; state = v .box .state }; disk = v .disk }
+
+-- where there is one, the world after the call
+pub crashed-made : (c : Call) (w : World) (s : Store) → effectOf c (w .box) .store ≡ some s → crashed c new w ≡ called c w
+unfolding crashed
+crashed-made c w s e =
+    ap (cutAt c w) e
+    ∙ (λ i. record {
+      box = record {
+        images = (ap (λ (o : Option Store). applied o (w .box .images)) (sym e) ∙ sym images-are) i;
+        table = called c w .box .table;
+        state = called c w .box .state;
+      };
+      disk = called c w .disk;
+    })
+  where
+    images-are : called c w .box .images ≡ applied (effectOf c (w .box) .store) (w .box .images)
+    images-are = unfold called in refl
+
 -- what a cut leaves is the world before the call, or after it
 pub crashed-or : (c : Call) (a : Arrival) (w : World) → CutLeaves c a w
 unfolding crashed
 crashed-or c old w = inr refl
 crashed-or c new w = go (effectOf c (w .box) .store) refl
   where
-    at-store : Option Store → World
-    at-store o = let v = takenIf (made new o) (called c w) w in
-        record { box = record { images = survived new o (w .box .images); table = v .box .table; state = v .box .state }; disk = v .disk }
-
-    images-are : called c w .box .images ≡ applied (effectOf c (w .box) .store) (w .box .images)
-    images-are = unfold called in refl
-
-    go : (o : Option Store) → effectOf c (w .box) .store ≡ o
-        → (at-store (effectOf c (w .box) .store) ≡ called c w) ⊎ (at-store (effectOf c (w .box) .store) ≡ w)
-    go none e = inr (ap at-store e)
-    go (some s) e =
-        inl
-        (ap at-store e
-        ∙ (λ i. record {
-          box = record {
-            images = (ap (λ (o : Option Store). applied o (w .box .images)) (sym e) ∙ sym images-are) i;
-            table = called c w .box .table;
-            state = called c w .box .state;
-          };
-          disk = called c w .disk;
-        }))
+    go : (o : Option Store) → effectOf c (w .box) .store ≡ o → CutLeaves c new w
+    go none e = inr (ap (cutAt c w) e)
+    go (some s) e = inl (crashed-made c w s e)
 
 pub crashed-inv : (l : Label) (c : Call) (a : Arrival) (w : World) → CallFits c w → Inv l w → Inv l (crashed c a w)
 crashed-inv l c a w f I = go (crashed-or c a w)

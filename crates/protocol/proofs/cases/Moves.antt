@@ -97,7 +97,8 @@ wide =
     ∷ []
 
 -- Moves of a box of two slots: a second look-up leaves the used flag set, that of a dirty block sets it too; a fetch that lands sets
--- unsettled and leaves the used flag; a write that lands in place sets that flag and leaves unsettled (document 02, N2).
+-- unsettled and leaves the used flag; a write that lands in place sets that flag and leaves unsettled (document 02, N2); a fetch lands
+-- its own block's page, with another slot opened after it (N11).
 abbrev pub narrow : List Case
 narrow =
     move (lookUp (record { 0 = 1 })) (held (1 ∷ 9 ∷ 0 ∷ 0 ∷ []) 1 true [])
@@ -110,6 +111,8 @@ narrow =
     (leaving done (stores ssdImage 2 (filled 65)) (held (1 ∷ 9 ∷ 0 ∷ 0 ∷ []) 2 true []))
     ∷ move (land (record { 0 = 1 }) (filled 9)) (held (1 ∷ 3 ∷ 0 ∷ 0 ∷ []) 2 false [])
     (leaving done (stores ssdImage 2 (filled 9)) (held (1 ∷ 11 ∷ 0 ∷ 0 ∷ []) 2 false []))
+    ∷ move (landFetch (record { 0 = 1 })) (held (1 ∷ 5 ∷ 2 ∷ 7 ∷ []) 2 false (record { 0 = 0 } ∷ record { 0 = 1 } ∷ []))
+    (leaving done (stores ssdImage 2 (filled 65)) (held (1 ∷ 1 ∷ 2 ∷ 7 ∷ []) 2 true (record { 0 = 1 } ∷ [])))
     ∷ []
 
 -- the page that a call names is the one that it stores
@@ -130,7 +133,7 @@ Wide = Moves first (refl, (refl, (refl, (refl, (refl, tt)))))
 
 Narrow : AllHold narrow
 unfolding known
-Narrow = Wide first (refl, (refl, (refl, (refl, (refl, tt)))))
+Narrow = Wide first (refl, (refl, (refl, (refl, (refl, (refl, tt))))))
 
 pub Named : AllHold named
 unfolding known

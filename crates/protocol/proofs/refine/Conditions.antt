@@ -1,13 +1,14 @@
 -- What a block's condition says of the table.
 use Prim.Native.Nat.{ℕ, zero, suc, _+_, _*_, _<_}
-use mathlib.Core.Path.{_≡_}
+use mathlib.Core.Path.{_≡_, refl, ap, _∙_}
 use mathlib.Core.Logic.{_≢_}
-use mathlib.Core.Bool.{true, false, _&&_}
+use mathlib.Core.Bool.{Bool, true, false, _&&_}
 use mathlib.Core.List.{List, [], _∷_}
 use mathlib.Core.Option.{Option, some, none}
 use native.Mathlib.Omega.{arith}
 use native.Mathlib.Nat.{zero-add}
-use lib.ListN.{length, getD}
+use lib.ListN.{length, getD, set}
+use lib.Seq.{getD-set-other}
 use lib.Dec.{eqb}
 use borrow.Author.Tests.{eqb-true}
 use Rattle.layout.specs.declared.Slot.{Slot}
@@ -17,7 +18,7 @@ use Rattle.layout.specs.Places.{tableLength}
 use Rattle.protocol.specs.declared.Condition.{Condition}
 use Rattle.protocol.specs.declared.Condition.the-variants.{NotCached, Clean, Dirty, Writing, Fetching}
 use Rattle.protocol.specs.Rows.{valid, dirty, writing}
-use Rattle.protocol.specs.Condition.{slotFrom, conditionAt, conditionOf}
+use Rattle.protocol.specs.Condition.{slotFrom, openAs, closedAs, conditionAt, conditionOf}
 use Rattle.layout.proofs.Booleans.{Told, told, told-true, told-false, clash, and-parts}
 use Rattle.protocol.proofs.model.Base.{eqb-same}
 
@@ -102,3 +103,35 @@ stands l t size b = go (located 0 t b)
     go (nowhere h) = absent λ s q. h s (omega arith)
     go (at i h v q low) = rw (zero-add i) (by-flags i (record { low = omega arith; held = v; block = q })
         (told (writing (getD t (2 * i + 1) 0))) (told (dirty (getD t (2 * i + 1) 0))))
+
+-- flags that stay valid, or not, keep every block's slot
+pub slot-kept : (k : ℕ) (t : List ℕ) (s f : ℕ) (b : Block) → valid f ≡ valid (getD t (2 * s + 1) 0)
+    → slotFrom k (set t (2 * s + 1) f) b ≡ slotFrom k t b
+unfolding slotFrom
+slot-kept k [] s f b e = refl
+slot-kept k (x ∷ []) zero f b e = refl
+slot-kept k (x ∷ []) (suc s) f b e = let n : 2 * suc s + 1 ≡ suc (suc (2 * s + 1)) = omega arith in rw n refl
+slot-kept k (x ∷ g ∷ t) zero f b e =
+    ap (λ (v : Bool). elim (v && eqb x (b .0)) [ true ↦ some (record { 0 = k }) | false ↦ slotFrom (suc k) t b ]) e
+slot-kept k (x ∷ g ∷ t) (suc s) f b e =
+    let n : 2 * suc s + 1 ≡ suc (suc (2 * s + 1)) = omega arith in
+    let r = slot-kept (suc k) t s f b (rw n at e) in
+    rw n (ap (λ (o : Option Slot). elim (valid g && eqb x (b .0)) [ true ↦ some (record { 0 = k }) | false ↦ o ]) r)
+
+-- and the condition of every block but the row's own
+pub condition-kept : (t : List ℕ) (s f : ℕ) (b : Block) → valid f ≡ valid (getD t (2 * s + 1) 0) → getD t (2 * s) 0 ≢ b .0
+    → conditionOf (set t (2 * s + 1) f) b ≡ conditionOf t b
+unfolding conditionOf
+condition-kept t s f b v n = ap (conditionAt (set t (2 * s + 1) f)) (slot-kept 0 t s f b v) ∙ go (located 0 t b)
+  where
+    go : {o : Option Slot} → Located 0 t (b .0) o → conditionAt (set t (2 * s + 1) f) o ≡ conditionAt t o
+    go (nowhere h) = refl
+    go (at i h w e low) =
+        let q : getD (set t (2 * s + 1) f) (2 * (0 + i) + 1) 0 ≡ getD t (2 * (0 + i) + 1) 0 =
+        getD-set-other t (2 * s + 1) (2 * (0 + i) + 1) f 0 (λ z. n (ap (λ (j : ℕ). getD t (2 * j) 0) (same z) ∙ e)) in
+        ap
+        (λ (g : ℕ). elim (writing g) [ true ↦ openAs (dirty g) (record { 0 = 0 + i }) | false ↦ closedAs (dirty g) (record { 0 = 0 + i }) ])
+        q
+      where
+        same : 2 * (0 + i) + 1 ≡ 2 * s + 1 → s ≡ i
+        same z = omega arith

@@ -7,18 +7,18 @@ use mathlib.Core.Option.{none}
 use native.Mathlib.Omega.{arith}
 use lib.ListN.{length, getD}
 use lib.Dec.{eqb, leb}
-use borrow.Author.Tests.{le-leb, lt-leb, eq-eqb, lt-ltb, not-true}
+use borrow.Author.Tests.{lt-leb, not-true}
 use Rattle.layout.specs.declared.Slot.{Slot}
 use Rattle.layout.specs.declared.Block.{Block}
 use Rattle.layout.specs.declared.Label.{Label}
 use Rattle.layout.specs.PageRule.{listed}
-use Rattle.layout.proofs.PlaceLaws.{within}
 use Rattle.record.specs.declared.Phase.the-variants.{Ready}
 use Rattle.protocol.specs.Rows.{rowBlock, rowFlags, valid, dirty, writing}
-use Rattle.record.specs.Record.{largestStamp}
+use Rattle.record.specs.Record.{windowIn, largestStamp}
+use Rattle.layout.specs.Window.{arrayOf}
 use Rattle.protocol.specs.Plan.{step, flush, lookUp, view, flushing, plan, storesMeta, Call}
-use Rattle.record.specs.Rule.{stepsTest, recordTest}
-use Rattle.protocol.specs.Judge.{lengthsTest, lengthTest, isEmpty, agreeTest, rowsTest, isReady, test, judged, pageLengthTest, askedFirst}
+use Rattle.record.specs.Rule.{stepsTest}
+use Rattle.protocol.specs.Judge.{isEmpty, agreeTest, test, judged, pageLengthTest, askedFirst}
 use Rattle.protocol.proofs.model.Base as base
 use Rattle.protocol.specs.Kinds.{Aim, aService, kind}
 use Rattle.layout.proofs.Booleans.{Told, told, told-true, told-false, clash}
@@ -26,14 +26,14 @@ use Rattle.protocol.proofs.model.Base.{has, Window}
 use Rattle.protocol.proofs.model.Model as model
 use Rattle.protocol.proofs.model.Model.{Row, Plain, Mending, openRow, revived}
 use Rattle.protocol.proofs.model.Rows.{open-valid, shut-open}
-use Rattle.protocol.proofs.refine.Windows.{nums, length-nums, has-nums, distinct-nums, below-nums, empty-nums, some-length}
-use Rattle.record.proofs.WindowLaws.{length-array, zero-past}
+use Rattle.protocol.proofs.refine.Windows.{nums, length-nums, has-nums, empty-nums, some-length}
 use Rattle.protocol.proofs.refine.Flags.{rowOf, Flags, f0, f1, f3, f5, f7, f9, f11, f13, f15, LegalRow}
 use Rattle.protocol.proofs.refine.Tables.{rowAt, each-of, at-open}
 use Rattle.protocol.proofs.Judged.{NoneHold, accepted}
+use Rattle.protocol.proofs.Accepted.{Legal, legal-record, legal-lengths, legal-rows, legal-first}
 use Rattle.record.proofs.RecordLaws.{window-in}
 use Rattle.protocol.proofs.refine.Abstract.{Core, phaseFor, boxOfCore, abs, Shape, ready-sound}
-use Rattle.protocol.proofs.Sound.{Sound, sound-agree, rows-legal}
+use Rattle.protocol.proofs.Sound.{Sound, sound-agree}
 use Rattle.record.proofs.Each.{listed-same}
 use Rattle.protocol.proofs.why.RowsRules.{agree-same}
 
@@ -56,38 +56,30 @@ free-zero {l} {b} {f} r = by (r .flags) (r .free)
     by f13 z e = not-free {q = Row.fetching b} refl e
     by f15 z e = not-free {q = Row.writing b} refl e
 
-module _ (l : Label) (k : Core) (S : Shape l k) (W : Window (l .slots) (nums (k .window))) where
+-- a reachable box whose window keeps its rule, and agrees with rows and phase, is legal
+module _ (l : Label) (k : Core) (S : Shape l k) (W : Window (l .slots) (nums (k .window)))
+    (a : agreeTest (phaseFor (k .recovering)) (k .table) (k .window) ≡ true) where
   steps-pass : (r : Bool) → stepsTest l (phaseFor r) ≡ true
   steps-pass true = refl
   steps-pass false = refl
 
-  record-pass : recordTest (boxOfCore l k .state) ≡ true
-  unfolding recordTest
-  record-pass =
-      let few : length (k .window) ≤ 63 = omega (arith, W .fits, length-nums (k .window)) in
-      rw (
-        within l .1 (S .images .limits),
-        lt-ltb _ _ (S .hand-ok),
-        steps-pass (k .recovering),
-        le-leb _ _ few,
-        length-array (k .window) few,
-        window-in l (k .hand) (k .newest) (phaseFor (k .recovering)) (k .unconfirmed) (k .window),
-        sym (below-nums l (k .window)) ∙ W .in-slots,
-        sym (distinct-nums (k .window)) ∙ W .apart,
-        zero-past (k .window),
-      )
+  window-is : windowIn (boxOfCore l k .state) ≡ k .window
+  window-is = window-in l (k .hand) (k .newest) (phaseFor (k .recovering)) (k .unconfirmed) (k .window)
 
-  length-pass : lengthTest l (record { ssd = k .ssd; hdd = k .hdd }) (k .table) ≡ true
-  unfolding lengthTest lengthsTest
-  length-pass = rw (eq-eqb _ _ (S .images .ssd-size), eq-eqb _ _ (S .images .hdd-size), eq-eqb _ _ (S .table-size))
-
-  rows-pass : agreeTest (phaseFor (k .recovering)) (k .table) (k .window) ≡ true → rowsTest (boxOfCore l k .state) (k .table) ≡ true
-  unfolding rowsTest
-  rows-pass a =
-      rw (
-        rows-legal l (k .table) (S .table-size) .1 (S .rows),
-        window-in l (k .hand) (k .newest) (phaseFor (k .recovering)) (k .unconfirmed) (k .window),
-      ) a
+  core-legal : Legal (boxOfCore l k)
+  core-legal = record {
+    limits = S .images .limits;
+    hand-low = S .hand-ok;
+    steps = steps-pass (k .recovering);
+    count-is = sym (ap length window-is);
+    array-is = sym (ap arrayOf window-is);
+    window-rule = rw window-is W;
+    ssd-size = S .images .ssd-size;
+    hdd-size = S .images .hdd-size;
+    table-size = S .table-size;
+    rows = S .rows;
+    agree = rw window-is a;
+  }
 
 -- a ready box
 module _ (l : Label) (k : Core) (S : Shape l k) (p : Plain) (R : model.Ready (abs l k) p) where
@@ -100,21 +92,10 @@ module _ (l : Label) (k : Core) (S : Shape l k) (p : Plain) (R : model.Ready (ab
   agree-ready : agreeTest (phaseFor (k .recovering)) (k .table) (k .window) ≡ true
   agree-ready = rw on (agree-same Ready (k .table) (k .window) .1 (sound-agree T))
 
-  -- the tests of 3 to 6 fail
-  ready-record : recordTest (boxOfCore l k .state) ≡ true
-  ready-record = record-pass l k S (T .rule)
-
-  ready-rows : rowsTest (boxOfCore l k .state) (k .table) ≡ true
-  ready-rows = rows-pass l k S (T .rule) agree-ready
-
-  ready-phase : isReady (phaseFor (k .recovering)) ≡ true
-  ready-phase = rw on
-
   -- so no service is refused by what is asked first
   ready-first : (c : Call) {a : Aim} → kind c ≡ aService a → pageLengthTest (a .purpose) ≡ true
       → NoneHold (askedFirst (kind c)) (λ r. test r c (boxOfCore l k))
-  unfolding test
-  ready-first c q m = rw q (rw ready-record, (rw (q, length-pass l k S (T .rule), m), (rw (q, ready-rows), (rw (q, on), tt))))
+  ready-first c q m = legal-first (boxOfCore l k) (core-legal l k S (T .rule) agree-ready) (ap phaseFor on) c q m
 
   pub view-judged : (b : Block) → b .0 < l .blocks → judged (view b) (boxOfCore l k) ≡ none
   view-judged b h = accepted (view b) (boxOfCore l k) (ready-first (view b) refl refl) (unfold test in (lt-leb _ _ h, tt))
@@ -195,7 +176,7 @@ module _ (l : Label) (k : Core) (S : Shape l k) (p : Plain) (M : Mending (abs l 
   pub step-judged : judged step (boxOfCore l k) ≡ none
   unfolding test plan
   step-judged =
-      let P = pending-rule in
-      accepted step (boxOfCore l k)
-      (rw (record-pass l k S P), (rw (length-pass l k S P), (rw (rows-pass l k S P agree-mending), (rw on, tt))))
+      let L = core-legal l k S pending-rule agree-mending in
+      let x = boxOfCore l k in
+      accepted step x (rw (legal-record x L), (rw (legal-lengths x L), (rw (legal-rows x L), (rw on, tt))))
       (rw (on, lt-leb _ _ mending-left), tt)
