@@ -198,7 +198,7 @@ module _ (c d : Landing) (x : Box) (T : TwoOpen c d x) where
   abbrev at′ : (s : Slot) × Goes d x s
   at′ = goes d x (T .other)
 
-  pub still : LandsOpen d (landed c x)
+  still : LandsOpen d (landed c x)
   still = subst (LandsOpen d) (sym (landed-is c x (at .0) (at .1)))
       (lands-open d _ (at′ .0) (still-goes c x (at .0) (at .1) d (at′ .0) (T .different) (at′ .1)))
 
@@ -233,5 +233,6 @@ either-order c d x T =
     let H = goes d x (T .other) in
     both-closed c d x T
     ∙ closed-comm x (box-legal c x (G .0) (G .1)) (isWrite c) (isWrite d) (G .0) (H .0) (slots-apart c d x T)
-    (in-slot c x (G .0) (G .1) .0 .low) (in-slot d x (H .0) (H .1) .0 .low) (bytesOf c x) (bytesOf d x) (whole c x (G .0) (G .1)) (whole d x (H .0) (H .1))
+    (in-slot c x (G .0) (G .1) .0 .low) (in-slot d x (H .0) (H .1) .0 .low) (bytesOf c x) (bytesOf d x) (whole c x (G .0) (G .1))
+    (whole d x (H .0) (H .1))
     ∙ sym (both-closed d c x (turned T))

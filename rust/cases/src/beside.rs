@@ -9,6 +9,7 @@ use crate::stored::Metas;
 use ferjulm::{Geometry, Image, Images, Place};
 
 /// A list of calls and cuts in the making.
+#[derive(Clone)]
 pub struct Beside {
     pub geometry: Geometry,
     pub rig: Rig,

@@ -3,6 +3,7 @@
 use ferjulm::{Block, PAGE};
 
 /// A block's page, and the contents that may come back; the page is the last of them.
+#[derive(Clone)]
 struct Contents {
     may_be: Vec<Vec<u8>>,
 }
@@ -14,6 +15,7 @@ impl Contents {
 }
 
 /// Each block has a page and the contents that may come back.
+#[derive(Clone)]
 pub struct PlainDisk {
     blocks: Vec<Contents>,
 }

@@ -5,6 +5,7 @@ use crate::stored::Metas;
 use ferjulm::{Block, Geometry, Images, Slot, PAGE};
 
 /// A block's slot and page just before a cut.
+#[derive(Clone)]
 pub struct Kept {
     block: Block,
     slot: Option<Slot>,

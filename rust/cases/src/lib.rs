@@ -8,6 +8,7 @@ pub mod kept;
 mod landings;
 mod listed;
 mod lists;
+mod orders;
 mod paper;
 pub mod place;
 pub mod random;
@@ -28,6 +29,7 @@ pub fn lines() -> Vec<String> {
         reopening::lines(),
         lists::lines(),
         landings::lines(),
+        orders::lines(),
         refusals::lines(),
         windows::lines(),
         stamps::lines(),

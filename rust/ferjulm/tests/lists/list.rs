@@ -4,7 +4,7 @@ use cases::beside::Beside;
 use cases::random::Random;
 use cases::rig::{Answer, Call, Said};
 use cases::stored::{page, LANDED_PAGES};
-use ferjulm::{Block, Geometry, PAGE};
+use ferjulm::{Block, Geometry, Slot, PAGE};
 use std::collections::{BTreeMap, BTreeSet};
 
 /// How often each call is made, in hundredths: offer, land, fetch, land a fetch, look up, view, write back, flush; the rest
@@ -34,6 +34,8 @@ pub struct Counts {
     pub refused: BTreeMap<u32, u32>,
     /// Fetches of a block that was open for writing, open for fetch, cached and not open.
     pub fetched_again: [u32; 3],
+    /// How often several open blocks were landed in two orders.
+    pub landed_twice: u32,
 }
 
 /// A list in the making.
@@ -274,8 +276,48 @@ impl<'a> List<'a> {
         self.counts.events += 1;
     }
 
+    /// Lands all open blocks in one order and in the reverse of it, on copies of the box: both leave the same (document 02, N11).
+    fn land_twice(&mut self) {
+        let mut calls: Vec<Call> = self
+            .b
+            .rig
+            .record
+            .window()
+            .map(|slot| self.landing(slot))
+            .collect();
+        let landed = |calls: &[Call]| {
+            let mut rig = self.b.rig.clone();
+            calls.iter().for_each(|call| {
+                rig.make_told(call)
+                    .said
+                    .expect("a landing of an open block");
+            });
+            rig
+        };
+        let one = landed(&calls);
+        calls.reverse();
+        assert!(
+            one == landed(&calls),
+            "another order leaves another box: {calls:?}"
+        );
+        self.counts.landed_twice += (calls.len() > 1) as u32;
+    }
+
+    /// The landing of an open slot.
+    fn landing(&self, slot: Slot) -> Call {
+        let at = 2 * slot.0 as usize;
+        let block = Block(self.b.rig.table[at]);
+        match self.b.rig.table[at + 1] & 2 {
+            0 => Call::LandFetch(block),
+            _ => Call::Land(block, page(LANDED_PAGES + at as u64)),
+        }
+    }
+
     /// One event of a ready box; it is ready again afterwards.
     fn event(&mut self) {
+        if self.counts.events % 100 == 0 {
+            self.land_twice();
+        }
         if self.random.once_in(300) {
             self.mood = self.random.of(&MOODS);
             self.cut_once_in = self.random.of(&CUT_ONCE_IN);

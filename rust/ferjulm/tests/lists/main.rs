@@ -64,6 +64,8 @@ fn random_lists_beside_the_plain_disk() {
         all.fetched_again[0], all.fetched_again[1], all.fetched_again[2]
     );
     assert!(all.fetched_again.iter().all(|&count| count > 0));
+    println!("landed in two orders: {}", all.landed_twice);
+    assert!(all.landed_twice > 100);
     for number in [1, 4, 6, 7, 8, 9, 10, 11, 12] {
         assert!(
             all.refused.contains_key(&number),
