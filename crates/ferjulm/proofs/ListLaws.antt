@@ -100,7 +100,7 @@ module _ (x : Box) (whole : Whole (x .state)) where
   does-whole : {a : Aim} {m : Move} → Sound (x .state .label) (x .table) (windowIn (x .state)) → Does x a m → Whole (perform m x .state)
   unfolding perform confirmed
   does-whole S (does-nothing z n) = whole
-  does-whole S (does-use z H) = whole
+  does-whole S (does-use z n H) = whole
   does-whole S (does-open {s = s} z O) =
       length-array _ (omega (arith, length-append (windowIn (x .state)) (s ∷ []), room S (O .few), length-nums (windowIn (x .state))))
   does-whole S (does-copy z n C) = whole

@@ -70,7 +70,8 @@ Quiet a = (d : Disk) → fedCall (a .purpose) (a .block) d ≡ d
 
 pub data Does (x : Box) : Aim → Move → Type 0 where
   does-nothing : {a : Aim} {said : Reply} → Quiet a → refused said ≡ false → Does x a (stay said)
-  does-use : {a : Aim} {b : ℕ} {s : Slot} → Quiet a → Held (labelIn (x .state)) (x .table) b (s .0) → Does x a (uses s)
+  does-use : {a : Aim} {b : ℕ} {s : Slot} {said : Reply} → Quiet a → refused said ≡ false → Held (labelIn (x .state)) (x .table) b (s .0)
+      → Does x a (uses s said)
   does-open : {a : Aim} {s : Slot} {b : Block} {f : ℕ} {v : List ℕ} {hand : Slot} → Quiet a → Opening x s b f v hand
       → Does x a (opens s b f v hand)
   does-copy : {a : Aim} {s : Slot} {said : Reply} {v : List ℕ} {hand : Slot} → Quiet a → refused said ≡ false → Copying x s v hand
@@ -88,7 +89,7 @@ pub data Does (x : Box) : Aim → Move → Type 0 where
 pub does-said : {x : Box} {a : Aim} {m : Move} → Does x a m → refused (perform m x .said) ≡ false
 unfolding perform confirmed
 does-said (does-nothing z n) = n
-does-said (does-use z H) = refl
+does-said (does-use z n H) = n
 does-said (does-open z O) = refl
 does-said (does-copy z n C) = n
 does-said (does-land H bl y size) = refl
@@ -121,7 +122,7 @@ module _ (x : Box) (S : Sound (labelIn (x .state)) (x .table) (windowIn (x .stat
   pub does-sound : {a : Aim} {m : Move} → Does x a m → Kept x m
   unfolding perform confirmed windowIn
   does-sound (does-nothing z n) = S
-  does-sound (does-use {s = s} z H) = sound-uses S (s .0) (H .low) (H .held)
+  does-sound (does-use {s = s} z n H) = sound-uses S (s .0) (H .low) (H .held)
   does-sound (does-open z O) = rw take-array (opening-sound O S)
   does-sound (does-copy {s = s} z n C) = sound-copies (sound-alike S (C .alike)) (s .0) (C .low) (C .is-shut)
   does-sound (does-land {page = page} H bl y size) = lands-sound true H page
@@ -225,8 +226,8 @@ module _ (x : Box) (L : Legal x) where
 
   looksUp : (b : Block) → {z : Condition} → Stands lab (x .table) (b .0) z → Does x (aims b toServe) (lookingUp z)
   looksUp b (absent h) = does-nothing (λ d. refl) refl
-  looksUp b (is-clean s H w d) = does-use (λ d. refl) H
-  looksUp b (is-dirty s H w d) = does-use (λ d. refl) H
+  looksUp b (is-clean s H w d) = does-use (λ d. refl) refl H
+  looksUp b (is-dirty s H w d) = does-use (λ d. refl) refl H
   looksUp b (is-writing s H w d) = does-nothing (λ d. refl) refl
   looksUp b (is-fetching s H w d) = does-nothing (λ d. refl) refl
 

@@ -13,7 +13,7 @@ use Rattle.layout.specs.declared.Block.{Block}
 use Rattle.layout.specs.declared.Label.{Label}
 use Rattle.layout.specs.Places.{labelOf, dataPlace, blockPlace, tableLength}
 use Rattle.layout.specs.PageRule.{listed}
-use Rattle.protocol.specs.Reply.{Reply, refusal, answer, refused, inSlot}
+use Rattle.protocol.specs.Reply.{Reply, refusal, answer, namesClosed, refused}
 use Rattle.protocol.specs.Rows.{rowBlock, rowFlags, valid, dirty, writing}
 use Rattle.protocol.specs.Box.{Images, Box}
 use Rattle.protocol.specs.Condition.{slotOf}
@@ -42,11 +42,11 @@ pub record Place : Type 0 where
   pub slot : Option Slot
   pub page : List ℕ
 
--- the slot that a look-up names
+-- the closed slot that a look-up names; document 02, N5: an open slot is named too, and may still hold its former block
 abbrev pub slotSaid : Reply → Option Slot
 slotSaid (refusal n) = none
 slotSaid (answer n []) = none
-slotSaid (answer n (s ∷ w)) = some s
+slotSaid (answer n (s ∷ w)) = elim (namesClosed n) [ true ↦ some s | false ↦ none ]
 
 -- "those of its valid entry if it is outside and has one, else none and its HDD page"
 abbrev pub entryPlace : Label → Images → Block → Option Slot → Place
@@ -57,8 +57,8 @@ abbrev pub storedSlot : Bool → Label → Images → Block → Option Slot
 storedSlot true l im b = none
 storedSlot false l im b = slotOf (storedRows l (metasOf l (im .ssd))) b
 
--- where a block is: of a ready box, the look-up's slot and the view's page; from a cut, or the start of a reopening, till
--- a reopening is finished, as the stored entries say
+-- where a block is: of a ready box, the closed slot that a look-up names and the view's page; from a cut, or the start of a
+-- reopening, till a reopening is finished, as the stored entries say
 abbrev pub placeIf : Bool → Label → Box → Block → Place
 placeIf true l x b = record { slot = slotSaid (resultOf (lookUp b) x .said); page = readOf x b }
 placeIf false l x b = entryPlace l (x .images) b
@@ -131,7 +131,7 @@ pub record Safe (l : Label) (w : World) : Type 0 where
   pub reads : isReady (w .box .state .phase) ≡ true → (b : Block) → b .0 < l .blocks → readOf (w .box) b ≡ w .disk .page b
   -- "a closed slot named by look-up holds the same"
   pub looks : isReady (w .box .state .phase) ≡ true → (b : Block) → b .0 < l .blocks
-      → (s : Slot) → resultOf (lookUp b) (w .box) .said ≡ inSlot s → pageAt (w .box .images .ssd) (dataPlace l s) ≡ w .disk .page b
+      → (s : Slot) → slotSaid (resultOf (lookUp b) (w .box) .said) ≡ some s → pageAt (w .box .images .ssd) (dataPlace l s) ≡ w .disk .page b
   -- "after a finished reopening each block reads as nothing but" one of its contents
   pub allowed : (e : Event) → Fits l e w → finishes e w ≡ true → (b : Block) → b .0 < l .blocks
       → MayBe (before e w .disk) b (readOf (apply e w .box) b)

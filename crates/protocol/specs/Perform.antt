@@ -13,7 +13,7 @@ use Rattle.layout.specs.LabelPage.{encodeLabel}
 use Rattle.layout.specs.MetaPage.{encodeMeta, rowsOn}
 use Rattle.record.specs.declared.Record.{Record}
 use Rattle.record.specs.declared.Phase.the-variants.{Formatting, Ready}
-use Rattle.protocol.specs.Reply.{Reply, announced, inSlot, done}
+use Rattle.protocol.specs.Reply.{Reply, announced, done}
 use Rattle.protocol.specs.Rows.{rowBlock, rowFlags, setFlags, setRow, writing, withUsed, withoutWriting, withoutDirty}
 use Rattle.record.specs.Record.{labelIn, windowIn, recordOf, withHand, withPhase, withStamp, withWindow}
 use Rattle.record.specs.Window.{without}
@@ -113,8 +113,8 @@ formatState l r d =
 
 unfoldable pub perform : Move → Box → Effect
 perform (stay said) x = record { said = said; state = x .state; table = x .table; store = none }
-perform (uses s) x =
-    record { said = inSlot s; state = x .state; table = setFlags (x .table) s (withUsed (rowFlags (x .table) s)); store = none }
+perform (uses s said) x =
+    record { said = said; state = x .state; table = setFlags (x .table) s (withUsed (rowFlags (x .table) s)); store = none }
 perform (opens s b flags table hand) x =
     confirmed (metaOf s) (announced s) (joined s hand (x .state)) (setRow table s b flags)
 perform (lands write s page) x = landedIn write s page x

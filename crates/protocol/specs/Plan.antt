@@ -14,7 +14,7 @@ use Rattle.record.specs.declared.Phase.{Phase}
 use Rattle.record.specs.declared.Phase.the-variants.{Formatting, Recovering, Ready}
 use Rattle.protocol.specs.declared.Condition.{Condition}
 use Rattle.protocol.specs.declared.Condition.the-variants.{NotCached, Clean, Dirty, Writing, Fetching}
-use Rattle.protocol.specs.Reply.{Reply, overwrite, copiedOut, onDisk, nothingToDo, done}
+use Rattle.protocol.specs.Reply.{Reply, overwrite, copiedOut, looked, nothingToDo, done}
 use Rattle.protocol.specs.Rows.{rowFlags, dirty, withWriting}
 use Rattle.record.specs.Record.{labelIn, windowIn}
 use Rattle.protocol.specs.Box.{Box}
@@ -31,8 +31,8 @@ pub data Call : Type 0 where
 pub data Move : Type 0 where
   -- nothing changes
   stay : Reply → Move
-  -- the used flag of a slot is set
-  uses : Slot → Move
+  -- the used flag of a slot is set; the answer
+  uses : Slot → Reply → Move
   -- a slot is opened for a block with these flags; the table that the sweep left, and the hand after
   opens : Slot → Block → ℕ → List ℕ → Slot → Move
   -- a page goes into a slot, by a write or by a fetch (document 02, N2: true for a write), and an open slot is closed
@@ -94,13 +94,13 @@ landingFetch x b (Dirty s) = stay nothingToDo
 landingFetch x b (Writing s) = stay nothingToDo
 landingFetch x b (Fetching s) = lands false s (pageAt (x .images .hdd) (blockPlace (labelIn (x .state)) b))
 
--- "Look up a block: its slot, if cached and not open, and set its used flag; else "on disk""
+-- "Look up a block": document 02, N5: the answer is its condition; "It still sets the used flag only for clean and dirty"
 abbrev pub lookingUp : Condition → Move
-lookingUp NotCached = stay onDisk
-lookingUp (Clean s) = uses s
-lookingUp (Dirty s) = uses s
-lookingUp (Writing s) = stay onDisk
-lookingUp (Fetching s) = stay onDisk
+lookingUp NotCached = stay (looked NotCached)
+lookingUp (Clean s) = uses s (looked (Clean s))
+lookingUp (Dirty s) = uses s (looked (Dirty s))
+lookingUp (Writing s) = stay (looked (Writing s))
+lookingUp (Fetching s) = stay (looked (Fetching s))
 
 -- "Write back a block: if dirty, copy to HDD and mark clean; uncached or clean: "nothing to do"" (open: refused by 8)
 abbrev pub writingBack : Box → Condition → Move
@@ -146,7 +146,7 @@ plan (land b page) x = landing page (conditionOf (x .table) b)
 -- the moves that store metadata, a format's steps apart
 abbrev pub storesMeta : Move → Bool
 storesMeta (stay p) = false
-storesMeta (uses s) = false
+storesMeta (uses s p) = false
 storesMeta (opens s b f t h) = true
 storesMeta (lands w s d) = false
 storesMeta (copies s p t h) = false

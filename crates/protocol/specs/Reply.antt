@@ -1,10 +1,13 @@
--- What an answer says in document 01's numbers and values.
+-- What an answer says in numbers and values: document 01's, and for a look-up document 02's.
 use Prim.Native.Nat.{ℕ}
-use mathlib.Core.Bool.{Bool, true, false}
+use mathlib.Core.Bool.{Bool, true, false, _||_}
 use mathlib.Core.List.{List, [], _∷_}
+use lib.Dec.{eqb}
 use Rattle.layout.specs.declared.Slot.{Slot}
 use Rattle.protocol.specs.declared.Answer.{Answer}
-use Rattle.protocol.specs.declared.Answer.the-variants.{Refused, Announced, Overwrite, CopiedOut, InSlot, OnDisk, NothingToDo, Done}
+use Rattle.protocol.specs.declared.Answer.the-variants.{Refused, Announced, Overwrite, CopiedOut, Looked, NothingToDo, Done}
+use Rattle.protocol.specs.declared.Condition.{Condition}
+use Rattle.protocol.specs.declared.Condition.the-variants.{NotCached, Clean, Dirty, Writing, Fetching}
 
 -- a refusal has its number of the table "Why a call says no"; any other answer has a result code, since document 01 gives
 -- it none, and the slot that it names, if any
@@ -24,13 +27,18 @@ overwrite = answer 102 []
 abbrev pub copiedOut : Reply
 copiedOut = answer 103 []
 
--- a look-up's slot
-abbrev pub inSlot : Slot → Reply
-inSlot s = answer 104 (s ∷ [])
+-- document 02, N5: "A look-up's answer becomes: not cached, clean in a slot, dirty in a slot, open for writing, or open for fetch, each
+-- of the last four with its slot" (104 and 105, document 01's slot and "on disk", are given no more)
+abbrev pub looked : Condition → Reply
+looked NotCached = answer 107 []
+looked (Clean s) = answer 108 (s ∷ [])
+looked (Dirty s) = answer 109 (s ∷ [])
+looked (Writing s) = answer 110 (s ∷ [])
+looked (Fetching s) = answer 111 (s ∷ [])
 
--- "on disk"
-abbrev pub onDisk : Reply
-onDisk = answer 105 []
+-- of these codes, those that name a closed slot: clean and dirty
+abbrev pub namesClosed : ℕ → Bool
+namesClosed n = eqb n 108 || eqb n 109
 
 -- "nothing to do"
 abbrev pub nothingToDo : Reply
@@ -45,8 +53,7 @@ replyOf (Refused n) = refusal n
 replyOf (Announced s) = announced s
 replyOf Overwrite = overwrite
 replyOf CopiedOut = copiedOut
-replyOf (InSlot s) = inSlot s
-replyOf OnDisk = onDisk
+replyOf (Looked z) = looked z
 replyOf NothingToDo = nothingToDo
 replyOf Done = done
 

@@ -9,8 +9,7 @@ pub enum Answer {
     Announced(Slot),
     Overwrite,
     CopiedOut,
-    InSlot(Slot),
-    OnDisk,
+    Looked(Condition),
     NothingToDo,
     Done,
 }
@@ -29,7 +28,7 @@ pub struct Outcome {
     pub stored: Stored,
 }
 
-// A block's condition: where it is, and how.
+// A block's condition: where it is, and how. It is what a look-up answers.
 pub enum Condition {
     NotCached,
     Clean(Slot),

@@ -12,7 +12,7 @@ use Rattle.layout.specs.declared.Slot.{Slot}
 use Rattle.layout.specs.declared.Block.{Block}
 use Rattle.layout.specs.declared.Label.{Label}
 use Rattle.layout.specs.Places.{dataPlace, tableLength}
-use Rattle.protocol.specs.Reply.{refused, inSlot}
+use Rattle.protocol.specs.Reply.{refused}
 use Rattle.protocol.specs.Box.{Box, boxAfter}
 use Rattle.protocol.specs.Plan.{Call, format, step, flush, reopen, lookUp, flushing, plan}
 use Rattle.protocol.specs.Kinds.{kind}
@@ -21,7 +21,7 @@ use Rattle.protocol.specs.Judge.{Reason, wrongPhase, isReady, judged, test}
 use Rattle.protocol.specs.Calls.{decided, effectOf, resultOf, viewOf}
 use Rattle.protocol.specs.ReferenceDisk.{MayBe}
 use Rattle.protocol.specs.Events.{World, Memory, Event, call, reopens, cut, called, lent, readOf, mayFinish, finished, withMemory, takenIf, reopened, crashed, steps, apply, Fits}
-use Rattle.protocol.specs.Demand3.{Reopening, own, whole, broken, before, reopenedBox, finishes, Mends}
+use Rattle.protocol.specs.Demand3.{Reopening, own, whole, broken, slotSaid, before, reopenedBox, finishes, Mends}
 use Rattle.layout.proofs.Booleans.{clash, and-parts}
 use Rattle.protocol.proofs.model.Model as model
 use Rattle.protocol.proofs.model.Model.{Plain, Mending}
@@ -73,9 +73,9 @@ module _ (l : Label) (w : World) (I : Inv l w) where
       ∙ sym (I .agrees .page (b .0) h)) r
 
   pub looks-of : isReady (w .box .state .phase) ≡ true → (b : Block) → b .0 < l .blocks → (s : Slot)
-      → resultOf (lookUp b) (w .box) .said ≡ inSlot s → pageAt (w .box .images .ssd) (dataPlace l s) ≡ w .disk .page b
+      → slotSaid (resultOf (lookUp b) (w .box) .said) ≡ some s → pageAt (w .box .images .ssd) (dataPlace l s) ≡ w .disk .page b
   looks-of r b h s =
-      at-core (λ v. isReady (v .box .state .phase) ≡ true → resultOf (lookUp b) (v .box) .said ≡ inSlot s
+      at-core (λ v. isReady (v .box .state .phase) ≡ true → slotSaid (resultOf (lookUp b) (v .box) .said) ≡ some s
       → pageAt (v .box .images .ssd) (dataPlace l s) ≡ w .disk .page b) I
       (λ q e. let R = ready-of l (I .core) (I .plain) (I .phased) q in
       sym (look-page l (I .core) (I .shape) (I .plain) R (b .0) h s e) ∙ seen.view-page (abs l (I .core)) (I .plain) R (b .0)

@@ -181,7 +181,7 @@ module _ (x : Box) (L : Legal x) (on : x .state .phase ≡ Ready) where
   does-stores : {a : Aim} {m : Move} → Does x a m → Stores lab (x .state .phase) (perform m x)
   unfolding perform
   does-stores (does-nothing z n) = λ s g. no-store g
-  does-stores (does-use z H) = λ s g. no-store g
+  does-stores (does-use z n H) = λ s g. no-store g
   does-stores (does-open z O) = opens-stores O
   does-stores (does-copy {s = s} z n C) =
       λ t g. (sized (the-store g) (length-page (x .images .ssd) (dataPlace lab s) (omega (arith, L .ssd-size, C .low))), λ i. hdd-not (the-store g) i)

@@ -5,6 +5,7 @@ use mathlib.Core.Bool.{Bool, true, false}
 use mathlib.Core.List.{List, [], _∷_}
 use mathlib.Core.Option.{Option, some}
 use lib.ListN.{length, replicate}
+use Rattle.layout.specs.declared.Slot.{Slot}
 use Rattle.layout.specs.declared.Block.{Block}
 use Rattle.layout.specs.declared.Label.{Label}
 use Rattle.layout.specs.Places.{labelOf, tableLength}
@@ -19,6 +20,7 @@ use Rattle.protocol.specs.Perform.{perform}
 use Rattle.protocol.specs.Judge.{Reason, test}
 use Rattle.protocol.specs.Calls.{effectOf}
 use Rattle.protocol.specs.Events.{World, Event, run}
+use Rattle.protocol.specs.Demand3.{slotSaid}
 use Rattle.protocol.proofs.cases.Report.{Report, report, diskOf, filled, labelPage, pages}
 use Rattle.protocol.proofs.cases.Known.{Sized, known, known-shows}
 
@@ -34,14 +36,15 @@ abbrev pub scripted : Label → World → List Event → List Block → Report �
 scripted l w es bs wanted = record { sizes = l; world = w; events = es; asked = bs; wanted = wanted }
 
 -- A case: a script; the bytes of the SSD image after some events; metadata pages, and what a reopening makes of them; a call, and
--- its effect on a box; its move alone, for which lengths do not matter; the page that it names as stored; whether a refusal's
--- condition holds.
+-- its effect on a box; its move alone, for which lengths do not matter; the page that it names as stored; the closed slot that
+-- it names; whether a refusal's condition holds.
 pub data Case : Type 0 where
   script : Script → Case
   bytes : World → List Event → ℕ → Case
   recovery : Label → List (List ℕ) → Option Recovered → Case
   effect move : Call → Box → Effect → Case
   names : Call → Box → Stored → Case
+  closed : Call → Box → Option Slot → Case
   condition : Reason → Call → Box → Bool → Case
 
 abbrev pub Holds : Case → Type 0
@@ -51,6 +54,7 @@ Holds (recovery l metas wanted) = recoverFrom l metas ≡ wanted
 Holds (effect c x wanted) = effectOf c x ≡ wanted
 Holds (move c x wanted) = perform (plan c x) x ≡ wanted
 Holds (names c x wanted) = left (perform (plan c x) x) (x .images) .stored ≡ wanted
+Holds (closed c x wanted) = slotSaid (perform (plan c x) x .said) ≡ wanted
 Holds (condition r c x wanted) = test r c x ≡ wanted
 
 abbrev pub AllHold : List Case → Type 0

@@ -10,7 +10,8 @@ use Rattle.layout.specs.declared.Label.{Label}
 use Rattle.layout.specs.Places.{labelOf, metaPages, ssdLength}
 use Rattle.record.specs.declared.Record.{Record}
 use Rattle.record.specs.declared.Phase.the-variants.{Formatting, Recovering, Ready}
-use Rattle.protocol.specs.Reply.{announced, copiedOut, inSlot, done}
+use Rattle.protocol.specs.Reply.{announced, copiedOut, looked, done}
+use Rattle.protocol.specs.declared.Condition.the-variants.{Clean}
 use Rattle.record.specs.Record.{recordOf}
 use Rattle.protocol.specs.Box.{Box, boxAfter}
 use Rattle.protocol.specs.Plan.{format, step, flush, offer, land, fetch, landFetch, lookUp}
@@ -208,7 +209,7 @@ p9 =
           ∷ line done (slot 0) Ready
           ∷ line (announced (record { 0 = 1 })) (meta 0) Ready
           ∷ line done (slot 1) Ready
-          ∷ line (inSlot (record { 0 = 0 })) nothing Ready
+          ∷ line (looked (Clean (record { 0 = 0 }))) nothing Ready
           ∷ line (announced (record { 0 = 1 })) (meta 0) Ready ∷ [];
       state = recordOf two (record { 0 = 0 }) 3 Ready false (record { 0 = 1 } ∷ []);
       table = 0 ∷ 1 ∷ 2 ∷ 7 ∷ [];

@@ -4,10 +4,11 @@ use Prim.Native.Nat.{ℕ}
 use mathlib.Core.Path.{refl}
 use mathlib.Core.Bool.{Bool, true, false}
 use mathlib.Core.List.{List, [], _∷_}
-use mathlib.Core.Option.{none}
+use mathlib.Core.Option.{some, none}
 use lib.ListN.{replicate}
 use Rattle.record.specs.declared.Phase.the-variants.{Formatting, Ready}
-use Rattle.protocol.specs.Reply.{announced, copiedOut, inSlot, done, onDisk, nothingToDo}
+use Rattle.protocol.specs.Reply.{answer, announced, copiedOut, looked, done, nothingToDo}
+use Rattle.protocol.specs.declared.Condition.the-variants.{NotCached, Clean, Dirty}
 use Rattle.record.specs.Record.{recordOf}
 use Rattle.protocol.specs.declared.Stored.the-variants.{Nothing, Ssd, Hdd}
 use Rattle.protocol.specs.Box.{Box, ssdImage, hddImage}
@@ -18,7 +19,7 @@ use Rattle.layout.specs.declared.Slot.{Slot}
 use Rattle.record.specs.declared.Phase.{Phase}
 use Rattle.protocol.proofs.cases.Report.{diskOf, filled, metaPage, labelPage, pages}
 use Rattle.protocol.proofs.cases.Known.{known}
-use Rattle.protocol.proofs.cases.Case.{Case, names, AllHold, _first_, usual, two, textOf, imageless, leaving, stores, move}
+use Rattle.protocol.proofs.cases.Case.{Case, names, closed, AllHold, _first_, usual, two, textOf, imageless, leaving, stores, move}
 
 -- A box of two slots. The used flag (8) outlives an offer of a clean block,
 -- the landing and the writing back; neither that offer nor the writing back moves the hand, which is on slot 1.
@@ -32,8 +33,8 @@ held table newest unconfirmed window = record {
 abbrev pub moves : List Case
 moves =
     move (lookUp (record { 0 = 1 })) (held (1 ∷ 1 ∷ 0 ∷ 0 ∷ []) 1 true [])
-    (leaving (inSlot (record { 0 = 0 })) none (held (1 ∷ 9 ∷ 0 ∷ 0 ∷ []) 1 true []))
-    ∷ move (lookUp (record { 0 = 0 })) (held (1 ∷ 1 ∷ 0 ∷ 0 ∷ []) 1 true []) (leaving onDisk none (held (1 ∷ 1 ∷ 0 ∷ 0 ∷ []) 1 true []))
+    (leaving (looked (Clean (record { 0 = 0 }))) none (held (1 ∷ 9 ∷ 0 ∷ 0 ∷ []) 1 true []))
+    ∷ move (lookUp (record { 0 = 0 })) (held (1 ∷ 1 ∷ 0 ∷ 0 ∷ []) 1 true []) (leaving (looked NotCached) none (held (1 ∷ 1 ∷ 0 ∷ 0 ∷ []) 1 true []))
     ∷ move (offer (record { 0 = 1 })) (held (1 ∷ 9 ∷ 0 ∷ 0 ∷ []) 1 true [])
     (leaving (announced (record { 0 = 0 }))
     (stores ssdImage 1 (metaPage (2 ∷ 0 ∷ 0 ∷ 0 ∷ 1 ∷ 0 ∷ []) (0 ∷ 0 ∷ 0 ∷ 0 ∷ []) (1 ∷ 0 ∷ 0 ∷ 0 ∷ 7 ∷ 0 ∷ 0 ∷ 0 ∷ [])))
@@ -102,9 +103,9 @@ wide =
 abbrev pub narrow : List Case
 narrow =
     move (lookUp (record { 0 = 1 })) (held (1 ∷ 9 ∷ 0 ∷ 0 ∷ []) 1 true [])
-    (leaving (inSlot (record { 0 = 0 })) none (held (1 ∷ 9 ∷ 0 ∷ 0 ∷ []) 1 true []))
+    (leaving (looked (Clean (record { 0 = 0 }))) none (held (1 ∷ 9 ∷ 0 ∷ 0 ∷ []) 1 true []))
     ∷ move (lookUp (record { 0 = 1 })) (held (1 ∷ 3 ∷ 0 ∷ 0 ∷ []) 1 true [])
-    (leaving (inSlot (record { 0 = 0 })) none (held (1 ∷ 11 ∷ 0 ∷ 0 ∷ []) 1 true []))
+    (leaving (looked (Dirty (record { 0 = 0 }))) none (held (1 ∷ 11 ∷ 0 ∷ 0 ∷ []) 1 true []))
     ∷ move (landFetch (record { 0 = 1 })) (held (1 ∷ 5 ∷ 0 ∷ 0 ∷ []) 2 false (record { 0 = 0 } ∷ []))
     (leaving done (stores ssdImage 2 (filled 65)) (held (1 ∷ 1 ∷ 0 ∷ 0 ∷ []) 2 true []))
     ∷ move (landFetch (record { 0 = 1 })) (held (1 ∷ 13 ∷ 0 ∷ 0 ∷ []) 2 false (record { 0 = 0 } ∷ []))
@@ -113,6 +114,33 @@ narrow =
     (leaving done (stores ssdImage 2 (filled 9)) (held (1 ∷ 11 ∷ 0 ∷ 0 ∷ []) 2 false []))
     ∷ move (landFetch (record { 0 = 1 })) (held (1 ∷ 5 ∷ 2 ∷ 7 ∷ []) 2 false (record { 0 = 0 } ∷ record { 0 = 1 } ∷ []))
     (leaving done (stores ssdImage 2 (filled 65)) (held (1 ∷ 1 ∷ 2 ∷ 7 ∷ []) 2 true (record { 0 = 1 } ∷ [])))
+    ∷ []
+
+-- document 02, N5, on one box, by code and slot: block 0 is "not cached", 1 is clean in slot 0, 2 dirty in slot 1, 3 open for writing
+-- in slot 2, 4 open for fetch in slot 3. A look-up sets the used flag for clean and dirty only. A block in two rows has the
+-- condition of its lowest slot, open or not; what a look-up says of an open slot is no place to read from.
+abbrev pub rowed : ℕ → ℕ → ℕ → ℕ → Box
+rowed f₀ f₁ f₂ f₃ = four (1 ∷ f₀ ∷ 2 ∷ f₁ ∷ 3 ∷ f₂ ∷ 4 ∷ f₃ ∷ []) 0 4 Ready false (record { 0 = 2 } ∷ record { 0 = 3 } ∷ [])
+
+abbrev pub doubled : ℕ → ℕ → List Slot → Box
+doubled f₀ f₁ window = four (0 ∷ 0 ∷ 6 ∷ f₀ ∷ 6 ∷ f₁ ∷ 0 ∷ 0 ∷ []) 0 4 Ready false window
+
+abbrev pub conditions : List Case
+conditions =
+    move (lookUp (record { 0 = 0 })) (rowed 1 3 7 5) (leaving (answer 107 []) none (rowed 1 3 7 5))
+    ∷ move (lookUp (record { 0 = 1 })) (rowed 1 3 7 5) (leaving (answer 108 (record { 0 = 0 } ∷ [])) none (rowed 9 3 7 5))
+    ∷ move (lookUp (record { 0 = 2 })) (rowed 1 3 7 5) (leaving (answer 109 (record { 0 = 1 } ∷ [])) none (rowed 1 11 7 5))
+    ∷ move (lookUp (record { 0 = 3 })) (rowed 1 3 7 5) (leaving (answer 110 (record { 0 = 2 } ∷ [])) none (rowed 1 3 7 5))
+    ∷ move (lookUp (record { 0 = 4 })) (rowed 1 3 7 5) (leaving (answer 111 (record { 0 = 3 } ∷ [])) none (rowed 1 3 7 5))
+    ∷ move (lookUp (record { 0 = 6 })) (doubled 7 3 (record { 0 = 1 } ∷ []))
+    (leaving (answer 110 (record { 0 = 1 } ∷ [])) none (doubled 7 3 (record { 0 = 1 } ∷ [])))
+    ∷ move (lookUp (record { 0 = 6 })) (doubled 1 7 (record { 0 = 2 } ∷ []))
+    (leaving (answer 108 (record { 0 = 1 } ∷ [])) none (doubled 9 7 (record { 0 = 2 } ∷ [])))
+    ∷ closed (lookUp (record { 0 = 0 })) (rowed 1 3 7 5) none
+    ∷ closed (lookUp (record { 0 = 1 })) (rowed 1 3 7 5) (some (record { 0 = 0 }))
+    ∷ closed (lookUp (record { 0 = 2 })) (rowed 1 3 7 5) (some (record { 0 = 1 }))
+    ∷ closed (lookUp (record { 0 = 3 })) (rowed 1 3 7 5) none
+    ∷ closed (lookUp (record { 0 = 4 })) (rowed 1 3 7 5) none
     ∷ []
 
 -- the page that a call names is the one that it stores
@@ -135,6 +163,10 @@ Narrow : AllHold narrow
 unfolding known
 Narrow = Wide first (refl, (refl, (refl, (refl, (refl, (refl, tt))))))
 
+Conditions : AllHold conditions
+unfolding known
+Conditions = Narrow first (refl, (refl, (refl, (refl, (refl, (refl, (refl, (refl, (refl, (refl, (refl, (refl, tt))))))))))))
+
 pub Named : AllHold named
 unfolding known
-Named = Narrow first (refl, (refl, (refl, tt)))
+Named = Conditions first (refl, (refl, (refl, tt)))

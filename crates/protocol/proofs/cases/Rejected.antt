@@ -12,7 +12,8 @@ use Rattle.layout.specs.declared.Block.{Block}
 use Rattle.layout.specs.Places.{dataPlace, withinLimits}
 use Rattle.layout.specs.PageRule.{listed}
 use Rattle.layout.proofs.Booleans.{clash}
-use Rattle.protocol.specs.Reply.{Reply, refused, inSlot, onDisk, done}
+use Rattle.protocol.specs.Reply.{Reply, refused, looked, done}
+use Rattle.protocol.specs.declared.Condition.the-variants.{NotCached, Dirty}
 use Rattle.record.specs.declared.Phase.{Phase}
 use Rattle.record.specs.declared.Phase.the-variants.{Recovering, Ready}
 use Rattle.record.specs.Record.{recordOf}
@@ -137,20 +138,20 @@ showing lines table newest = record {
 }
 
 -- a look-up names slot 0; a reopening leaves what a format does, and then a look-up names none
-abbrev looked : Script
-looked = scripted one (startOf one unstored) (call (lookUp (record { 0 = 1 })) ∷ []) []
-    (showing (line (inSlot (record { 0 = 0 })) nothing Ready ∷ []) (1 ∷ 11 ∷ []) 1)
+abbrev found : Script
+found = scripted one (startOf one unstored) (call (lookUp (record { 0 = 1 })) ∷ []) []
+    (showing (line (looked (Dirty (record { 0 = 0 }))) nothing Ready ∷ []) (1 ∷ 11 ∷ []) 1)
 
 abbrev forgotten : Script
 forgotten = scripted one (startOf one unstored) (call reopen ∷ []) [] (showing (line done nothing Ready ∷ []) (0 ∷ 0 ∷ []) 0)
 
 abbrev missed : Script
 missed = scripted one (startOf one (fresh one (textOf 49 50))) (call (lookUp (record { 0 = 1 })) ∷ []) []
-    (showing (line onDisk nothing Ready ∷ []) (0 ∷ 0 ∷ []) 0)
+    (showing (line (looked NotCached) nothing Ready ∷ []) (0 ∷ 0 ∷ []) 0)
 
-computed-looked : Computed looked unstored
+computed-found : Computed found unstored
 unfolding known textOf
-computed-looked = refl
+computed-found = refl
 
 computed-forgotten : Computed forgotten unstored
 unfolding known textOf
@@ -163,11 +164,11 @@ computed-missed = refl
 first-said : Report → Reply
 first-said r = getD (r .lines) 0 (line done nothing Ready) .said
 
-slot-said : resultOf (lookUp (record { 0 = 1 })) unstored .said ≡ inSlot (record { 0 = 0 })
+slot-said : resultOf (lookUp (record { 0 = 1 })) unstored .said ≡ looked (Dirty (record { 0 = 0 }))
 unfolding report linesOf first-said
-slot-said = ap first-said (shows looked unstored refl sized-one computed-looked)
+slot-said = ap first-said (shows found unstored refl sized-one computed-found)
 
-none-said : resultOf (lookUp (record { 0 = 1 })) (fresh one (textOf 49 50)) .said ≡ onDisk
+none-said : resultOf (lookUp (record { 0 = 1 })) (fresh one (textOf 49 50)) .said ≡ looked NotCached
 unfolding report linesOf first-said
 none-said = ap first-said (shows missed (fresh one (textOf 49 50)) refl sized-one computed-missed)
 
@@ -184,7 +185,7 @@ slot-page = refl
 -- the slot that a look-up names has another page than the plain disk
 pub looks-another : Safe one (record { box = unstored; disk = durable (λ b. filled 9) }) → ⊥
 looks-another S =
-    let e = sym slot-page ∙ S .looks refl (record { 0 = 1 }) (omega arith) (record { 0 = 0 }) slot-said in
+    let e = sym slot-page ∙ S .looks refl (record { 0 = 1 }) (omega arith) (record { 0 = 0 }) (ap slotSaid slot-said) in
     let q : _≡_ {A = ℕ} 170 9 = ap (λ (l : List ℕ). getD l 0 0) e in
     omega arith
 

@@ -3,21 +3,23 @@ use mathlib.Core.Path.{refl}
 use mathlib.Core.Bool.{false}
 use mathlib.Core.List.{List, [], _∷_}
 use Rattle.record.specs.declared.Phase.the-variants.{Recovering, Ready}
-use Rattle.protocol.specs.Reply.{announced, done, refusal, overwrite, onDisk}
+use Rattle.protocol.specs.Reply.{announced, done, refusal, overwrite, looked}
+use Rattle.protocol.specs.declared.Condition.the-variants.{NotCached, Clean, Dirty, Writing, Fetching}
 use Rattle.record.specs.Record.{recordOf}
+use Rattle.protocol.specs.Box.{Box}
 use Rattle.protocol.specs.Plan.{step, flush, offer, land, fetch, lookUp, view, landFetch}
 use Rattle.protocol.specs.Events.{call, startOf, cut, old, new}
 use Rattle.protocol.proofs.cases.Report.{nothing, meta, slot, line, diskOf, lost, start, filled, metaPage, labelPage, pages, rubbish}
 use Rattle.protocol.proofs.cases.Known.{Sized, known}
-use Rattle.protocol.proofs.cases.Cases.{start-one, start-two, sized-two, computed-9}
+use Rattle.protocol.proofs.cases.Cases.{start-one, start-two, sized-usual, sized-two, computed-9}
 use Rattle.protocol.proofs.cases.Report.{nothing, meta, slot, line, diskOf, lost, start, filled, metaPage, labelPage, pages, rubbish}
 use Rattle.protocol.proofs.cases.Known.{Sized, known}
-use Rattle.protocol.proofs.cases.Case.{Script, scripted, Case, AllHold, _also_, _first_, one, two, textOf, fresh, Computed, shows, script}
+use Rattle.protocol.proofs.cases.Case.{Script, scripted, Case, AllHold, _also_, _first_, usual, one, two, textOf, fresh, Computed, shows, script}
 use Rattle.protocol.proofs.cases.Moves.{held}
 use Rattle.protocol.proofs.cases.Refusals.{sized-one}
-use Rattle.protocol.proofs.cases.Cases.{start-one, start-two, sized-two, computed-9}
+use Rattle.protocol.proofs.cases.Cases.{start-one, start-two, sized-usual, sized-two, computed-9}
 
--- two open slots: an open slot is neither looked up nor viewed
+-- two open slots: a look-up names each as what it is (document 02, N5), and neither is viewed
 abbrev pub both-open : Script
 both-open =
     scripted two (start two)
@@ -28,8 +30,8 @@ both-open =
       lines =
           line (announced (record { 0 = 0 })) (meta 0) Ready
           ∷ line (announced (record { 0 = 1 })) (meta 0) Ready
-          ∷ line onDisk nothing Ready
-          ∷ line onDisk nothing Ready ∷ [];
+          ∷ line (looked (Writing (record { 0 = 0 }))) nothing Ready
+          ∷ line (looked (Fetching (record { 0 = 1 }))) nothing Ready ∷ [];
       state = recordOf two (record { 0 = 0 }) 2 Ready false (record { 0 = 0 } ∷ record { 0 = 1 } ∷ []);
       table = 2 ∷ 7 ∷ 1 ∷ 5 ∷ [];
       ssd = pages (
@@ -39,6 +41,34 @@ both-open =
           ∷ filled 170 ∷ filled 170 ∷ []);
       hdd = diskOf two;
       reads = filled 65 ∷ filled 66 ∷ [];
+    })
+
+-- document 02, N5: all five answers on one box, of whole calls; the blocks that are open, or not cached, read from the HDD
+abbrev pub panelled : Box
+panelled = record {
+  images = fresh usual (textOf 52 56) .images;
+  table = 1 ∷ 1 ∷ 2 ∷ 3 ∷ 3 ∷ 7 ∷ 4 ∷ 5 ∷ [];
+  state = recordOf usual (record { 0 = 0 }) 4 Ready false (record { 0 = 2 } ∷ record { 0 = 3 } ∷ []);
+}
+
+abbrev pub panel : Script
+panel =
+    scripted usual (startOf usual panelled)
+    (call (lookUp (record { 0 = 0 })) ∷ call (lookUp (record { 0 = 1 })) ∷ call (lookUp (record { 0 = 2 })) ∷ call
+    (lookUp (record { 0 = 3 })) ∷ call (lookUp (record { 0 = 4 })) ∷ [])
+    (record { 0 = 0 } ∷ record { 0 = 1 } ∷ record { 0 = 2 } ∷ record { 0 = 3 } ∷ record { 0 = 4 } ∷ [])
+    (record {
+      lines =
+          line (looked NotCached) nothing Ready
+          ∷ line (looked (Clean (record { 0 = 0 }))) nothing Ready
+          ∷ line (looked (Dirty (record { 0 = 1 }))) nothing Ready
+          ∷ line (looked (Writing (record { 0 = 2 }))) nothing Ready
+          ∷ line (looked (Fetching (record { 0 = 3 }))) nothing Ready ∷ [];
+      state = panelled .state;
+      table = 1 ∷ 9 ∷ 2 ∷ 11 ∷ 3 ∷ 7 ∷ 4 ∷ 5 ∷ [];
+      ssd = panelled .images .ssd;
+      hdd = panelled .images .hdd;
+      reads = filled 64 ∷ filled 170 ∷ filled 170 ∷ filled 67 ∷ filled 68 ∷ [];
     })
 
 -- a dirty block is overwritten in its place and not announced: a cut keeps its flushed bytes
@@ -163,9 +193,13 @@ computed-both-open : Computed both-open (fresh two (textOf 50 51))
 unfolding known textOf
 computed-both-open = computed-clean-viewed first refl
 
+computed-panel : Computed panel panelled
+unfolding known textOf
+computed-panel = computed-both-open first refl
+
 computed-overwritten : Computed overwritten (fresh one (textOf 49 50))
 unfolding known textOf
-computed-overwritten = computed-both-open first refl
+computed-overwritten = computed-panel first refl
 
 computed-unserved : Computed unserved (fresh one (textOf 49 50))
 unfolding known textOf
@@ -181,12 +215,13 @@ computed-cuts = computed-edited first refl
 
 -- All further cases hold.
 pub scripts : List Case
-scripts = script both-open ∷ script overwritten ∷ script unserved ∷ script edited ∷ script clean-viewed ∷ script cuts ∷ []
+scripts = script both-open ∷ script panel ∷ script overwritten ∷ script unserved ∷ script edited ∷ script clean-viewed ∷ script cuts ∷ []
 
 pub all-scripts : AllHold scripts
 unfolding scripts
 all-scripts =
     shows both-open (fresh two (textOf 50 51)) start-two sized-two computed-both-open
+    also shows panel panelled refl sized-usual computed-panel
     also shows overwritten (fresh one (textOf 49 50)) start-one sized-one computed-overwritten
     also shows unserved (fresh one (textOf 49 50)) start-one sized-one computed-unserved
     also shows edited (fresh two (textOf 50 51)) start-two sized-two computed-edited

@@ -9,7 +9,9 @@ use Rattle.layout.specs.declared.Slot.{Slot}
 use Rattle.record.specs.declared.Phase.{Phase}
 use Rattle.record.specs.declared.Phase.the-variants.{Formatting, Recovering, Ready}
 use Rattle.protocol.specs.declared.Answer.{Answer}
-use Rattle.protocol.specs.declared.Answer.the-variants.{Refused, Announced, Overwrite, CopiedOut, InSlot, OnDisk, NothingToDo, Done}
+use Rattle.protocol.specs.declared.Answer.the-variants.{Refused, Announced, Overwrite, CopiedOut, Looked, NothingToDo, Done}
+use Rattle.protocol.specs.declared.Condition.{Condition}
+use Rattle.protocol.specs.declared.Condition.the-variants.{NotCached, Clean, Dirty, Writing, Fetching}
 use Rattle.protocol.specs.Reply.{Reply, refusal, answer, replyOf, refused}
 use Rattle.protocol.specs.Box.{Box}
 use Rattle.protocol.specs.Plan.{Call, stepping, plan}
@@ -36,7 +38,8 @@ plan-answers c x = go (sorted c)
 
 -- an answer is told by its number and values
 answerAs : ℕ → Slot → Answer
-answerAs n s = getD (Done ∷ Announced s ∷ Overwrite ∷ CopiedOut ∷ InSlot s ∷ OnDisk ∷ NothingToDo ∷ []) (n - 100) Done
+answerAs n s = getD (Done ∷ Announced s ∷ Overwrite ∷ CopiedOut ∷ Done ∷ Done ∷ NothingToDo ∷ Looked NotCached ∷ Looked (Clean s)
+    ∷ Looked (Dirty s) ∷ Looked (Writing s) ∷ Looked (Fetching s) ∷ []) (n - 100) Done
 
 answerOf : Reply → Answer
 answerOf (refusal n) = Refused n
@@ -48,8 +51,11 @@ answer-back (Refused n) = refl
 answer-back (Announced s) = refl
 answer-back Overwrite = refl
 answer-back CopiedOut = refl
-answer-back (InSlot s) = refl
-answer-back OnDisk = refl
+answer-back (Looked NotCached) = refl
+answer-back (Looked (Clean s)) = refl
+answer-back (Looked (Dirty s)) = refl
+answer-back (Looked (Writing s)) = refl
+answer-back (Looked (Fetching s)) = refl
 answer-back NothingToDo = refl
 answer-back Done = refl
 

@@ -32,7 +32,7 @@ pub data Stored (x : Box) : Bool → Option Store → Type 0 where
 pub stored : (v : Move) (x : Box) → Stored x (storesMeta v) (perform v x .store)
 unfolding perform confirmed
 stored (stay p) x = nothing
-stored (uses s) x = nothing
+stored (uses s p) x = nothing
 stored (opens s b f t h) x = metadata (metaOf s) (windowIn (joined s h (x .state))) (rowsOn (metaOf s) (setRow t s b f))
 stored (lands w s page) x = slotPage s page
 stored (copies s p t h) x = diskPage (blockPlace (labelIn (x .state)) (rowBlock t s))

@@ -78,10 +78,10 @@ module _ (l : Label) (k : Core) (S : Shape l k) where
   tabled-shape v hand A h = record { images = S .images; table-size = A .size; hand-ok = h; rows = A .legal }
 
   -- a look-up sets a used flag
-  pub uses-box : (s : ℕ) → after l k (uses (record { 0 = s })) ≡ boxOfCore l
+  pub uses-box : (s : ℕ) (said : Reply) → after l k (uses (record { 0 = s }) said) ≡ boxOfCore l
       (tabled k (setFlags (k .table) (record { 0 = s }) (withUsed (rowFlags (k .table) (record { 0 = s })))) (k .hand))
   unfolding perform
-  uses-box s = refl
+  uses-box s said = refl
 
   pub uses-alike : (s : ℕ) → s < l .slots → valid (getD (k .table) (2 * s + 1) 0) ≡ true
       → Alike l (k .table) (setFlags (k .table) (record { 0 = s }) (withUsed (rowFlags (k .table) (record { 0 = s }))))

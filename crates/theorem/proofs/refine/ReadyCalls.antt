@@ -112,12 +112,12 @@ module _ (l : Label) (k : Core) (S : Shape l k) (d : Disk) (p : Plain) (A : Agre
     stays said p′ n A′ R′ = next (stay said) k p′ n refl S A′ R′
 
     -- a used flag is set
-    uses-next : Quiet a → {b : ℕ} {s : Slot} → Held l (k .table) b (s .0)
-        → Inv l (calledAs c (perform (uses s) (boxOfCore l k)) (worldOf l k d))
+    uses-next : Quiet a → {b : ℕ} {s : Slot} (said : Reply) → refused said ≡ false → Held l (k .table) b (s .0)
+        → Inv l (calledAs c (perform (uses s said) (boxOfCore l k)) (worldOf l k d))
     unfolding perform
-    uses-next z {b} {s} H =
+    uses-next z {b} {s} said n H =
         let T = uses-alike l k S (s .0) (H .low) (H .held) in
-        next (uses s) _ p refl (uses-box l k S (s .0)) (tabled-shape l k S _ (k .hand) T (S .hand-ok)) (quiet z)
+        next (uses s said) _ p n (uses-box l k S (s .0) said) (tabled-shape l k S _ (k .hand) T (S .hand-ok)) (quiet z)
         (rw (tabled-abs l k S _ (k .hand) T) R)
 
     -- a slot is opened
@@ -270,7 +270,7 @@ module _ (l : Label) (k : Core) (S : Shape l k) (d : Disk) (p : Plain) (A : Agre
   pub service-next : (c : Call) {a : Aim} → kind c ≡ aService a → {v : Move} → Does (boxOfCore l k) a v
       → Inv l (calledAs c (perform v (boxOfCore l k)) (worldOf l k d))
   service-next c K (does-nothing {said = said} z n) = stays c K said p n (quiet c K z) R
-  service-next c K (does-use z H) = uses-next c K z H
+  service-next c K (does-use {said = said} z n H) = uses-next c K z said n H
   service-next c K (does-open z O) = opens-next c K z O
   service-next c K (does-copy {said = said} z n C) = copies-next c K z C said n
   service-next c K (does-land {b = b} {s = s} {page = page} H bl y size) =

@@ -13,7 +13,6 @@ use Rattle.layout.specs.declared.Label.{Label}
 use Rattle.layout.specs.Places.{metaPages}
 use Rattle.protocol.specs.declared.Condition.{Condition}
 use Rattle.protocol.specs.declared.Condition.the-variants.{NotCached, Clean, Dirty, Writing, Fetching}
-use Rattle.protocol.specs.Reply.{inSlot}
 use Rattle.protocol.specs.Rows.{valid, writing}
 use Rattle.protocol.specs.Condition.{conditionOf}
 use Rattle.protocol.specs.Plan.{lookUp, view, lookingUp, plan}
@@ -118,7 +117,7 @@ module _ (l : Label) (k : Core) (S : Shape l k) (p : Plain) (R : model.Ready (ab
       (conditionOf (k .table) (record { 0 = b })) .handed .bytes) (view-judged l k S p R (record { 0 = b }) b-low)
       ∙ by-condition here .0
 
-  -- a look-up's slot
+  -- the closed slot that a look-up names
   said-slot : (z : Condition) → slotSaid (perform (lookingUp z) (boxOfCore l k) .said) ≡ closedSlot z
   unfolding perform
   said-slot NotCached = refl
@@ -150,7 +149,7 @@ module _ (l : Label) (k : Core) (S : Shape l k) (p : Plain) (R : model.Ready (ab
           let q : t ≡ s .0 = ap number-of f in
           rw o (ap (λ (n : ℕ). pageAt (k .ssd) (1 + metaPages l + n)) q)
 
-  pub look-page : (s : Slot) → resultOf (lookUp (record { 0 = b })) (boxOfCore l k) .said ≡ inSlot s
+  pub look-page : (s : Slot) → slotSaid (resultOf (lookUp (record { 0 = b })) (boxOfCore l k) .said) ≡ some s
       → seen.view (abs l k) b ≡ pageAt (k .ssd) (1 + metaPages l + s .0)
   unfolding seen.view places.slotOf abs
-  look-page s e = named (seen.find (rowAt (k .table)) (l .slots) b) s (sym look-slot ∙ ap slotSaid e)
+  look-page s e = named (seen.find (rowAt (k .table)) (l .slots) b) s (sym look-slot ∙ e)
