@@ -1,9 +1,10 @@
 // What an answer becomes for C.
 use crate::Place;
 use protocol::Answer;
+use protocol::Condition;
 use protocol::Stored;
 ghost use mathlib.Core.Path.{_≡_};
-ghost use Rattle.protocol.specs.Reply.{replyOf, refused};
+ghost use Rattle.protocol.specs.Reply.{looked, replyOf, refused};
 ghost use Rattle.c_record.specs.Codes.{codeOf, slotAfter, pageOf, placeOf};
 
 // Whether it is a refusal.
@@ -15,10 +16,35 @@ pub fn is_refused(answer: Answer) -> bool
         Answer::Announced(_) => false,
         Answer::Overwrite => false,
         Answer::CopiedOut => false,
-        Answer::InSlot(_) => false,
-        Answer::OnDisk => false,
+        Answer::Looked(_) => false,
         Answer::NothingToDo => false,
         Answer::Done => false,
+    }
+}
+
+// The result code of a look-up that found this.
+fn code_of_condition(condition: Condition) -> u32
+    ensures { λ r. ⌜ r ≡ codeOf (looked condition) ⌝ }
+{
+    match condition {
+        Condition::NotCached => 107,
+        Condition::Clean(_) => 108,
+        Condition::Dirty(_) => 109,
+        Condition::Writing(_) => 110,
+        Condition::Fetching(_) => 111,
+    }
+}
+
+// The slot that such a look-up names, open or not, or what was there before.
+fn slot_of_condition(condition: Condition, before: u32) -> u32
+    ensures { λ r. ⌜ r ≡ slotAfter (looked condition) before ⌝ }
+{
+    match condition {
+        Condition::NotCached => before,
+        Condition::Clean(s) => s.0,
+        Condition::Dirty(s) => s.0,
+        Condition::Writing(s) => s.0,
+        Condition::Fetching(s) => s.0,
     }
 }
 
@@ -31,8 +57,7 @@ pub fn code_of(answer: Answer) -> u32
         Answer::Announced(_) => 101,
         Answer::Overwrite => 102,
         Answer::CopiedOut => 103,
-        Answer::InSlot(_) => 104,
-        Answer::OnDisk => 105,
+        Answer::Looked(condition) => code_of_condition(condition),
         Answer::NothingToDo => 106,
         Answer::Done => 0,
     }
@@ -47,8 +72,7 @@ pub fn slot_of(answer: Answer, before: u32) -> u32
         Answer::Announced(s) => s.0,
         Answer::Overwrite => before,
         Answer::CopiedOut => before,
-        Answer::InSlot(s) => s.0,
-        Answer::OnDisk => before,
+        Answer::Looked(condition) => slot_of_condition(condition, before),
         Answer::NothingToDo => before,
         Answer::Done => before,
     }

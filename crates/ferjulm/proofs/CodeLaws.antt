@@ -3,18 +3,26 @@ use Prim.Native.Nat.{ℕ}
 use mathlib.Core.Path.{_≡_, refl, ap, _∙_}
 use mathlib.Core.Bool.{true, false}
 use mathlib.Core.List.{List}
+use mathlib.Core.Option.{Option, some, none}
 use lib.ListN.{length}
 use borrow.Author.Tests.{eq-eqb, ne-eqb}
+use Rattle.layout.specs.declared.Block.{Block}
 use Rattle.record.specs.declared.Record.{Record}
+use Rattle.protocol.specs.declared.Condition.{Condition}
+use Rattle.protocol.specs.declared.Condition.the-variants.{NotCached, Clean, Dirty, Writing, Fetching}
 use Rattle.protocol.specs.declared.Outcome.{Outcome}
 use Rattle.protocol.specs.declared.Stored.{Stored}
-use Rattle.protocol.specs.Reply.{Reply, replyOf}
-use Rattle.protocol.specs.Box.{Result}
-use Rattle.protocol.specs.Plan.{Call}
-use Rattle.protocol.specs.Calls.{leaves, resultOf, boxOf}
+use Rattle.protocol.specs.Reply.{Reply, refusal, answer, replyOf}
+use Rattle.protocol.specs.Box.{Box, Result}
+use Rattle.protocol.specs.Condition.{conditionOf}
+use Rattle.protocol.specs.Plan.{Call, lookUp, lookingUp, plan}
+use Rattle.protocol.specs.Perform.{perform}
+use Rattle.protocol.specs.Judge.{Reason, judged}
+use Rattle.protocol.specs.Calls.{decided, effectOf, leaves, resultOf, boxOf}
 use Rattle.c_record.specs.declared.Place.{Place}
-use Rattle.c_record.specs.Words.{unpacked, isRecord}
-use Rattle.c_record.specs.Codes.{closedBy, slotAfter, placeAfter}
+use Rattle.c_record.specs.Words.{wordsOf, unpacked, isRecord}
+use Rattle.c_record.specs.Codes.{codeOf, closedBy, slotAfter, placeAfter}
+use Rattle.c_record.proofs.RoundTrip.{words-kept}
 use Rattle.ferjulm.specs.Calls.{kept, leftBy, cCall, cSlot, cPlace, cFresh}
 
 -- what a call and the closing after it leave is what the call's result leaves
@@ -25,6 +33,22 @@ left-is : (R : Result) (said : Reply) (stored : Stored) (state : Record) (table 
 left-is R said stored state table ssd hdd words after code p q =
     (λ i. record { code = q i .code; words = q i .words; table = table; ssd = ssd; hdd = hdd })
     ∙ ap (λ (r : Result). leftBy r words) p
+
+-- a look-up leaves the record
+pub look-up-state : (b : Block) (x : Box) → resultOf (lookUp b) x .state ≡ x .state
+unfolding effectOf plan perform
+look-up-state b x = by-reason (judged (lookUp b) x)
+  where
+    looks : (k : Condition) → perform (lookingUp k) x .state ≡ x .state
+    looks NotCached = refl
+    looks (Clean s) = refl
+    looks (Dirty s) = refl
+    looks (Writing s) = refl
+    looks (Fetching s) = refl
+
+    by-reason : (o : Option Reason) → decided o (lookUp b) x .state ≡ x .state
+    by-reason (some q) = refl
+    by-reason none = looks (conditionOf (x .table) b)
 
 module _ (c : Call) (ssd hdd table words : List ℕ) where
   -- no record: 3, and nothing changes
@@ -53,10 +77,23 @@ module _ (c : Call) (ssd hdd table words : List ℕ) where
         left-is (R r) (replyOf (o .answer)) (o .stored) (o .state) table′ ssd′ hdd′ words after code call close
         ∙ ap (λ (q : Record). leftBy (R q) words) unpack
 
+    -- words that are a record, of a call that leaves it, are closed as they are
+    unchanged : isRecord words ≡ true → R r .state ≡ r → {code : ℕ} → code ≡ codeOf (replyOf (o .answer)) → Closes words code
+    unchanged h same {code} e = go (replyOf (o .answer)) e
+      where
+        state-words : wordsOf (o .state) ≡ words
+        state-words = ap wordsOf (ap (λ (q : Result). q .state) call ∙ same ∙ unpack) ∙ words-kept words h
+
+        go : (said : Reply) → code ≡ codeOf said → record { code = code; words = words } ≡ closedBy said (o .state) words
+        go (refusal n) e = rw e
+        go (answer n s) e = rw (e, state-words)
+
     -- by words that are a record: with the slot and the place
     pub record Past : Type 0 where
       pub left : {after : List ℕ} {code : ℕ} → Closes after code
           → record { code = code; words = after; table = table′; ssd = ssd′; hdd = hdd′ } ≡ cCall c ssd hdd table words
+      pub still : R r .state ≡ r → {code : ℕ} → code ≡ codeOf (replyOf (o .answer))
+          → record { code = code; words = words; table = table′; ssd = ssd′; hdd = hdd′ } ≡ cCall c ssd hdd table words
       pub slot : (before : ℕ) {next : ℕ} → next ≡ slotAfter (replyOf (o .answer)) before → next ≡ cSlot c ssd hdd table words before
       pub place : (before : Place) {next : Place} → next ≡ placeAfter (replyOf (o .answer)) (o .stored) before
           → next ≡ cPlace c ssd hdd table words before
@@ -65,6 +102,7 @@ module _ (c : Call) (ssd hdd table words : List ℕ) where
     unfolding cCall cSlot cPlace
     past h = record {
       left = λ close. rw h (called close);
+      still = λ same e. rw h (called (unchanged h same e));
       slot = λ before e. rw h (e ∙ ap (λ (q : Result). slotAfter (q .said) before) call ∙ ap (λ (q : Record). slotAfter (R q .said) before) unpack);
       place = λ before e. rw h (e ∙ ap (λ (q : Result). placeAfter (q .said) (q .stored) before) call
           ∙ ap (λ (q : Record). placeAfter (R q .said) (R q .stored) before) unpack);

@@ -1,15 +1,16 @@
 -- A result code tells a refusal from an answer: 1 to 13 are refusals, which change nothing; 0 and from 101 on are answers, of
--- which 101 and 104 carry a slot.
+-- which 101 and 108 to 111 carry a slot.
 use Prim.Native.Nat.{ℕ, _≤_}
 use mathlib.Core.Path.{_≡_, refl}
-use mathlib.Core.Bool.{true, false, _||_}
+use mathlib.Core.Bool.{true, false, _&&_, _||_}
 use mathlib.Core.List.{List}
 use mathlib.Core.Option.{Option, some, none}
 use native.Mathlib.Omega.{arith}
 use lib.Dec.{eqb, leb}
 use Rattle.record.specs.declared.Record.{Record}
 use Rattle.protocol.specs.declared.Answer.{Answer}
-use Rattle.protocol.specs.declared.Answer.the-variants.{Refused, Announced, Overwrite, CopiedOut, InSlot, OnDisk, NothingToDo, Done}
+use Rattle.protocol.specs.declared.Answer.the-variants.{Refused, Announced, Overwrite, CopiedOut, Looked, NothingToDo, Done}
+use Rattle.protocol.specs.declared.Condition.the-variants.{NotCached, Clean, Dirty, Writing, Fetching}
 use Rattle.protocol.specs.declared.Stored.{Stored}
 use Rattle.protocol.specs.Reply.{Reply, refusal, answer, replyOf, refused}
 use Rattle.protocol.specs.Box.{Box, left}
@@ -77,19 +78,26 @@ answer-code (Refused n) h = clash refl h
 answer-code (Announced s) h = refl
 answer-code Overwrite h = refl
 answer-code CopiedOut h = refl
-answer-code (InSlot s) h = refl
-answer-code OnDisk h = refl
+answer-code (Looked NotCached) h = refl
+answer-code (Looked (Clean s)) h = refl
+answer-code (Looked (Dirty s)) h = refl
+answer-code (Looked (Writing s)) h = refl
+answer-code (Looked (Fetching s)) h = refl
 answer-code NothingToDo h = refl
 answer-code Done h = refl
 
--- the slot changes with 101 and 104 alone
-pub slot-code : (a : Answer) (before : ℕ) → (eqb (codeOf (replyOf a)) 101 || eqb (codeOf (replyOf a)) 104) ≡ false
+-- the slot changes with 101 and from 108 to 111 alone
+pub slot-code : (a : Answer) (before : ℕ)
+    → (eqb (codeOf (replyOf a)) 101 || leb 108 (codeOf (replyOf a)) && leb (codeOf (replyOf a)) 111) ≡ false
     → slotAfter (replyOf a) before ≡ before
 slot-code (Refused n) before h = refl
 slot-code (Announced s) before h = clash refl h
 slot-code Overwrite before h = refl
 slot-code CopiedOut before h = refl
-slot-code (InSlot s) before h = clash refl h
-slot-code OnDisk before h = refl
+slot-code (Looked NotCached) before h = refl
+slot-code (Looked (Clean s)) before h = clash refl h
+slot-code (Looked (Dirty s)) before h = clash refl h
+slot-code (Looked (Writing s)) before h = clash refl h
+slot-code (Looked (Fetching s)) before h = clash refl h
 slot-code NothingToDo before h = refl
 slot-code Done before h = refl

@@ -143,17 +143,17 @@ pub extern "C" fn ferjulm_land_fetch(
     closing::closed(words, outcome)
 }
 
-// Looks a block up.
+// Looks a block up. The record stays as it is, so the words are only read.
 #[no_mangle]
 pub extern "C" fn ferjulm_look_up(
     ssd: &[u8],
     hdd: &[u8],
     table: &mut [u32],
-    words: &mut [u32],
+    words: &[u32],
     block: u32,
     slot: &mut u32,
 ) -> u32
-    ensures { λ r. ⌜ (record { code = r; words = now (words .exit); table = now (table .exit); ssd = now (ssd .entry); hdd = now (hdd .entry) } ≡ cCall (lookUp (record { 0 = block })) (now (ssd .entry)) (now (hdd .entry)) (now (table .entry)) (now (words .entry))) × (now (slot .exit) ≡ cSlot (lookUp (record { 0 = block })) (now (ssd .entry)) (now (hdd .entry)) (now (table .entry)) (now (words .entry)) (now (slot .entry))) ⌝ }
+    ensures { λ r. ⌜ (record { code = r; words = now (words .entry); table = now (table .exit); ssd = now (ssd .entry); hdd = now (hdd .entry) } ≡ cCall (lookUp (record { 0 = block })) (now (ssd .entry)) (now (hdd .entry)) (now (table .entry)) (now (words .entry))) × (now (slot .exit) ≡ cSlot (lookUp (record { 0 = block })) (now (ssd .entry)) (now (hdd .entry)) (now (table .entry)) (now (words .entry)) (now (slot .entry))) ⌝ }
 {
     if !words::is_record(words) {
         return 3;
@@ -162,7 +162,7 @@ pub extern "C" fn ferjulm_look_up(
     let outcome = read_path::look_up::look_up(ssd, hdd, table, state, Block(block));
     let answer = outcome.answer;
     *slot = answers::slot_of(answer, *slot);
-    closing::closed(words, outcome)
+    answers::code_of(answer)
 }
 
 // Writes a block back.

@@ -1,4 +1,5 @@
-// "Look up a block: its slot, if cached and not open, and set its used flag; else "on disk"."
+// "Look up a block": by document 02, N5, its answer is the block's condition, with the slot; "It still sets the used flag only for
+// clean and dirty".
 use layout::Block;
 use moves::answers;
 use protocol::Answer;
@@ -18,16 +19,16 @@ pub fn look_up(ssd: &[u8], hdd: &[u8], table: &mut [u32], state: Record, block: 
     }
     let condition = seen.condition;
     match condition {
-        Condition::NotCached => answers::answered(Answer::OnDisk, state),
+        Condition::NotCached => answers::answered(Answer::Looked(condition), state),
         Condition::Clean(s) => {
             moves::use_slot(table, s);
-            answers::answered(Answer::InSlot(s), state)
+            answers::answered(Answer::Looked(condition), state)
         }
         Condition::Dirty(s) => {
             moves::use_slot(table, s);
-            answers::answered(Answer::InSlot(s), state)
+            answers::answered(Answer::Looked(condition), state)
         }
-        Condition::Writing(_) => answers::answered(Answer::OnDisk, state),
-        Condition::Fetching(_) => answers::answered(Answer::OnDisk, state),
+        Condition::Writing(_) => answers::answered(Answer::Looked(condition), state),
+        Condition::Fetching(_) => answers::answered(Answer::Looked(condition), state),
     }
 }

@@ -97,7 +97,8 @@ same-length-2 c = search needs
 returns-2 : tie.Need-returns-2
 unfolding perform
 returns-2 c =
-    rw (c .answered .ensures) (done (c .before .before .before) _ (c .before .enum-told .given .1))
+    let k = c .before .enum-told .given .1 in
+    rw (c .answered .ensures, k) (done (c .before .before .before) _ k)
 
 same-length-3 : tie.Need-same-length-3
 same-length-3 c = search needs
@@ -125,7 +126,8 @@ same-length-5 c = search needs
 returns-5 : tie.Need-returns-5
 unfolding perform
 returns-5 c =
-    rw (c .answered4 .ensures) (done (c .before .before .before) _ (c .before .enum-told2 .given .1))
+    let k = c .before .enum-told2 .given .1 in
+    rw (c .answered4 .ensures, k) (done (c .before .before .before) _ k)
 
 same-length-6 : tie.Need-same-length-6
 same-length-6 c = search needs
@@ -133,7 +135,8 @@ same-length-6 c = search needs
 returns-6 : tie.Need-returns-6
 unfolding perform
 returns-6 c =
-    rw (c .answered5 .ensures) (done (c .before .before .before) _ (c .before .enum-told3 .given .1))
+    let k = c .before .enum-told3 .given .1 in
+    rw (c .answered5 .ensures, k) (done (c .before .before .before) _ k)
 
 pub look-up-spec : {M : Type 1} → statement M
 look-up-spec =
