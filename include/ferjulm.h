@@ -74,9 +74,13 @@ enum {
     FERJULM_ANNOUNCED = 101, /* the slot is open; *slot is set */
     FERJULM_OVERWRITE = 102, /* the block is dirty and not open: land it */
     FERJULM_COPIED_OUT = 103, /* a dirty page went to the HDD: make the same call again */
-    FERJULM_IN_SLOT = 104,   /* the block is cached and not open; *slot is set */
-    FERJULM_ON_DISK = 105,
-    FERJULM_NOTHING_TO_DO = 106
+    FERJULM_NOTHING_TO_DO = 106, /* 104 and 105 were a look-up's answers once, and are given no more */
+    /* a look-up's answers: the block's condition */
+    FERJULM_NOT_CACHED = 107, /* it has no slot */
+    FERJULM_CLEAN = 108,      /* in a slot and not open, as the HDD has it; *slot is set */
+    FERJULM_DIRTY = 109,      /* in a slot and not open, the HDD may be behind; *slot is set */
+    FERJULM_OPEN_WRITE = 110, /* its slot is open for writing: a write was announced and has not landed; *slot is set */
+    FERJULM_OPEN_FETCH = 111  /* its slot is open for fetch: the fetch has not landed; *slot is set */
 };
 
 /* The image of a page that was stored, or that a view finds a block in. */
@@ -189,11 +193,12 @@ uint32_t ferjulm_land_fetch(uint8_t *ssd, size_t ssd_len, const uint8_t *hdd, si
                             size_t table_len, uint32_t *record, size_t record_len, uint32_t block, uint32_t *image,
                             uint64_t *offset);
 
-/* Looks a block up: FERJULM_IN_SLOT if it is cached and not open, and then sets its used flag in the table; else
- * FERJULM_ON_DISK. May refuse with 7.
+/* Looks a block up: its condition, from FERJULM_NOT_CACHED to FERJULM_OPEN_FETCH. It sets the used flag in the table for
+ * FERJULM_CLEAN and FERJULM_DIRTY, and nothing else. Only then the slot's page is the block's: a slot that is open may still
+ * hold its former block, so read by a view, which goes to the HDD where the block is open or not cached. May refuse with 7.
  */
 uint32_t ferjulm_look_up(const uint8_t *ssd, size_t ssd_len, const uint8_t *hdd, size_t hdd_len, uint32_t *table,
-                         size_t table_len, uint32_t *record, size_t record_len, uint32_t block, uint32_t *slot);
+                         size_t table_len, const uint32_t *record, size_t record_len, uint32_t block, uint32_t *slot);
 
 /* Views a block: where its page lies. *image becomes FERJULM_SSD (cached and not open) or FERJULM_HDD, *offset the page's
  * first byte in that image. Nothing else changes, and no byte is copied. May refuse with 7.

@@ -1,7 +1,7 @@
 //! Files on the box: which blocks they have, and how they are saved and read.
 
 use crate::drives::FieldBox;
-use ferjulm::{Block, Found, Offered, Slot, PAGE};
+use ferjulm::{Block, Offered, Slot, PAGE};
 use std::error::Error;
 use std::ops::Range;
 
@@ -62,10 +62,6 @@ pub fn read_file(field: &mut FieldBox, blocks: Range<u32>) -> Result<Vec<u8>, fe
 
 /// The slot that a block is cached in and not open.
 pub fn slot_of(field: &mut FieldBox, block: Block) -> Result<Option<Slot>, Box<dyn Error>> {
-    Ok(
-        match field.call_storing_nothing(|cache| cache.look_up(block))? {
-            Found::InSlot(slot) => Some(slot),
-            _ => None,
-        },
-    )
+    let condition = field.call_storing_nothing(|cache| cache.look_up(block))?;
+    Ok(condition.closed())
 }

@@ -29,15 +29,17 @@ static LANDED: [u8; PAGE] = [0xa5; PAGE];
 /// Calls that name a block in a slot, which is clean before and after, or none.
 fn held<S: Side>(b: &mut Bench) {
     let block = b.far();
-    b.time::<S>("look up, on disk", 105, Call::LookUp(b.spare));
-    b.time::<S>("look up, in slot", 104, Call::LookUp(block));
+    b.time::<S>("look up, not cached", 107, Call::LookUp(b.spare));
+    b.time::<S>("look up, clean", 108, Call::LookUp(block));
     b.time::<S>("view", 0, Call::View(block));
     b.close_last();
     b.time::<S>("offer, announced (clean)", 101, Call::Offer(block));
+    b.time::<S>("look up, open for writing", 110, Call::LookUp(block));
     b.time::<S>("land, open", 0, Call::Land(block, &LANDED));
     b.open_all();
     b.time::<S>("offer, overwrite", 102, Call::Offer(block));
     b.time::<S>("land, dirty", 0, Call::Land(block, &LANDED));
+    b.time::<S>("look up, dirty", 109, Call::LookUp(block));
     b.time::<S>("flush", 0, Call::Flush);
     b.time::<S>("write back", 0, Call::WriteBack(block));
 }

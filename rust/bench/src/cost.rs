@@ -29,15 +29,15 @@ fn time<S: Side>(b: &mut Bench, name: &str, (at, value): (usize, u32), wanted: u
 const PHASE_WRONG: &str = "look up, refused by 3 for its phase: nothing unpacked";
 const HAND_WRONG: &str = "look up, refused by 3 for its hand: unpacked, not packed";
 const FORMAT: &str = "format of 1 slot: two words of the table zeroed, packed";
-const VIEW: &str = "view, on disk: unpacked, not packed";
-const LOOK_UP: &str = "look up, on disk: unpacked and packed";
+const VIEW: &str = "view, not cached: unpacked, not packed";
+const WRITE_BACK: &str = "write back, not cached: unpacked and packed";
 
 fn turn<S: Side>(b: &mut Bench) {
     time::<S>(b, PHASE_WRONG, (PHASE, 3), 3, Call::LookUp(0));
     time::<S>(b, HAND_WRONG, (HAND, 1), 3, Call::LookUp(0));
     time::<S>(b, FORMAT, (HAND, 0), 0, Call::Format(1, 1));
     time::<S>(b, VIEW, (PHASE, READY), 0, Call::View(0));
-    time::<S>(b, LOOK_UP, (PHASE, READY), 105, Call::LookUp(0));
+    time::<S>(b, WRITE_BACK, (PHASE, READY), 106, Call::WriteBack(0));
 }
 
 /// Unpacking and packing alone, in plain Rust.
@@ -62,14 +62,14 @@ pub fn table() -> String {
         .map(|_| per_call(&mut b.boxes, 0, repack))
         .collect();
     let proved = |name: &str| b.times.case(name).medians()[0];
-    let added = proved(HAND_WRONG) + proved(LOOK_UP) - proved(VIEW);
+    let added = proved(HAND_WRONG) + proved(WRITE_BACK) - proved(VIEW);
     let mut table = Table::new(&["1 slot, 1 block", "ratio (proved / plain)"]);
     b.times.rows().for_each(|row| table.row(row));
     let mut one = |name: &str, side: &str, ns: f64| {
         table.row(vec![name.to_string(), format!("{side} {}", shown(ns))]);
     };
     one(
-        "refused for its hand, and look up less view",
+        "refused for its hand, and write back less view",
         "proved",
         added,
     );

@@ -24,7 +24,7 @@ const USAGE: &str = "bench [--check] [--only NAME] [--document FILE] [--plot FIL
 /// The calls in the plot; reopening is the last line there.
 const PLOTTED: [&str; 4] = [
     "format",
-    "look up, in slot",
+    "look up, clean",
     "land, open",
     "offer, announced (swept)",
 ];

@@ -206,8 +206,8 @@ impl Beside {
         self.check_reads();
     }
 
-    /// A ready box reads as the plain disk; a slot named by a look-up holds the same, and is where a view finds the block. None
-    /// of these calls stores anything.
+    /// A ready box reads as the plain disk; a closed slot named by a look-up holds the same, and is where a view finds the block.
+    /// A block that is open or not cached lies on the HDD. None of these calls stores anything.
     pub fn check_reads(&mut self) {
         let before = self.memory();
         for block in self.disk.blocks() {
@@ -219,12 +219,13 @@ impl Beside {
             assert!(view.page == page, "{block:?} reads as something else");
             assert!(cache.page(view.place) == page, "{block:?} lies elsewhere");
             let place = view.place;
-            let expected = match self.rig.make_told(&Call::LookUp(block)).said {
-                Ok(Answer::InSlot(slot)) => (Image::Ssd, self.geometry.slot_at(slot)),
-                said => {
-                    assert_eq!(said, Ok(Answer::OnDisk));
-                    (Image::Hdd, self.geometry.block_at(block))
-                }
+            let said = self.rig.make_told(&Call::LookUp(block)).said;
+            let Ok(Answer::Looked(condition)) = said else {
+                panic!("{block:?} is looked up: {said:?}");
+            };
+            let expected = match condition.closed() {
+                Some(slot) => (Image::Ssd, self.geometry.slot_at(slot)),
+                None => (Image::Hdd, self.geometry.block_at(block)),
             };
             assert_eq!((place.image, place.offset as usize), expected, "{block:?}");
         }

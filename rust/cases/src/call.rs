@@ -1,7 +1,7 @@
 //! Calls as values, and what they say.
 
 use crate::stored::named;
-use ferjulm::{Block, Fetched, Found, Geometry, Offered, Place, Refusal, Saved, Slot};
+use ferjulm::{Block, Condition, Fetched, Geometry, Offered, Place, Refusal, Saved, Slot};
 
 /// A call with its arguments.
 #[derive(Clone, Debug, PartialEq)]
@@ -56,8 +56,7 @@ pub enum Answer {
     Announced(Slot),
     Overwrite,
     CopiedOut,
-    InSlot(Slot),
-    OnDisk,
+    Looked(Condition),
     NothingToDo,
 }
 
@@ -122,14 +121,9 @@ impl From<Fetched> for Made {
     }
 }
 
-impl From<Found> for Made {
-    fn from(found: Found) -> Self {
-        let answer = match found {
-            Found::InSlot(slot) => Answer::InSlot(slot),
-            Found::OnDisk => Answer::OnDisk,
-            other => panic!("no case has {other:?}"),
-        };
-        made(answer, None)
+impl From<Condition> for Made {
+    fn from(condition: Condition) -> Self {
+        made(Answer::Looked(condition), None)
     }
 }
 

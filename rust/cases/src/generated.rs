@@ -39,7 +39,17 @@ pub fn lines() -> Vec<String> {
         *counts.entry(answer.to_string()).or_default() += 1;
         list.b.check_reads();
     }
-    let answers = ["announced", "overwrite", "copied out", "in slot", "done"];
+    let answers = [
+        "announced",
+        "overwrite",
+        "copied out",
+        "not cached",
+        "clean in slot",
+        "dirty in slot",
+        "open for writing in slot",
+        "open for fetch in slot",
+        "done",
+    ];
     let counts = answers.map(|answer| format!("{answer} {}", counts[answer]));
     list.lines.push(format!("{}; reads=ok", counts.join(", ")));
     list.lines

@@ -8,6 +8,7 @@ pub mod kept;
 mod landings;
 mod listed;
 mod lists;
+pub mod looked;
 mod orders;
 mod paper;
 pub mod place;

@@ -5,7 +5,7 @@ use crate::listed::Listed;
 /// Title, slots, blocks and calls.
 type List = (&'static str, u32, u32, &'static str);
 
-const LISTS: [List; 7] = [
+const LISTS: [List; 9] = [
     // a block written, written over, confirmed, brought to the disk, and written again
     (
         "writes",
@@ -61,6 +61,21 @@ const LISTS: [List; 7] = [
         2,
         3,
         "offer 0, land 0 A, fetch 1, land fetch 1, offer 2, land 2 B",
+    ),
+    // document 02, N5: all five answers of a look-up on one box, and what the landings make of two of them
+    (
+        "conditions",
+        4,
+        8,
+        "fetch 1, land fetch 1, offer 2, land 2 A, offer 3, fetch 4, look up 0, look up 1, look up 2, look up 3, look up 4, \
+         land 3 B, land fetch 4, look up 3, look up 4, write back 3, look up 3",
+    ),
+    // a slot that is open still has its former block's page: 1 reads from the HDD
+    (
+        "an open slot's former block",
+        1,
+        2,
+        "offer 0, land 0 A, write back 0, look up 0, fetch 1, look up 1, look up 0, land fetch 1, look up 1",
     ),
 ];
 

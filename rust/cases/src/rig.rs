@@ -1,6 +1,7 @@
 //! A box with everything that it is lent, owned.
 
 pub use crate::call::{Answer, Call, Made, Said};
+use crate::looked;
 use crate::place::{check_alone, check_told, Memory};
 use crate::stored::page;
 use ferjulm::{calls, Block, Cache, Geometry, Images, Phase, Record, Refusal, Slot, PAGE};
@@ -66,11 +67,13 @@ impl Rig {
         made
     }
 
-    /// Makes a call, and checks the page that it names by document 01 alone: for a caller that compares images itself.
+    /// Makes a call, and checks the page that it names by document 01 alone, and what a look-up answers and leaves: for a caller
+    /// that compares images itself.
     pub fn make_told(&mut self, call: &Call) -> Made {
         let before = Memory::of(self);
         let made = self.call(call);
         check_told(&before, call, &made);
+        looked::check(before, self, call, &made);
         made
     }
 

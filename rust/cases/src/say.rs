@@ -1,7 +1,7 @@
 //! What the lines say, in document 01's words.
 
 use crate::rig::{Answer, Said};
-use ferjulm::{Image, Phase, Place, Record, Slot, PAGE};
+use ferjulm::{Condition, Image, Phase, Place, Record, Slot, PAGE};
 
 /// An answer, or a refusal with its number.
 pub fn said(said: Said) -> String {
@@ -10,10 +10,20 @@ pub fn said(said: Said) -> String {
         Ok(Answer::Announced(Slot(slot))) => format!("announced {slot}"),
         Ok(Answer::Overwrite) => "overwrite".to_string(),
         Ok(Answer::CopiedOut) => "copied out".to_string(),
-        Ok(Answer::InSlot(Slot(slot))) => format!("in slot {slot}"),
-        Ok(Answer::OnDisk) => "on disk".to_string(),
+        Ok(Answer::Looked(found)) => condition(found),
         Ok(Answer::NothingToDo) => "nothing to do".to_string(),
         Err(refusal) => format!("refused {}", refusal.number()),
+    }
+}
+
+/// A block's condition.
+fn condition(found: Condition) -> String {
+    match found {
+        Condition::NotCached => "not cached".to_string(),
+        Condition::Clean(Slot(slot)) => format!("clean in slot {slot}"),
+        Condition::Dirty(Slot(slot)) => format!("dirty in slot {slot}"),
+        Condition::OpenWrite(Slot(slot)) => format!("open for writing in slot {slot}"),
+        Condition::OpenFetch(Slot(slot)) => format!("open for fetch in slot {slot}"),
     }
 }
 

@@ -92,22 +92,56 @@ impl Saved {
     }
 }
 
-/// The answer of a look-up.
+/// The answer of a look-up: the block's condition, with its slot.
+///
+/// The page of a slot that is open may still be its former block's: read a block by a view.
+///
+/// ```
+/// use ferjulm::Condition;
+///
+/// /// What a status panel says of a block.
+/// fn panel(condition: Condition) -> &'static str {
+///     match condition {
+///         Condition::NotCached => "on the disk alone",
+///         Condition::Clean(_) => "in the cache, and the same on the disk",
+///         Condition::Dirty(_) => "in the cache, the disk is behind: write it back before the disk is taken away",
+///         Condition::OpenWrite(_) => "being written: till it lands it reads as before, from the disk",
+///         Condition::OpenFetch(_) => "on its way into the cache: till then it reads from the disk",
+///     }
+/// }
+/// assert_eq!(panel(Condition::NotCached), "on the disk alone");
+/// ```
 #[derive(Clone, Copy, Debug, PartialEq, Eq)]
-#[non_exhaustive]
-pub enum Found {
-    /// The block is cached and not open.
-    InSlot(Slot),
-    /// The block is to be read from the HDD.
-    OnDisk,
+pub enum Condition {
+    /// It has no slot.
+    NotCached,
+    /// In a slot and not open, as the HDD has it.
+    Clean(Slot),
+    /// In a slot and not open; the HDD may be behind.
+    Dirty(Slot),
+    /// Its slot is open for writing: a write was announced and has not landed.
+    OpenWrite(Slot),
+    /// Its slot is open for fetch: the fetch has not landed.
+    OpenFetch(Slot),
 }
 
-impl Found {
+impl Condition {
     pub(crate) fn of(code: u32, slot: u32) -> Self {
         match code {
-            104 => Found::InSlot(Slot(slot)),
-            105 => Found::OnDisk,
+            107 => Condition::NotCached,
+            108 => Condition::Clean(Slot(slot)),
+            109 => Condition::Dirty(Slot(slot)),
+            110 => Condition::OpenWrite(Slot(slot)),
+            111 => Condition::OpenFetch(Slot(slot)),
             _ => foreign(code),
+        }
+    }
+
+    /// The slot whose page is the block's: that of a clean block or a dirty one, and none of an open one.
+    pub fn closed(self) -> Option<Slot> {
+        match self {
+            Condition::Clean(slot) | Condition::Dirty(slot) => Some(slot),
+            Condition::NotCached | Condition::OpenWrite(_) | Condition::OpenFetch(_) => None,
         }
     }
 }

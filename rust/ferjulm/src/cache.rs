@@ -3,7 +3,7 @@
 use crate::place::{page_at, Out};
 use crate::refusal::judged;
 use crate::{
-    calls, Block, Fetched, Found, Geometry, Image, Images, Lent, Offered, Phase, Place, Record,
+    calls, Block, Condition, Fetched, Geometry, Image, Images, Lent, Offered, Phase, Place, Record,
     Refusal, Saved, View,
 };
 use crate::{WrongLength, PAGE};
@@ -161,14 +161,37 @@ impl<'a> Cache<'a> {
         self.judged(code).map(|_| out.stored())
     }
 
-    /// Looks a block up: in a slot if it is cached and not open, and its used flag is set; else on disk. Stores nothing.
+    /// Looks a block up: its condition, with its slot. Where it is clean or dirty its used flag is set. Stores nothing.
+    ///
+    /// ```
+    /// use ferjulm::{Block, Cache, Condition, Geometry, Images, Record, Refusal, Slot, PAGE};
+    ///
+    /// let geometry = Geometry { slots: 4, blocks: 8 };
+    /// let (mut images, mut record) = (Images::zeroed(geometry), Record::default());
+    /// let mut table = vec![0; geometry.table_words()];
+    /// let mut cache = Cache::new(images.lend(), &mut table, &mut record);
+    /// cache.format(geometry)?;
+    /// cache.finish(|_, _| Ok::<(), Refusal>(()))?;
+    ///
+    /// assert_eq!(cache.look_up(Block(5))?, Condition::NotCached);
+    /// cache.fetch(Block(5))?;
+    /// assert_eq!(cache.look_up(Block(5))?, Condition::OpenFetch(Slot(0)));
+    /// cache.land_fetch(Block(5))?;
+    /// assert_eq!(cache.look_up(Block(5))?, Condition::Clean(Slot(0)));
+    /// cache.offer(Block(5))?;
+    /// assert_eq!(cache.look_up(Block(5))?, Condition::OpenWrite(Slot(0)));
+    /// cache.land(Block(5), &[7; PAGE])?;
+    /// assert_eq!(cache.look_up(Block(5))?, Condition::Dirty(Slot(0)));
+    /// assert_eq!(cache.look_up(Block(5))?.closed(), Some(Slot(0)));
+    /// # Ok::<(), Refusal>(())
+    /// ```
     ///
     /// # Errors
     /// 3 to 6, and 7 (the block).
-    pub fn look_up(&mut self, block: Block) -> Result<Found, Refusal> {
+    pub fn look_up(&mut self, block: Block) -> Result<Condition, Refusal> {
         let mut slot = 0;
         let code = call!(self.look_up(block.0, &mut slot));
-        self.judged(code).map(|code| Found::of(code, slot))
+        self.judged(code).map(|code| Condition::of(code, slot))
     }
 
     /// Views a block: that page of the SSD image itself if it is cached and not open, else of the HDD image. Changes nothing.

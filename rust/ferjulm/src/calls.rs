@@ -67,7 +67,7 @@ calls! {
     /// Copies the HDD page into the slot that a fetch opened.
     land_fetch, ferjulm_land_fetch(&mut [u8], &[u8], &mut [u32], &mut [u32]; block: u32, image: &mut u32, offset: &mut u64);
     /// Looks a block up.
-    look_up, ferjulm_look_up(&[u8], &[u8], &mut [u32], &mut [u32]; block: u32, slot: &mut u32);
+    look_up, ferjulm_look_up(&[u8], &[u8], &mut [u32], &[u32]; block: u32, slot: &mut u32);
     /// Views a block: `image` becomes 1 for the SSD or 2 for the HDD, `offset` the page's first byte in it.
     view, ferjulm_view(&[u8], &[u8], &[u32], &[u32]; block: u32, image: &mut u32, offset: &mut u64);
     /// Writes a block back.

@@ -5,7 +5,7 @@
 //! standard library: the feature `std`, a default one, adds images on the heap and a refusal as an `std::io::Error`.
 //!
 //! ```
-//! use ferjulm::{Block, Cache, Found, Geometry, Images, Offered, Place, Record, Refusal, PAGE};
+//! use ferjulm::{Block, Cache, Condition, Geometry, Images, Offered, Place, Record, Refusal, PAGE};
 //!
 //! // where the images are kept on drives, a stored page is written to its drive here, and synced
 //! let store = |_: Place, _: &[u8; PAGE]| Ok::<(), Refusal>(());
@@ -38,7 +38,7 @@
 //! cache.reopen()?;
 //! assert_eq!(cache.finish(store)?, 1);
 //! assert_eq!(cache.view(Block(5))?.page, &[7; PAGE]);
-//! assert_eq!(cache.look_up(Block(6))?, Found::OnDisk);
+//! assert_eq!(cache.look_up(Block(6))?, Condition::NotCached);
 //! assert_eq!(cache.land(Block(6), &[8; PAGE]).unwrap_err().number(), 9);
 //! # Ok::<(), Refusal>(())
 //! ```
@@ -56,7 +56,7 @@ mod place;
 mod record;
 mod refusal;
 
-pub use answer::{Fetched, Found, Offered, Saved, View};
+pub use answer::{Condition, Fetched, Offered, Saved, View};
 pub use cache::Cache;
 pub use geometry::{Block, Geometry, Images, Slot, PAGE};
 pub use place::{Image, Place};

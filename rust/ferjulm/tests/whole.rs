@@ -3,7 +3,7 @@
 use cases::place::{hdd, page_of, ssd};
 use cases::rig::{word, Answer, Call, Rig, Said};
 use cases::stored::{label, label_page, page, Meta, Metas, LANDED_PAGES};
-use ferjulm::{Block, Geometry, Images, Place, Slot, PAGE};
+use ferjulm::{Block, Condition, Geometry, Images, Place, Slot, PAGE};
 use std::collections::BTreeMap;
 
 const WHOLE: Geometry = Geometry {
@@ -102,7 +102,7 @@ fn written() -> Whole {
     whole
 }
 
-/// What every block reads as that has to do with the list: landed and kept, or dropped and on disk.
+/// What every block reads as that has to do with the list: landed and kept, or dropped and not cached.
 fn check_reads(whole: &mut Whole) {
     for block in (59_000..59_064).chain([7, 200]) {
         let dropped = OPEN.iter().any(|open| open.0 == block);
@@ -112,16 +112,16 @@ fn check_reads(whole: &mut Whole) {
         let found = whole.make(&Call::LookUp(Block(block)));
         if kept {
             let slot = Slot((57_570 + block - 59_000) % 57_600);
-            assert_eq!(found, Ok(Answer::InSlot(slot)));
+            assert_eq!(found, Ok(Answer::Looked(Condition::Dirty(slot))));
             assert!(
                 read == page(LANDED_PAGES + block as u64)
                     && read == whole.rig.slot_page(WHOLE, slot)
             );
         } else {
-            assert_eq!(found, Ok(Answer::OnDisk));
+            assert_eq!(found, Ok(Answer::Looked(Condition::NotCached)));
             assert!(
                 read == [0; PAGE],
-                "block {block} is on disk, and zero there"
+                "block {block} is not cached, and zero on disk"
             );
         }
     }

@@ -134,7 +134,7 @@ impl Client {
 
     fn read(&mut self, block: u32) {
         self.make_room(block);
-        if self.cache.call(Call::LookUp(block)) == 104 {
+        if [108, 109].contains(&self.cache.call(Call::LookUp(block))) {
             self.hits += 1;
         } else {
             self.announce(Call::Fetch(block));

@@ -84,15 +84,18 @@ pub fn land_fetch(w: &mut World, block: u32) -> Answer {
 
 #[inline(never)]
 pub fn look_up(w: &mut World, block: u32) -> Answer {
-    let judged = serves(w, PAGE, Some(block))?;
-    pack(&mut w.record, &judged.record);
-    match judged.at {
-        Some(slot) if flags_at(w, slot) / 4 % 2 == 0 => {
-            w.table[2 * slot as usize + 1] |= 8;
-            w.slot = slot;
-            Ok(104)
+    let Some(slot) = serves(w, PAGE, Some(block))?.at else {
+        return Ok(107);
+    };
+    w.slot = slot;
+    let flags = &mut w.table[2 * slot as usize + 1];
+    match *flags / 2 % 4 {
+        2 => Ok(111),
+        3 => Ok(110),
+        dirty => {
+            *flags |= 8;
+            Ok(108 + dirty)
         }
-        _ => Ok(105),
     }
 }
 

@@ -34,7 +34,7 @@ impl Input {
 
     /// Spoils one thing.
     pub fn spoil(&mut self, random: &mut Random) {
-        match random.below(14) {
+        match random.below(15) {
             0 => resize(&mut self.ssd, PAGE, random),
             1 => resize(&mut self.hdd, PAGE, random),
             2 => resize(&mut self.page, PAGE, random),
@@ -48,10 +48,21 @@ impl Input {
             9 | 10 => spoil_word(&mut self.table, random),
             11 => self.table.iter_mut().for_each(|word| *word = random.word()),
             12 => self.spoil_ssd(random),
+            13 => self.double(random),
             _ => self
                 .ssd
                 .iter_mut()
                 .for_each(|byte| *byte = random.word() as u8),
+        }
+    }
+
+    /// Puts a row's block into another row too.
+    fn double(&mut self, random: &mut Random) {
+        let rows = self.table.len() as u32 / 2;
+        if rows > 0 {
+            let (from, to) = (random.below(rows) as usize, random.below(rows) as usize);
+            self.table[2 * to] = self.table[2 * from];
+            self.table[2 * to + 1] |= 1;
         }
     }
 

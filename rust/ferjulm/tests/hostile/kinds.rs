@@ -43,7 +43,12 @@ pub const KINDS: [Kind; 12] = [
         ALL,
     ),
     kind("land a fetch", &[3, 4, 5, 6, 7, 9], &[0], LANDING),
-    kind("look up", &[3, 4, 5, 6, 7], &[104, 105], &["table", "slot"]),
+    kind(
+        "look up",
+        &[3, 4, 5, 6, 7],
+        &[107, 108, 109, 110, 111],
+        &["table", "slot"],
+    ),
     kind("view", &[3, 4, 5, 6, 7], &[0], &["place"]),
     kind(
         "write back",

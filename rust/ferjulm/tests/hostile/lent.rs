@@ -34,7 +34,7 @@ pub struct Lent {
     ssd: Guarded<u8>,
     hdd: Guarded<u8>,
     page: Guarded<u8>,
-    table: Guarded<u32>,
+    pub table: Guarded<u32>,
     pub record: Guarded<u32>,
     pub slot: Guarded<u32>,
     pub image: Guarded<u32>,

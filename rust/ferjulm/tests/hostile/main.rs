@@ -5,10 +5,11 @@ mod input;
 mod kinds;
 mod lent;
 
+use cases::looked::condition;
 use cases::random::Random;
-use cases::rig::Rig;
+use cases::rig::{word, Rig};
 use cases::stored::{label, label_page};
-use ferjulm::{Geometry, PAGE};
+use ferjulm::{Block, Condition, Geometry, Slot, PAGE};
 use input::{boxes, full, late, Input};
 use kinds::{Kind, KINDS};
 use lent::{Lent, UNSET};
@@ -44,6 +45,9 @@ fn check(kind: &Kind, input: &Input) -> u32 {
     check_slot(name, result, &mut lent);
     check_place(kind, result, &mut lent, &before, input);
     check_fits(kind, &mut lent, input);
+    if name == "look up" {
+        check_condition(result, &mut lent, input);
+    }
     result
 }
 
@@ -83,11 +87,29 @@ fn check_fits(kind: &Kind, lent: &mut Lent, input: &Input) {
 /// A slot is set where the answer carries one, and nowhere else.
 fn check_slot(name: &str, result: u32, lent: &mut Lent) {
     let slot = lent.slot.lent()[0];
-    let carries = [101, 104].contains(&result);
+    let carries = result == 101 || (108..=111).contains(&result);
     assert!(
         carries == (slot != UNSET),
         "{name} gave {result} and slot {slot}"
     );
+}
+
+/// A look-up that is done answers by the block's lowest row, open or not, and sets the used flag of a closed slot alone.
+fn check_condition(result: u32, lent: &mut Lent, input: &Input) {
+    let condition = condition(&input.table, Block(input.block));
+    let (code, slot) = match condition {
+        Condition::NotCached => (107, Slot(UNSET)),
+        Condition::Clean(slot) => (108, slot),
+        Condition::Dirty(slot) => (109, slot),
+        Condition::OpenWrite(slot) => (110, slot),
+        Condition::OpenFetch(slot) => (111, slot),
+    };
+    assert_eq!((result, Slot(lent.slot.lent()[0])), (code, slot));
+    let mut table = input.table.clone();
+    if let Some(slot) = condition.closed() {
+        table[2 * slot.0 as usize + 1] |= 8;
+    }
+    assert!(lent.table.lent() == table, "a look-up of {condition:?}");
 }
 
 /// The page that a call names lies in its image, and no other was changed; it names one exactly where its answer says so, and
@@ -194,6 +216,46 @@ fn clear_all(input: &mut Input) {
     }
     input.table.clear();
     input.record.clear();
+}
+
+/// A block in two rows, which no call but a reopening judges: every pair of legal flags, used or not. Its lowest slot counts, open
+/// or not, for a look-up and for every other call.
+#[test]
+fn a_block_in_two_rows() {
+    const FLAGS: [u32; 8] = [1, 3, 5, 7, 9, 11, 13, 15];
+    let mut seen: BTreeMap<(&str, u32), u32> = BTreeMap::new();
+    for (low, high) in FLAGS
+        .into_iter()
+        .flat_map(|low| FLAGS.map(|high| (low, high)))
+    {
+        let mut input = Input::of(Rig::formatted(SMALL), SMALL);
+        input.block = 6;
+        input.table[2..6].copy_from_slice(&[6, low, 6, high]);
+        let open = [(1, low), (2, high)]
+            .into_iter()
+            .filter(|row| row.1 & 4 != 0);
+        let open: Vec<u32> = open.map(|row| row.0).collect();
+        input.record[word::COUNT] = open.len() as u32;
+        input.record[word::WINDOW..][..open.len()].copy_from_slice(&open);
+        for kind in &KINDS {
+            let result = check(kind, &input);
+            *seen.entry((kind.name, result)).or_default() += 1;
+            let wanted = match (kind.name, low & 7) {
+                ("offer", 1) => 101,
+                ("offer", 3) => 102,
+                ("offer" | "write back", 5 | 7) | ("fetch", 7) => 8,
+                ("fetch", _) => 10,
+                ("land", 1 | 5) | ("land a fetch", 1 | 3 | 7) => 9,
+                ("land" | "land a fetch", _) | ("write back", 3) => 0,
+                ("write back", _) => 106,
+                _ => result,
+            };
+            assert_eq!(result, wanted, "{}: flags {low} and {high}", kind.name);
+        }
+    }
+    for code in 108..=111 {
+        assert_eq!(seen[&("look up", code)], 16, "look-ups that gave {code}");
+    }
 }
 
 /// Words that are no phase, and numbers out of range, are refused by 3 by every call that judges a record.

@@ -4,7 +4,7 @@ use cases::beside::Beside;
 use cases::random::Random;
 use cases::rig::{Answer, Call, Said};
 use cases::stored::{page, LANDED_PAGES};
-use ferjulm::{Block, Geometry, Slot, PAGE};
+use ferjulm::{Block, Condition, Geometry, Slot, PAGE};
 use std::collections::{BTreeMap, BTreeSet};
 
 /// How often each call is made, in hundredths: offer, land, fetch, land a fetch, look up, view, write back, flush; the rest
@@ -36,6 +36,8 @@ pub struct Counts {
     pub fetched_again: [u32; 3],
     /// How often several open blocks were landed in two orders.
     pub landed_twice: u32,
+    /// Look-ups of a block that was not cached, clean, dirty, open for writing, open for fetch.
+    pub looked_up: [u32; 5],
 }
 
 /// A list in the making.
@@ -191,6 +193,7 @@ impl<'a> List<'a> {
         }
         match said {
             Ok(Answer::CopiedOut) => self.counts.copied_out += 1,
+            Ok(Answer::Looked(condition)) => self.counts.looked_up[kind_of(condition)] += 1,
             Ok(_) => {}
             Err(refusal) => *self.counts.refused.entry(refusal.number()).or_default() += 1,
         }
@@ -335,6 +338,17 @@ impl<'a> List<'a> {
             let call = self.call();
             self.make(call);
         }
+    }
+}
+
+/// Which of `looked_up` a look-up is.
+fn kind_of(condition: Condition) -> usize {
+    match condition {
+        Condition::NotCached => 0,
+        Condition::Clean(_) => 1,
+        Condition::Dirty(_) => 2,
+        Condition::OpenWrite(_) => 3,
+        Condition::OpenFetch(_) => 4,
     }
 }
 

@@ -66,6 +66,11 @@ fn random_lists_beside_the_plain_disk() {
     assert!(all.fetched_again.iter().all(|&count| count > 0));
     println!("landed in two orders: {}", all.landed_twice);
     assert!(all.landed_twice > 100);
+    println!(
+        "looked up, not cached to open for fetch: {:?}",
+        all.looked_up
+    );
+    assert!(all.looked_up.iter().all(|&count| count > 100));
     for number in [1, 4, 6, 7, 8, 9, 10, 11, 12] {
         assert!(
             all.refused.contains_key(&number),
