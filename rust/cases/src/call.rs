@@ -48,7 +48,7 @@ impl Call {
     }
 }
 
-/// The answer of any call, in document 01's words.
+/// The answer of any call, in the documents' words.
 #[derive(Clone, Copy, Debug, PartialEq, Eq)]
 pub enum Answer {
     /// Where document 01 names no answer.
