@@ -8,7 +8,13 @@ pub mod LabelReads
 pub mod LabelLaws
 pub mod LabelBuilt
 pub mod LabelExamples
+pub mod RowCases
 pub mod MetaLaws
 pub mod RuleLaws
 pub mod JudgeLaws
 pub mod RoundTrip
+pub mod RowLaws
+pub mod Decided
+pub mod ReadExactly
+pub mod StandsIn
+pub mod NotBefore

@@ -105,7 +105,7 @@ window-rule l page = (
       (and-of (distinct-of (countOf page) (slotAt page) (r .apart)) (zero-rule (16 + 4 * countOf page) 268 page .1 (r .zero-past))),
 )
 
-flags-rule : (f : ℕ) → legalFlags f ⇔ LegalFlags f
+pub flags-rule : (f : ℕ) → legalFlags f ⇔ LegalFlags f
 unfolding legalFlags
 flags-rule f = (to, from)
   where
@@ -206,7 +206,7 @@ entries-rule l p page = (
 )
 
 -- the row tests, one after the other
-passes-cons : (test : RowTest) (tests : List RowTest) (l : Label) (p : ℕ) (page : List ℕ)
+pub passes-cons : (test : RowTest) (tests : List RowTest) (l : Label) (p : ℕ) (page : List ℕ)
     → passes (test ∷ tests) l p page ≡ (test l p page && passes tests l p page)
 unfolding passes
 passes-cons test tests l p page = go (test l p page)

@@ -5,3 +5,4 @@ pub mod LabelPage
 pub mod LabelScan
 pub mod MetaPage
 pub mod PageRule
+pub mod ReadDown

@@ -109,8 +109,17 @@ unfoldable pub passes : List RowTest → Label → ℕ → List ℕ → Bool
 passes [] l p page = true
 passes (test ∷ tests) l p page = elim (test l p page) [ true ↦ passes tests l p page | false ↦ false ]
 
+-- the first k rows, one after the other: "The reading should take the fields in the order of that table" (document 02, N4)
+abbrev pub readDown : ℕ → RowTest
+readDown k l p page = passes (take k rowTests) l p page
+
+-- the test of one row, the rows counted from 1; there are no others
+abbrev pub fieldTest : ℕ → RowTest
+fieldTest zero l p page = true
+fieldTest (suc row) l p page = getD rowTests row (λ l p page. true) l p page
+
 unfoldable pub pageTest : Label → ℕ → List ℕ → Bool
-pageTest l p page = passes rowTests l p page
+pageTest l p page = readDown 7 l p page
 
 -- the same, in document 01's words
 pub record PageRule (l : Label) (p : ℕ) (page : List ℕ) : Type 0 where

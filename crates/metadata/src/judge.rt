@@ -1,4 +1,4 @@
-// Judging a metadata page, row by row of document 01's page table.
+// Judging a metadata page, row by row of document 01's page table and in its order.
 use crate::page;
 use layout::Label;
 use layout::Slot;
@@ -11,7 +11,7 @@ ghost use lib.ListN.{length, drop};
 ghost use Rattle.layout.specs.Places.{slotOn};
 ghost use Rattle.layout.specs.Window.{windowMost};
 ghost use Rattle.layout.specs.MetaPage.{countOf, windowOf, entryPart};
-ghost use Rattle.layout.specs.PageRule.{countTest, listed, distinct, inRange, windowTest, pairTest, entryTest, entriesTest, pageTest};
+ghost use Rattle.layout.specs.PageRule.{countTest, listed, distinct, inRange, windowTest, pairTest, entryTest, entriesTest, fieldTest, readDown, pageTest};
 
 // 4..5: the window's length, and that stamp 0 goes with an empty window.
 fn legal_count(page: &[u8]) -> bool
@@ -135,26 +135,48 @@ fn legal_entries(l: Label, p: u32, page: &[u8]) -> bool
     true
 }
 
-// Whether a page keeps the rule of metadata page p.
+// The field of one row of the page table, the rows counted from 1. The stamp alone has no rule.
+fn legal_field(l: Label, p: u32, page: &[u8], row: u32) -> bool
+    requires { ⌜ length (now page) ≡ 4096 ⌝ }
+    requires { ⌜ p < 2 ^ 16 ⌝ }
+    requires { ⌜ (row ≡ 4 → countOf (now page) ≤ windowMost) ⌝ }
+    ensures { λ r. ⌜ r ≡ fieldTest row l p (now (page .entry)) ⌝ }
+{
+    match row {
+        2 => legal_count(page),
+        3 => zeros::all_zero(page, 6, 16),
+        4 => legal_window(l, page),
+        5 => zeros::all_zero(page, 268, 512),
+        6 => legal_entries(l, p, page),
+        7 => zeros::all_zero(page, 2432, 4096),
+        _ => true,
+    }
+}
+
+// Reads metadata page p down to a row of the page table, field by field in its order: whether it passes so far.
+pub fn read_down(l: Label, p: u32, page: &[u8], rows: u32) -> bool
+    requires { ⌜ length (now page) ≡ 4096 ⌝ }
+    requires { ⌜ p < 2 ^ 16 ⌝ }
+    ensures { λ r. ⌜ r ≡ readDown rows l p (now (page .entry)) ⌝ }
+{
+    let mut row: u32 = 0;
+    while row < 7 {
+        if row == rows {
+            return true;
+        }
+        if !legal_field(l, p, page, row + 1) {
+            return false;
+        }
+        row += 1;
+    }
+    true
+}
+
+// Whether a page keeps the rule of metadata page p: all seven rows.
 pub fn legal_page(l: Label, p: u32, page: &[u8]) -> bool
     requires { ⌜ length (now page) ≡ 4096 ⌝ }
     requires { ⌜ p < 2 ^ 16 ⌝ }
     ensures { λ r. ⌜ r ≡ pageTest l p (now (page .entry)) ⌝ }
 {
-    if !legal_count(page) {
-        return false;
-    }
-    if !zeros::all_zero(page, 6, 16) {
-        return false;
-    }
-    if !legal_window(l, page) {
-        return false;
-    }
-    if !zeros::all_zero(page, 268, 512) {
-        return false;
-    }
-    if !legal_entries(l, p, page) {
-        return false;
-    }
-    zeros::all_zero(page, 2432, 4096)
+    read_down(l, p, page, 7)
 }
