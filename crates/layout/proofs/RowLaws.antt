@@ -1,6 +1,7 @@
 -- A page read down, row by row.
 use Prim.Native.Nat.{ℕ, zero, suc, _+_, _≤_}
 use mathlib.Core.Path.{_≡_, refl, sym, ap, _∙_}
+use mathlib.Core.Logic.{_≢_}
 use mathlib.Core.Bool.{Bool, true, false, _&&_}
 use mathlib.Core.List.{List, _∷_, []}
 use native.Mathlib.Decide.{decLe}
@@ -59,3 +60,15 @@ module _ (l : Label) (p : ℕ) (page : List ℕ) where
   unfolding passes
   read-of zero h = refl
   read-of (suc k) h = passes-next rowTests k ∙ and-of (read-of k (λ row q. h row (omega arith))) (h (suc k) (omega arith))
+
+  -- a row that has no test
+  pub no-field : (row : ℕ) → row ≢ 2 → row ≢ 3 → row ≢ 4 → row ≢ 5 → row ≢ 6 → row ≢ 7 → fieldTest row l p page ≡ true
+  no-field zero a b c d e f = refl
+  no-field (suc zero) a b c d e f = refl
+  no-field (suc (suc zero)) a b c d e f = absurd (a refl)
+  no-field (suc (suc (suc zero))) a b c d e f = absurd (b refl)
+  no-field (suc (suc (suc (suc zero)))) a b c d e f = absurd (c refl)
+  no-field (suc (suc (suc (suc (suc zero))))) a b c d e f = absurd (d refl)
+  no-field (suc (suc (suc (suc (suc (suc zero)))))) a b c d e f = absurd (e refl)
+  no-field (suc (suc (suc (suc (suc (suc (suc zero))))))) a b c d e f = absurd (f refl)
+  no-field (suc (suc (suc (suc (suc (suc (suc (suc row)))))))) a b c d e f = refl

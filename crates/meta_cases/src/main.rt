@@ -1,5 +1,5 @@
 // Metadata pages that are legal, and pages with one thing wrong, each judged on a line of its own. Slots 4 and blocks 8
-// unless a line says otherwise.
+// unless a line says otherwise. Then pages that are read down to each row of the page table.
 use layout::Slot;
 use layout::WINDOW;
 use layout::Window;
@@ -150,6 +150,49 @@ fn second_page_cases() {
     judged(b"slots 242, page 1, entry of slot 241", 242, 1, page);
 }
 
+// Reads page 0 of 4 slots down to a row of the page table.
+fn read_row(page: [u8; 4096], rows: u32) {
+    if judge::read_down(places::label(4, 8), 0, &page, rows) {
+        io::write_all(1, b" passes");
+    } else {
+        io::write_all(1, b" refused");
+    }
+}
+
+// The answers for rows 1 to 7, on one line.
+fn read_rows(name: &[u8], page: [u8; 4096]) {
+    io::write_all(1, name);
+    io::write_all(1, b":");
+    read_row(page, 1);
+    read_row(page, 2);
+    read_row(page, 3);
+    read_row(page, 4);
+    read_row(page, 5);
+    read_row(page, 6);
+    read_row(page, 7);
+    io::write_all(1, b"\n");
+}
+
+// The same of a page with one byte changed: stamp 7, slots 0 and 3 in the window, block 5 open for writing in slot 0.
+fn read_changed(name: &[u8], at: usize, value: u8)
+    requires { ⌜ at < 4096 ⌝ }
+{
+    let mut page = page_of(7, 0, 3, 2, 5, 7);
+    page[at] = value;
+    read_rows(name, page);
+}
+
+// A legal page, and one broken in each of rows 2 to 7.
+fn row_cases() {
+    read_rows(b"legal", page_of(7, 0, 3, 2, 5, 7));
+    read_changed(b"row 2, stamp 0 with a window", 0, 0);
+    read_changed(b"row 3, byte 6", 6, 1);
+    read_changed(b"row 4, slot 4 of 4", 20, 4);
+    read_changed(b"row 5, byte 268", 268, 1);
+    read_changed(b"row 6, flags 2", 516, 2);
+    read_changed(b"row 7, byte 2432", 2432, 1);
+}
+
 fn main() {
     judged(b"good page", 4, 0, page_of(7, 0, 0, 1, 5, 7));
     zero_cases();
@@ -163,4 +206,5 @@ fn main() {
     entry_cases();
     block_cases();
     second_page_cases();
+    row_cases();
 }
