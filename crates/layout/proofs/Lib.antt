@@ -13,8 +13,10 @@ pub mod MetaLaws
 pub mod RuleLaws
 pub mod JudgeLaws
 pub mod RoundTrip
+pub mod WholePage
+pub mod StandsIn
+pub mod NotBefore
 pub mod RowLaws
 pub mod Decided
 pub mod ReadExactly
-pub mod StandsIn
-pub mod NotBefore
+pub mod Follows

@@ -18,8 +18,9 @@ use Rattle.layout.specs.PageRule.{LegalFlags}
 use Rattle.layout.specs.ReadDown.{Rule, rowsEnd, lastRow, Keeps, Undecided, NotBefore}
 use Rattle.layout.specs.ReadDown.Rule.{lengthMost, stampZero, zero6, slotsBelow, slotsApart, zeroPast, zero268, flagsLegal, freeZero, beyondFree, blockBelow, entryZero, zero2432}
 use Rattle.layout.proofs.Booleans.{and-parts}
+use Rattle.layout.proofs.RuleLaws.{page-rule}
 use Rattle.layout.proofs.RowCases.{legalPage, legal-passes}
-use Rattle.layout.proofs.ReadExactly.{passes-exactly, row-most}
+use Rattle.layout.proofs.WholePage.{whole-page}
 
 -- bytes
 unfoldable small : List ℕ → Bool
@@ -53,7 +54,7 @@ changed r i v h q n = record {
   breaking = set legalPage i v;
   pages = (legal-is-page, set-is-page legalPage i v q legal-is-page);
   alike = sym (take-set-le (rowsEnd (lastRow r - 1)) legalPage i v h);
-  kept = passes-exactly 7 (labelOf 4 8) 0 legalPage .0 legal-passes r (row-most r);
+  kept = whole-page (labelOf 4 8) 0 legalPage .0 (page-rule (labelOf 4 8) 0 legalPage .0 legal-passes) r;
   broken = n;
 }
 
@@ -91,6 +92,7 @@ not-before zero268 = changed zero268 268 1 (omega arith) (omega arith) λ h. one
 not-before flagsLegal = changed flagsLegal 516 2 (omega arith) (omega arith) λ h. no-flags (h 0 (omega arith))
 not-before freeZero = changed freeZero 516 0 (omega arith) (omega arith) λ h. absurd (omega (arith, h 0 (omega arith) refl))
 not-before beyondFree = changed beyondFree 548 1 (omega arith) (omega arith) λ h. one-zero (h 4 (omega arith) (lit≤ tt))
-not-before blockBelow = changed blockBelow 512 8 (omega arith) (omega arith) λ h. absurd (omega (arith, h 0 (omega arith) (λ e. omega (arith, e))))
+not-before blockBelow = changed blockBelow 512 8 (omega arith) (omega arith) λ h.
+    absurd (omega (arith, h 0 (omega arith) (λ e. omega (arith, e))))
 not-before entryZero = changed entryZero 517 1 (omega arith) (omega arith) λ h. one-zero (h 0 (omega arith) 5 (omega arith) (omega arith))
 not-before zero2432 = changed zero2432 2432 1 (omega arith) (omega arith) λ h. one-zero (h 2432 (omega arith) (omega arith))

@@ -6,14 +6,15 @@ use mathlib.Core.Bool.{true, false}
 use mathlib.Core.List.{List, _∷_, []}
 use native.Mathlib.Decide.{decLe, decLt, ℕ-discrete}
 use native.Mathlib.Omega.{arith}
-use lib.ListN.{getD, take, drop, length-take, List·getD-eq-default}
+use lib.ListN.{getD}
 use Rattle.layout.specs.declared.Label.{Label}
 use Rattle.layout.specs.MetaPage.{countOf, slotAt, entryPart, entryAt}
-use Rattle.layout.specs.PageRule.{readDown, fieldTest, pageTest}
-use Rattle.layout.specs.ReadDown.{Rule, lastRow, Keeps, Broken, PassesExactly, RefusesExactly, WholePage}
+use Rattle.layout.specs.PageRule.{readDown, fieldTest}
+use Rattle.layout.specs.ReadDown.{Rule, lastRow, Keeps, Broken, PassesExactly, RefusesExactly}
 use Rattle.layout.specs.ReadDown.Rule.{lengthMost, stampZero, zero6, slotsBelow, slotsApart, zeroPast, zero268, flagsLegal, freeZero, beyondFree, blockBelow, entryZero, zero2432}
 use Rattle.layout.proofs.Booleans.{Told, told, told-true, told-false, clash}
-use Rattle.layout.proofs.RuleLaws.{count-rule, zero-rule, window-rule, flags-rule, entries-rule, page-rule}
+use Rattle.layout.proofs.RuleLaws.{count-rule, zero-rule, window-rule, flags-rule, entries-rule}
+use Rattle.layout.proofs.WholePage.{window-kept, entries-kept}
 use Rattle.layout.proofs.RowLaws.{fields-of, read-of}
 use Rattle.layout.proofs.Decided.{dec-test, dec-if, dec-same, each-or, dec-each}
 
@@ -34,15 +35,6 @@ module _ (l : Label) (p : ℕ) (page : List ℕ) where
   rule-of entryZero e = λ i h k q s. entries-rule l p page .0 e i h .zero-after k q
   rule-of zero2432 e = zero-rule 2432 4096 page .0 e
 
-  -- an entry's 8 bytes have no ninth
-  zero-after : (i k : ℕ) → 5 ≤ k → (k < 8 → getD (entryPart page i) k 0 ≡ 0) → getD (entryPart page i) k 0 ≡ 0
-  unfolding entryPart
-  zero-after i k h z = go (decLt k 8)
-    where
-      go : Dec (k < 8) → getD (entryPart page i) k 0 ≡ 0
-      go (yes q) = z q
-      go (no q) = List·getD-eq-default (take 8 (drop (512 + 8 * i) page)) 0 {n = k} (simp length-take (omega arith))
-
   -- and they say it
   test-of : (row : ℕ) → ((r : Rule) → lastRow r ≤ row → Keeps r l p page) → fieldTest row l p page ≡ true
   test-of zero h = refl
@@ -51,25 +43,21 @@ module _ (l : Label) (p : ℕ) (page : List ℕ) where
       count-rule page .1 (record { most = h lengthMost (omega arith); stamp-zero = h stampZero (omega arith) })
   test-of (suc (suc (suc zero))) h = zero-rule 6 16 page .1 (h zero6 (omega arith))
   test-of (suc (suc (suc (suc zero)))) h =
-      let most = h lengthMost (omega arith) in
       window-rule l page .1
-      (record {
-        in-range = λ k q. h slotsBelow (omega arith) k (omega (arith, most)) q;
-        apart = λ k m q s. h slotsApart (omega arith) k m q (omega (arith, most)) s;
-        zero-past = h zeroPast (omega arith);
-      })
+      (window-kept l p page
+      (h lengthMost (omega arith))
+      (h slotsBelow (omega arith))
+      (h slotsApart (omega arith))
+      (h zeroPast (omega arith)))
   test-of (suc (suc (suc (suc (suc zero))))) h = zero-rule 268 512 page .1 (h zero268 (omega arith))
   test-of (suc (suc (suc (suc (suc (suc zero)))))) h =
-      entries-rule l p page .1 λ i q.
-      record {
-        pair = record {
-          legal = h flagsLegal (omega arith) i q;
-          free = h freeZero (omega arith) i q;
-          below = h blockBelow (omega arith) i q;
-        };
-        zero-after = λ k s. zero-after i k s (h entryZero (omega arith) i q k s);
-        beyond = h beyondFree (omega arith) i q;
-      }
+      entries-rule l p page .1
+      (entries-kept l p page
+      (h flagsLegal (omega arith))
+      (h freeZero (omega arith))
+      (h beyondFree (omega arith))
+      (h blockBelow (omega arith))
+      (h entryZero (omega arith)))
   test-of (suc (suc (suc (suc (suc (suc (suc zero))))))) h = zero-rule 2432 4096 page .1 (h zero2432 (omega arith))
   test-of (suc (suc (suc (suc (suc (suc (suc (suc row)))))))) h = refl
 
@@ -92,7 +80,9 @@ module _ (l : Label) (p : ℕ) (page : List ℕ) where
   keeps-dec blockBelow = dec-each 240 _ λ i. dec-if (dec-if (ℕ-discrete _ _) (no λ x. x)) (decLt _ _)
   keeps-dec entryZero =
       dec-each 240 _ λ i.
-      dec-same (λ h k q s. h k s q, λ h k s q. h k q s) (dec-each 8 (λ k. 5 ≤ k → getD (entryPart page i) k 0 ≡ 0) λ k. dec-if (decLe _ _) (ℕ-discrete _ _))
+      dec-same
+      (λ h k q s. h k s q, λ h k s q. h k q s)
+      (dec-each 8 (λ k. 5 ≤ k → getD (entryPart page i) k 0 ≡ 0) λ k. dec-if (decLe _ _) (ℕ-discrete _ _))
   keeps-dec zero2432 = dec-test (zero-rule 2432 4096 page)
 
 pub passes-exactly : PassesExactly
@@ -104,8 +94,8 @@ passes-exactly k l p page = (
 -- the rules in a row
 abbrev rules : List Rule
 rules =
-    lengthMost ∷ stampZero ∷ zero6 ∷ slotsBelow ∷ slotsApart ∷ zeroPast ∷ zero268 ∷ flagsLegal ∷ freeZero ∷ beyondFree ∷ blockBelow ∷ entryZero
-    ∷ zero2432 ∷ []
+    lengthMost ∷ stampZero ∷ zero6 ∷ slotsBelow ∷ slotsApart ∷ zeroPast ∷ zero268 ∷ flagsLegal ∷ freeZero ∷ beyondFree
+    ∷ blockBelow ∷ entryZero ∷ zero2432 ∷ []
 
 abbrev ruleAt : ℕ → Rule
 ruleAt i = getD rules i lengthMost
@@ -151,26 +141,3 @@ module _ (k : ℕ) (l : Label) (p : ℕ) (page : List ℕ) where
 
 pub refuses-exactly : RefusesExactly
 refuses-exactly k l p page = (broken-of k l p page, refused-of k l p page (told (readDown k l p page)))
-
--- seven rows are the whole page
-pub row-most : (r : Rule) → lastRow r ≤ 7
-row-most lengthMost = omega arith
-row-most stampZero = omega arith
-row-most zero6 = omega arith
-row-most slotsBelow = omega arith
-row-most slotsApart = omega arith
-row-most zeroPast = omega arith
-row-most zero268 = omega arith
-row-most flagsLegal = omega arith
-row-most freeZero = omega arith
-row-most beyondFree = omega arith
-row-most blockBelow = omega arith
-row-most entryZero = omega arith
-row-most zero2432 = omega arith
-
-pub whole-page : WholePage
-unfolding pageTest
-whole-page l p page = (
-  λ h r. passes-exactly 7 l p page .0 (page-rule l p page .1 h) r (row-most r),
-  λ h. page-rule l p page .0 (passes-exactly 7 l p page .1 (λ r q. h r)),
-)

@@ -9,7 +9,7 @@ use Rattle.pages.specs.Words.{leBytes, leNumber}
 use Rattle.layout.specs.LabelPage.{allZero}
 use Rattle.layout.specs.MetaPage.{slotsBytes, entryBytes, rowsBytes, encodeMeta, stampOf, countOf, slotAt, firsts, windowOf, decodeEntry}
 use Rattle.layout.specs.Places.{labelOf}
-use Rattle.layout.specs.PageRule.{countTest, zeroTest, listed, distinct, inRange, windowTest, legalFlags, pairTest, entryTest, entriesFrom, entriesTest, passes, readDown}
+use Rattle.layout.specs.PageRule.{countTest, zeroTest, listed, distinct, inRange, windowTest, legalFlags, pairTest, entryTest, entriesFrom, entriesTest, passes, readDown, pageTest}
 
 -- stamp 7, slots 0 and 3 in the window, block 5 open for writing in slot 0
 abbrev pub legalPage : List ℕ
@@ -31,7 +31,7 @@ unfolding padded leBytes leNumber allZero slotsBytes entryBytes rowsBytes encode
     countTest zeroTest listed distinct inRange windowTest legalFlags pairTest entryTest entriesFrom entriesTest passes
 row-cases = (refl, refl, refl, refl, refl, refl, refl)
 
-pub legal-passes : readDown 7 (labelOf 4 8) 0 legalPage ≡ true
+pub legal-passes : pageTest (labelOf 4 8) 0 legalPage ≡ true
 unfolding padded leBytes leNumber allZero slotsBytes entryBytes rowsBytes encodeMeta stampOf countOf slotAt firsts windowOf decodeEntry
-    countTest zeroTest listed distinct inRange windowTest legalFlags pairTest entryTest entriesFrom entriesTest passes
+    countTest zeroTest listed distinct inRange windowTest legalFlags pairTest entryTest entriesFrom entriesTest passes pageTest
 legal-passes = refl

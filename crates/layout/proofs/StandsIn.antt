@@ -1,19 +1,14 @@
--- Two pages that agree down to a row: each rule whose fields stand there is kept by both or by neither, so that they are judged alike.
-use Prim.Native.Nat.{ℕ, zero, suc, _+_, _-_, _*_, _≤_, _<_}
+-- The row beside a rule is not too early: two pages that agree on the bytes down to it both keep the rule, or neither does.
+use Prim.Native.Nat.{ℕ, zero, suc, _+_, _*_, _≤_, _<_}
 use mathlib.Core.Path.{_≡_, refl, sym, ap, _∙_}
-use mathlib.Core.Bool.{true}
 use mathlib.Core.List.{List, _∷_, []}
-use native.Mathlib.Nat.{add-zero, add-suc}
 use native.Mathlib.Omega.{arith}
 use lib.ListN.{getD, take, drop}
 use lib.Seq.{take-take, getD-take}
 use Rattle.pages.specs.Words.{leNumber}
 use Rattle.layout.specs.MetaPage.{stampOf, countOf, slotAt, entryPart}
-use Rattle.layout.specs.PageRule.{readDown}
-use Rattle.layout.specs.ReadDown.{Rule, rowsEnd, lastRow, StandsIn, WhateverFollows}
+use Rattle.layout.specs.ReadDown.{StandsIn}
 use Rattle.layout.specs.ReadDown.Rule.{lengthMost, stampZero, zero6, slotsBelow, slotsApart, zeroPast, zero268, flagsLegal, freeZero, beyondFree, blockBelow, entryZero, zero2432}
-use Rattle.layout.proofs.Booleans.{Told, told, told-true, told-false, clash}
-use Rattle.layout.proofs.ReadExactly.{passes-exactly}
 
 part-of : (n m e : ℕ) (a : List ℕ) → n + m ≤ e → take m (drop n (take e a)) ≡ take m (drop n a)
 part-of zero m e a h = take-take m e a (omega arith)
@@ -64,36 +59,3 @@ stands-in beyondFree l p a b q h = λ i s. rw (sym (entry-same a b 2432 q (omega
 stands-in blockBelow l p a b q h = λ i s. rw (sym (entry-same a b 2432 q (omega arith) i s)) (h i s)
 stands-in entryZero l p a b q h = λ i s. rw (sym (entry-same a b 2432 q (omega arith) i s)) (h i s)
 stands-in zero2432 l p a b q h = λ k s t. sym (byte-same a b 4096 q k (omega arith)) ∙ h k s t
-
--- a row further down ends later
-end-next : (k : ℕ) → rowsEnd k ≤ rowsEnd (suc k)
-end-next zero = omega arith
-end-next (suc zero) = omega arith
-end-next (suc (suc zero)) = omega arith
-end-next (suc (suc (suc zero))) = omega arith
-end-next (suc (suc (suc (suc zero)))) = omega arith
-end-next (suc (suc (suc (suc (suc zero))))) = omega arith
-end-next (suc (suc (suc (suc (suc (suc zero)))))) = omega arith
-end-next (suc (suc (suc (suc (suc (suc (suc k))))))) = omega arith
-
-ends : (j more : ℕ) → rowsEnd j ≤ rowsEnd (j + more)
-ends j zero = rw add-zero (omega arith)
-ends j (suc more) = rw add-suc (omega (arith, ends j more, end-next (j + more)))
-
-pub whatever-follows : WhateverFollows
-whatever-follows k l p a b q = go (told (readDown k l p a)) (told (readDown k l p b))
-  where
-    onto : (x y : List ℕ) → take (rowsEnd k) x ≡ take (rowsEnd k) y → readDown k l p x ≡ true → readDown k l p y ≡ true
-    onto x y q e = passes-exactly k l p y .1 λ r h. stands-in r l p x y (fewer r h) (passes-exactly k l p x .0 e r h)
-      where
-        fewer : (r : Rule) → lastRow r ≤ k → take (rowsEnd (lastRow r)) x ≡ take (rowsEnd (lastRow r)) y
-        fewer r h =
-            let n = rowsEnd (lastRow r) in
-            let i : lastRow r + (k - lastRow r) ≡ k = omega arith in
-            let m : n ≤ rowsEnd k = rw i at (ends (lastRow r) (k - lastRow r)) in
-            sym (take-take n (rowsEnd k) x m) ∙ ap (take n) q ∙ take-take n (rowsEnd k) y m
-
-    go : Told (readDown k l p a) → Told (readDown k l p b) → readDown k l p a ≡ readDown k l p b
-    go (told-true s) t = s ∙ sym (onto a b q s)
-    go (told-false s) (told-true t) = clash (onto b a (sym q) t) s
-    go (told-false s) (told-false t) = s ∙ sym t

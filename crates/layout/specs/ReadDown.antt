@@ -1,5 +1,6 @@
--- A metadata page read down to a row of document 01's page table (document 02, N4): the rules of a single page in document 01's words, each
--- with its last row beside it, and what is proved of the reading for each row. Rows are counted from 1. Rules between pages are no part of it.
+-- A metadata page read down to a row of document 01's page table (document 02, N4): the rules of a single page in document 01's
+-- words, each with its last row beside it, and what is proved of the reading for each row. Rows are counted from 1. Rules between
+-- pages are no part of it.
 use Prim.Native.Nat.{ℕ, _+_, _-_, _*_, _≤_, _<_}
 use mathlib.Core.Path.{_≡_}
 use mathlib.Core.Logic.{_≢_, _↔_}
@@ -90,7 +91,8 @@ WhateverFollows =
 -- The row beside a rule is the last that it speaks of: the bytes down to there decide whether it is kept,
 abbrev pub StandsIn : Type 0
 StandsIn =
-    (r : Rule) (l : Label) (p : ℕ) (a b : List ℕ) → take (rowsEnd (lastRow r)) a ≡ take (rowsEnd (lastRow r)) b → Keeps r l p a → Keeps r l p b
+    (r : Rule) (l : Label) (p : ℕ) (a b : List ℕ) → take (rowsEnd (lastRow r)) a ≡ take (rowsEnd (lastRow r)) b → Keeps r l p a
+    → Keeps r l p b
 
 -- and those of the rows before it don't: of two pages that agree there, one keeps it and one breaks it
 pub record Undecided (r : Rule) : Type 0 where

@@ -7,7 +7,8 @@ use Rattle.metadata.proofs.judge.legal_field.Statement.{statement}
 use Rattle.metadata.proofs.judge.legal_field.Tie as tie
 
 -- the row that a match found
-at-row : (s : tie.Start) (row : ℕ) → s .args .row ≡ row → fieldTest row (s .args .l) (s .args .p) (s .args .page .now) ≡ fieldTest (s .args .row) (s .args .l) (s .args .p) (s .args .page .now)
+at-row : (s : tie.Start) (row : ℕ) → s .args .row ≡ row
+    → fieldTest row (s .args .l) (s .args .p) (s .args .page .now) ≡ fieldTest (s .args .row) (s .args .l) (s .args .p) (s .args .page .now)
 at-row s row e = rw e
 
 legal-count-requires : tie.Need-legal-count-requires

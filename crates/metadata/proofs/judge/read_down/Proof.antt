@@ -32,7 +32,8 @@ legal-field-requires : tie.Need-legal-field-requires Inv-loop μ-loop
 legal-field-requires c κs =
     let i = c .before .before .loop .inv in
     let s = c .before .before .before .before in
-    (search needs, (search needs, λ e. passes-exactly (c .before .before .loop .row) (s .args .l) (s .args .p) (s .args .page .now) .0 (i .2) lengthMost (omega arith)))
+    let kept = passes-exactly (c .before .before .loop .row) (s .args .l) (s .args .p) (s .args .page .now) .0 (i .2) in
+    (search needs, (search needs, λ e. kept lengthMost (omega arith)))
 
 returns-2 : tie.Need-returns-2 Inv-loop μ-loop
 returns-2 c =
@@ -55,7 +56,8 @@ loop-again c =
     let i = c .before .before .before .before .loop .inv in
     let f = sym (c .before .legal-field .ensures) ∙ not-false (c .before .legal-field .result) (c .if2 .left) in
     let s = c .before .before .before .before .before .before in
-    (omega arith, omega arith, read-next (s .args .l) (s .args .p) (s .args .page .now) (c .before .before .before .before .loop .row) ∙ and-of (i .2) f)
+    let n = read-next (s .args .l) (s .args .p) (s .args .page .now) (c .before .before .before .before .loop .row) in
+    (omega arith, omega arith, n ∙ and-of (i .2) f)
 
 returns-3 : tie.Need-returns-3 Inv-loop μ-loop
 returns-3 c =
