@@ -80,7 +80,7 @@ not-before stampZero = record {
     set-is-page (set legalPage 0 0) 4 0 (omega arith) (set-is-page legalPage 0 0 (omega arith) legal-is-page),
     set-is-page legalPage 0 0 (omega arith) legal-is-page,
   );
-  alike = take-set-le 4 (set legalPage 0 0) 4 0 (omega arith);
+  alike = take-set-le (rowsEnd (lastRow stampZero - 1)) (set legalPage 0 0) 4 0 (omega arith);
   kept = λ e. refl;
   broken = λ h. absurd (omega (arith, h refl));
 }

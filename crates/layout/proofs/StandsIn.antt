@@ -7,7 +7,7 @@ use lib.ListN.{getD, take, drop}
 use lib.Seq.{take-take, getD-take}
 use Rattle.pages.specs.Words.{leNumber}
 use Rattle.layout.specs.MetaPage.{stampOf, countOf, slotAt, entryPart}
-use Rattle.layout.specs.ReadDown.{StandsIn}
+use Rattle.layout.specs.ReadDown.{Rule, rowsEnd, lastRow, StandsIn}
 use Rattle.layout.specs.ReadDown.Rule.{lengthMost, stampZero, zero6, slotsBelow, slotsApart, zeroPast, zero268, flagsLegal, freeZero, beyondFree, blockBelow, entryZero, zero2432}
 
 part-of : (n m e : ℕ) (a : List ℕ) → n + m ≤ e → take m (drop n (take e a)) ≡ take m (drop n a)
@@ -40,22 +40,29 @@ module _ (a b : List ℕ) (e : ℕ) (q : take e a ≡ take e b) where
   unfolding entryPart
   entry-same h i s = part-same (512 + 8 * i) 8 (omega arith)
 
+-- where a rule's last row ends
+abbrev end : Rule → ℕ
+end r = rowsEnd (lastRow r)
+
 pub stands-in : StandsIn
-stands-in lengthMost l p a b q h = rw (sym (length-same a b 6 q (omega arith))) h
-stands-in stampZero l p a b q h = rw (sym (stamp-same a b 6 q (omega arith)), sym (length-same a b 6 q (omega arith))) h
-stands-in zero6 l p a b q h = λ k s t. sym (byte-same a b 16 q k (omega arith)) ∙ h k s t
+stands-in lengthMost l p a b q h = rw (sym (length-same a b (end lengthMost) q (omega arith))) h
+stands-in stampZero l p a b q h =
+    rw (sym (stamp-same a b (end stampZero) q (omega arith)), sym (length-same a b (end stampZero) q (omega arith))) h
+stands-in zero6 l p a b q h = λ k s t. sym (byte-same a b (end zero6) q k (omega arith)) ∙ h k s t
 stands-in slotsBelow l p a b q h =
-    λ k s t. rw (sym (slot-same a b 268 q (omega arith) k s)) (h k s (omega (arith, length-same a b 268 q (omega arith))))
+    λ k s t.
+    rw (sym (slot-same a b (end slotsBelow) q (omega arith) k s))
+    (h k s (omega (arith, length-same a b (end slotsBelow) q (omega arith))))
 stands-in slotsApart l p a b q h =
     λ k m s t u.
-    rw (sym (slot-same a b 268 q (omega arith) k (omega arith)), sym (slot-same a b 268 q (omega arith) m t))
-    (h k m s t (omega (arith, length-same a b 268 q (omega arith))))
+    rw (sym (slot-same a b (end slotsApart) q (omega arith) k (omega arith)), sym (slot-same a b (end slotsApart) q (omega arith) m t))
+    (h k m s t (omega (arith, length-same a b (end slotsApart) q (omega arith))))
 stands-in zeroPast l p a b q h =
-    λ k s t. sym (byte-same a b 268 q k (omega arith)) ∙ h k (omega (arith, length-same a b 268 q (omega arith))) t
-stands-in zero268 l p a b q h = λ k s t. sym (byte-same a b 512 q k (omega arith)) ∙ h k s t
-stands-in flagsLegal l p a b q h = λ i s. rw (sym (entry-same a b 2432 q (omega arith) i s)) (h i s)
-stands-in freeZero l p a b q h = λ i s. rw (sym (entry-same a b 2432 q (omega arith) i s)) (h i s)
-stands-in beyondFree l p a b q h = λ i s. rw (sym (entry-same a b 2432 q (omega arith) i s)) (h i s)
-stands-in blockBelow l p a b q h = λ i s. rw (sym (entry-same a b 2432 q (omega arith) i s)) (h i s)
-stands-in entryZero l p a b q h = λ i s. rw (sym (entry-same a b 2432 q (omega arith) i s)) (h i s)
-stands-in zero2432 l p a b q h = λ k s t. sym (byte-same a b 4096 q k (omega arith)) ∙ h k s t
+    λ k s t. sym (byte-same a b (end zeroPast) q k (omega arith)) ∙ h k (omega (arith, length-same a b (end zeroPast) q (omega arith))) t
+stands-in zero268 l p a b q h = λ k s t. sym (byte-same a b (end zero268) q k (omega arith)) ∙ h k s t
+stands-in flagsLegal l p a b q h = λ i s. rw (sym (entry-same a b (end flagsLegal) q (omega arith) i s)) (h i s)
+stands-in freeZero l p a b q h = λ i s. rw (sym (entry-same a b (end freeZero) q (omega arith) i s)) (h i s)
+stands-in beyondFree l p a b q h = λ i s. rw (sym (entry-same a b (end beyondFree) q (omega arith) i s)) (h i s)
+stands-in blockBelow l p a b q h = λ i s. rw (sym (entry-same a b (end blockBelow) q (omega arith) i s)) (h i s)
+stands-in entryZero l p a b q h = λ i s. rw (sym (entry-same a b (end entryZero) q (omega arith) i s)) (h i s)
+stands-in zero2432 l p a b q h = λ k s t. sym (byte-same a b (end zero2432) q k (omega arith)) ∙ h k s t

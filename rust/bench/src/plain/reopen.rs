@@ -42,7 +42,7 @@ fn entries(page: &[u8]) -> impl Iterator<Item = (u32, u8, bool)> + '_ {
         .map(|e| (word(&e[0..4]), e[4], zero(&e[5..8])))
 }
 
-/// The rule of a single metadata page.
+/// The rule of a single metadata page, its fields in the order of the page table.
 fn page_ok(page: &[u8], p: u32, slots: u32, blocks: u32) -> bool {
     let count = page[4] as usize + 256 * page[5] as usize;
     if count > 63 || (word(&page[0..4]) == 0 && count != 0) || !zero(&page[6..16]) {
@@ -52,16 +52,17 @@ fn page_ok(page: &[u8], p: u32, slots: u32, blocks: u32) -> bool {
     if !(0..count).all(|k| slot(k) < slots && (k + 1..count).all(|m| slot(k) != slot(m))) {
         return false;
     }
-    if !zero(&page[16 + 4 * count..512]) || !zero(&page[2432..]) {
+    if !zero(&page[16 + 4 * count..512]) {
         return false;
     }
-    entries(page).enumerate().all(|(i, (block, flags, rest))| {
-        let legal = match flags {
+    let legal = |(i, (block, flags, rest)): (usize, (u32, u8, bool))| {
+        let pair = match flags {
             0 => block == 0,
             _ => flags <= 7 && flags % 2 == 1 && block < blocks,
         };
-        legal && rest && (240 * p + (i as u32) < slots || flags == 0)
-    })
+        pair && rest && (240 * p + (i as u32) < slots || flags == 0)
+    };
+    entries(page).enumerate().all(legal) && zero(&page[2432..])
 }
 
 /// Whether no block is in two valid entries: a bit for each block, over ranges of 524,288 blocks, page by page.
