@@ -1,6 +1,5 @@
 -- A metadata page read down to a row of document 01's page table (document 02, N4): the rules of a single page in document 01's
--- words, each with its last row beside it, and what is proved of the reading for each row. Rows are counted from 1. Rules between
--- pages are no part of it.
+-- words, each with its last row beside it, and what is proved of the reading for each row. Rows are counted from 1.
 use Prim.Native.Nat.{ℕ, _+_, _-_, _*_, _≤_, _<_}
 use mathlib.Core.Path.{_≡_}
 use mathlib.Core.Logic.{_≢_, _↔_}
@@ -17,54 +16,57 @@ use Rattle.layout.specs.PageRule.{ZeroRule, LegalFlags, PageRule, readDo
 abbrev pub rowsEnd : ℕ → ℕ
 rowsEnd k = getD (0 ∷ 4 ∷ 6 ∷ 16 ∷ 268 ∷ 512 ∷ 2432 ∷ []) k 4096
 
--- "a rule of a single page"
+-- "a rule of a single page": rules between pages are no part of it
 pub data Rule : Type 0 where
   lengthMost stampZero zero6 slotsBelow slotsApart zeroPast zero268 : Rule
   flagsLegal freeZero beyondFree blockBelow entryZero zero2432 : Rule
 
--- the last row in which a field of the rule stands
-abbrev pub lastRow : Rule → ℕ
-lastRow lengthMost = 2
-lastRow stampZero = 2
-lastRow zero6 = 3
-lastRow slotsBelow = 4
-lastRow slotsApart = 4
-lastRow zeroPast = 4
-lastRow zero268 = 5
-lastRow flagsLegal = 6
-lastRow freeZero = 6
-lastRow beyondFree = 6
-lastRow blockBelow = 6
-lastRow entryZero = 6
-lastRow zero2432 = 7
+-- each with the last row in which a field of it stands; the window has 63 places, page p the entries of slots 240p to 240p+239
+pub record Stated : Type 1 where
+  pub row : ℕ
+  pub keeps : Label → ℕ → List ℕ → Type 0
 
--- the rule itself; the window has 63 places, page p the entries of slots 240p to 240p+239
-abbrev pub Keeps : Rule → Label → ℕ → List ℕ → Type 0
+abbrev pub stated : Rule → Stated
 -- "window length, 0 to 63"
-Keeps lengthMost l p page = countOf page ≤ 63
+stated lengthMost = record { row = 2; keeps = λ l p page. countOf page ≤ 63 }
 -- "Stamp 0 goes with an empty window"
-Keeps stampZero l p page = stampOf page ≡ 0 → countOf page ≡ 0
+stated stampZero = record { row = 2; keeps = λ l p page. stampOf page ≡ 0 → countOf page ≡ 0 }
 -- "6..15: zero"
-Keeps zero6 l p page = ZeroRule 6 16 page
+stated zero6 = record { row = 3; keeps = λ l p page. ZeroRule 6 16 page }
 -- "Window slots are in range and distinct"
-Keeps slotsBelow l p page = (k : ℕ) → k < 63 → k < countOf page → slotAt page k .0 < l .slots
-Keeps slotsApart l p page = (k m : ℕ) → k < m → m < 63 → m < countOf page → slotAt page k .0 ≢ slotAt page m .0
+stated slotsBelow = record { row = 4; keeps = λ l p page. (k : ℕ) → k < 63 → k < countOf page → slotAt page k .0 < l .slots }
+stated slotsApart = record {
+  row = 4;
+  keeps = λ l p page. (k m : ℕ) → k < m → m < 63 → m < countOf page → slotAt page k .0 ≢ slotAt page m .0;
+}
 -- "zero past the length"
-Keeps zeroPast l p page = ZeroRule (16 + 4 * countOf page) 268 page
+stated zeroPast = record { row = 4; keeps = λ l p page. ZeroRule (16 + 4 * countOf page) 268 page }
 -- "268..511: zero"
-Keeps zero268 l p page = ZeroRule 268 512 page
+stated zero268 = record { row = 5; keeps = λ l p page. ZeroRule 268 512 page }
 -- "legal sums 0, 1, 3, 5, 7"
-Keeps flagsLegal l p page = (i : ℕ) → i < 240 → LegalFlags (entryAt page i .flags)
--- "An entry with flags 0 is all zero": its block; its last three bytes are always
-Keeps freeZero l p page = (i : ℕ) → i < 240 → entryAt page i .flags ≡ 0 → entryAt page i .block .0 ≡ 0
+stated flagsLegal = record { row = 6; keeps = λ l p page. (i : ℕ) → i < 240 → LegalFlags (entryAt page i .flags) }
+-- "An entry with flags 0 is all zero": its block; its last three bytes are zero in any entry, by `entryZero`
+stated freeZero = record { row = 6; keeps = λ l p page. (i : ℕ) → i < 240 → entryAt page i .flags ≡ 0 → entryAt page i .block .0 ≡ 0 }
 -- "as are entries beyond the last slot": their flags are 0
-Keeps beyondFree l p page = (i : ℕ) → i < 240 → l .slots ≤ slotOn p i .0 → entryAt page i .flags ≡ 0
+stated beyondFree = record { row = 6; keeps = λ l p page. (i : ℕ) → i < 240 → l .slots ≤ slotOn p i .0 → entryAt page i .flags ≡ 0 }
 -- "A valid entry's block is below `blocks`"
-Keeps blockBelow l p page = (i : ℕ) → i < 240 → entryAt page i .flags ≢ 0 → entryAt page i .block .0 < l .blocks
+stated blockBelow = record {
+  row = 6;
+  keeps = λ l p page. (i : ℕ) → i < 240 → entryAt page i .flags ≢ 0 → entryAt page i .block .0 < l .blocks;
+}
 -- "block (4), flags (1), zero (3)"
-Keeps entryZero l p page = (i : ℕ) → i < 240 → (k : ℕ) → 5 ≤ k → k < 8 → getD (entryPart page i) k 0 ≡ 0
+stated entryZero = record {
+  row = 6;
+  keeps = λ l p page. (i : ℕ) → i < 240 → (k : ℕ) → 5 ≤ k → k < 8 → getD (entryPart page i) k 0 ≡ 0;
+}
 -- "2432..4095: zero"
-Keeps zero2432 l p page = ZeroRule 2432 4096 page
+stated zero2432 = record { row = 7; keeps = λ l p page. ZeroRule 2432 4096 page }
+
+abbrev pub lastRow : Rule → ℕ
+lastRow r = stated r .row
+
+abbrev pub Keeps : Rule → Label → ℕ → List ℕ → Type 0
+Keeps r = stated r .keeps
 
 -- "To be proved of it, for each row: read down to there, a page is refused exactly if it breaks a rule of a single page whose fields all
 -- stand in the rows read so far, whatever follows."
