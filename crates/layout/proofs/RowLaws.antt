@@ -1,7 +1,6 @@
 -- A page read down, row by row.
-use Prim.Native.Nat.{ℕ, zero, suc, _+_, _≤_}
+use Prim.Native.Nat.{ℕ, zero, suc, _+_, _-_, _≤_}
 use mathlib.Core.Path.{_≡_, refl, sym, ap, _∙_}
-use mathlib.Core.Logic.{_≢_}
 use mathlib.Core.Bool.{Bool, true, false, _&&_}
 use mathlib.Core.List.{List, _∷_, []}
 use native.Mathlib.Decide.{decLe}
@@ -33,11 +32,14 @@ module _ (l : Label) (p : ℕ) (page : List ℕ) where
   read-next row = rw add-one (passes-next rowTests row)
 
   -- refused, it stays refused
-  pub read-refused : (row more : ℕ) → readDown row l p page ≡ false → readDown (row + more) l p page ≡ false
+  read-refused : (row more : ℕ) → readDown row l p page ≡ false → readDown (row + more) l p page ≡ false
   read-refused row zero e = rw add-zero e
   read-refused row (suc more) e =
       let n : row + suc more ≡ row + more + 1 = omega arith in
       rw n (read-next (row + more) ∙ halt _ (read-refused row more e))
+
+  pub read-more : (k rows : ℕ) → k ≤ rows → readDown k l p page ≡ false → readDown rows l p page ≡ false
+  read-more k rows h e = let n : k + (rows - k) ≡ rows = omega arith in rw n at (read-refused k (rows - k) e)
 
   -- there are seven rows
   pub read-all : (rows : ℕ) → 7 ≤ rows → readDown rows l p page ≡ readDown 7 l p page
@@ -61,14 +63,6 @@ module _ (l : Label) (p : ℕ) (page : List ℕ) where
   read-of zero h = refl
   read-of (suc k) h = passes-next rowTests k ∙ and-of (read-of k (λ row q. h row (omega arith))) (h (suc k) (omega arith))
 
-  -- a row that has no test
-  pub no-field : (row : ℕ) → row ≢ 2 → row ≢ 3 → row ≢ 4 → row ≢ 5 → row ≢ 6 → row ≢ 7 → fieldTest row l p page ≡ true
-  no-field zero a b c d e f = refl
-  no-field (suc zero) a b c d e f = refl
-  no-field (suc (suc zero)) a b c d e f = absurd (a refl)
-  no-field (suc (suc (suc zero))) a b c d e f = absurd (b refl)
-  no-field (suc (suc (suc (suc zero)))) a b c d e f = absurd (c refl)
-  no-field (suc (suc (suc (suc (suc zero))))) a b c d e f = absurd (d refl)
-  no-field (suc (suc (suc (suc (suc (suc zero)))))) a b c d e f = absurd (e refl)
-  no-field (suc (suc (suc (suc (suc (suc (suc zero))))))) a b c d e f = absurd (f refl)
-  no-field (suc (suc (suc (suc (suc (suc (suc (suc row)))))))) a b c d e f = refl
+  -- passed, it passes down to each row before
+  pub read-less : (k rows : ℕ) → rows ≤ k → readDown k l p page ≡ true → readDown rows l p page ≡ true
+  read-less k rows h e = read-of rows (λ row q. fields-of k e row (omega arith))

@@ -11,7 +11,7 @@ ghost use lib.ListN.{length, drop};
 ghost use Rattle.layout.specs.Places.{slotOn};
 ghost use Rattle.layout.specs.Window.{windowMost};
 ghost use Rattle.layout.specs.MetaPage.{countOf, windowOf, entryPart};
-ghost use Rattle.layout.specs.PageRule.{countTest, listed, distinct, inRange, windowTest, pairTest, entryTest, entriesTest, fieldTest, readDown, pageTest};
+ghost use Rattle.layout.specs.PageRule.{countTest, listed, distinct, inRange, windowTest, pairTest, entryTest, entriesTest, readDown, pageTest};
 
 // 4..5: the window's length, and that stamp 0 goes with an empty window.
 fn legal_count(page: &[u8]) -> bool
@@ -135,41 +135,47 @@ fn legal_entries(l: Label, p: u32, page: &[u8]) -> bool
     true
 }
 
-// The field of one row of the page table, the rows counted from 1. The stamp alone has no rule.
-fn legal_field(l: Label, p: u32, page: &[u8], row: u32) -> bool
-    requires { ⌜ length (now page) ≡ 4096 ⌝ }
-    requires { ⌜ p < 2 ^ 16 ⌝ }
-    requires { ⌜ (row ≡ 4 → countOf (now page) ≤ windowMost) ⌝ }
-    ensures { λ r. ⌜ r ≡ fieldTest row l p (now (page .entry)) ⌝ }
-{
-    match row {
-        2 => legal_count(page),
-        3 => zeros::all_zero(page, 6, 16),
-        4 => legal_window(l, page),
-        5 => zeros::all_zero(page, 268, 512),
-        6 => legal_entries(l, p, page),
-        7 => zeros::all_zero(page, 2432, 4096),
-        _ => true,
-    }
-}
-
-// Reads metadata page p down to a row of the page table, field by field in its order: whether it passes so far.
+// Reads metadata page p down to a row of the page table, field by field in its order: whether it passes so far. (The stamp alone, row 1,
+// has no rule.)
 pub fn read_down(l: Label, p: u32, page: &[u8], rows: u32) -> bool
     requires { ⌜ length (now page) ≡ 4096 ⌝ }
     requires { ⌜ p < 2 ^ 16 ⌝ }
     ensures { λ r. ⌜ r ≡ readDown rows l p (now (page .entry)) ⌝ }
 {
-    let mut row: u32 = 0;
-    while row < 7 {
-        if row == rows {
-            return true;
-        }
-        if !legal_field(l, p, page, row + 1) {
-            return false;
-        }
-        row += 1;
+    if rows < 2 {
+        return true;
     }
-    true
+    if !legal_count(page) {
+        return false;
+    }
+    if rows < 3 {
+        return true;
+    }
+    if !zeros::all_zero(page, 6, 16) {
+        return false;
+    }
+    if rows < 4 {
+        return true;
+    }
+    if !legal_window(l, page) {
+        return false;
+    }
+    if rows < 5 {
+        return true;
+    }
+    if !zeros::all_zero(page, 268, 512) {
+        return false;
+    }
+    if rows < 6 {
+        return true;
+    }
+    if !legal_entries(l, p, page) {
+        return false;
+    }
+    if rows < 7 {
+        return true;
+    }
+    zeros::all_zero(page, 2432, 4096)
 }
 
 // Whether a page keeps the rule of metadata page p: all seven rows.
