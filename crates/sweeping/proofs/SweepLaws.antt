@@ -23,7 +23,7 @@ use Rattle.protocol.proofs.refine.Sweeps.{Alike, alike-flags, next-low}
 use Rattle.sweeping.specs.declared.Swept.{Swept}
 use Rattle.sweeping.specs.declared.Swept.the-variants.{Took, Stuck}
 use Rattle.table.specs.Scan.{lowestOf}
-use Rattle.sweeping.specs.Sweeps.{closed, unused, lapEnd, lapFrom, sweptOf, passed, clearedFrom, victimOf}
+use Rattle.sweeping.specs.Sweeps.{slotPast, closed, unused, lapEnd, lapFrom, sweptOf, passed, clearedFrom, victimOf}
 
 -- the next slot, as code has it
 pub next-in : (l : Label) (s : Slot) → s .0 + 1 < l .slots → record { 0 = s .0 + 1 } ≡ nextSlot l s
@@ -32,6 +32,49 @@ next-in l s h = let e : ltb (suc (s .0)) (l .slots) ≡ true = lt-ltb (suc (s .0
 
 pub next-wraps : (l : Label) (s : Slot) → l .slots ≤ s .0 + 1 → record { 0 = 0 } ≡ nextSlot l s
 next-wraps l s h = let e : ltb (suc (s .0)) (l .slots) ≡ false = le-ltb (suc (s .0)) (l .slots) (omega arith) in rw (nextSlot, e) refl
+
+-- the slot k past s, as code has it: as many steps on
+pub past-in : (l : Label) (s : Slot) (k : ℕ) → s .0 + k < l .slots → slotPast k l s ≡ record { 0 = s .0 + k }
+past-in l s k h = let e : ltb (s .0 + k) (l .slots) ≡ true = lt-ltb _ _ h in rw e
+
+pub past-over : (l : Label) (s : Slot) (k : ℕ) → l .slots ≤ s .0 + k → slotPast k l s ≡ record { 0 = s .0 + k - l .slots }
+past-over l s k h = let e : ltb (s .0 + k) (l .slots) ≡ false = le-ltb _ _ h in rw e
+
+pub past-none : (l : Label) (s : Slot) → s .0 < l .slots → slotPast 0 l s ≡ s
+past-none l s h = let n : s .0 + 0 ≡ s .0 = omega arith in past-in l s 0 (omega arith) ∙ ap (λ (m : ℕ). record { 0 = m }) n
+
+pub past-next : (l : Label) (s : Slot) (k : ℕ) → s .0 < l .slots → k < l .slots → nextSlot l (slotPast k l s) ≡ slotPast (k + 1) l s
+past-next l s k h q = go (told (ltb (s .0 + k) (l .slots))) (told (ltb (s .0 + (k + 1)) (l .slots)))
+  where
+    at : (n m : ℕ) → n ≡ m → _≡_ {A = Slot} (record { 0 = n }) (record { 0 = m })
+    at n m e = ap (λ (i : ℕ). record { 0 = i }) e
+
+    go : Told (ltb (s .0 + k) (l .slots)) → Told (ltb (s .0 + (k + 1)) (l .slots)) → nextSlot l (slotPast k l s) ≡ slotPast (k + 1) l s
+    go (told-true e) (told-true f) =
+        let a : s .0 + k < l .slots = ltb-true _ _ e in
+        let b : s .0 + (k + 1) < l .slots = ltb-true _ _ f in
+        ap (nextSlot l) (past-in l s k a)
+        ∙ sym (next-in l (record { 0 = s .0 + k }) (omega arith))
+        ∙ at (s .0 + k + 1) _ (omega arith)
+        ∙ sym (past-in l s (k + 1) b)
+    go (told-true e) (told-false f) =
+        let a : s .0 + k < l .slots = ltb-true _ _ e in
+        let b : l .slots ≤ s .0 + (k + 1) = ltb-false _ _ f in
+        ap (nextSlot l) (past-in l s k a)
+        ∙ sym (next-wraps l (record { 0 = s .0 + k }) (omega arith))
+        ∙ at 0 _ (omega arith)
+        ∙ sym (past-over l s (k + 1) b)
+    go (told-false e) (told-true f) =
+        let a : l .slots ≤ s .0 + k = ltb-false _ _ e in
+        let b : s .0 + (k + 1) < l .slots = ltb-true _ _ f in
+        absurd (omega arith)
+    go (told-false e) (told-false f) =
+        let a : l .slots ≤ s .0 + k = ltb-false _ _ e in
+        let b : l .slots ≤ s .0 + (k + 1) = ltb-false _ _ f in
+        ap (nextSlot l) (past-over l s k a)
+        ∙ sym (next-in l (record { 0 = s .0 + k - l .slots }) (omega arith))
+        ∙ at (s .0 + k - l .slots + 1) _ (omega arith)
+        ∙ sym (past-over l s (k + 1) b)
 
 -- the slot k places on
 unfoldable pub nth : Label → ℕ → Slot → Slot

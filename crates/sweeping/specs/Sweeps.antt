@@ -1,5 +1,5 @@
 -- The sweep: the slot that it takes, found with nothing changed, and the used flags that it clears on its way.
-use Prim.Native.Nat.{ℕ, zero, suc, _-_}
+use Prim.Native.Nat.{ℕ, zero, suc, _+_, _-_}
 use mathlib.Core.Bool.{Bool, true, false, not, _&&_, cond}
 use mathlib.Core.List.{List}
 use mathlib.Core.Option.{Option, some, none}
@@ -18,6 +18,10 @@ closed flags = not (writing flags)
 
 abbrev pub unused : ℕ → Bool
 unused flags = closed flags && not (used flags)
+
+-- the slot k past s, wrapping once
+abbrev pub slotPast : ℕ → Label → Slot → Slot
+slotPast k l s = cond (ltb (s .0 + k) (l .slots)) (record { 0 = s .0 + k }) (record { 0 = s .0 + k - l .slots })
 
 -- what a round ends in that met no unused slot: the first closed one, if any, after all slots were passed
 abbrev pub lapEnd : ℕ → ℕ → Swept

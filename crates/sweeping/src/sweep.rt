@@ -9,7 +9,7 @@ ghost use Prim.Native.Nat.{ℕ, _+_, _*_, _≤_, _<_};
 ghost use lib.ListN.{length};
 ghost use Rattle.layout.specs.Places.{tableLength};
 ghost use Rattle.protocol.specs.Sweep.{nextSlot};
-ghost use Rattle.sweeping.specs.Sweeps.{closed, unused, lapEnd, sweptOf, passed, clearedFrom};
+ghost use Rattle.sweeping.specs.Sweeps.{slotPast, closed, unused, lapEnd, sweptOf, passed, clearedFrom};
 
 // The slot one past s, wrapping.
 pub fn next_slot(l: Label, s: Slot) -> Slot
@@ -21,6 +21,18 @@ pub fn next_slot(l: Label, s: Slot) -> Slot
         return Slot(n);
     }
     Slot(0)
+}
+
+// The slot k past s, wrapping.
+fn slot_past(l: Label, s: Slot, k: u32) -> Slot
+    requires { ⌜ (s .0 < l .slots) × (k < l .slots) ⌝ }
+    ensures { λ r. ⌜ (r ≡ slotPast k l s) × (r .0 < l .slots) ⌝ }
+{
+    let left = l.slots - s.0;
+    if k < left {
+        return Slot(s.0 + k);
+    }
+    Slot(k - left)
 }
 
 // Whether a row is not open.
@@ -50,22 +62,21 @@ fn lap_end(slots: u32, first: u32) -> Swept
     Swept::Stuck
 }
 
-// The slot that a sweep from the hand takes.
+// The slot that a sweep from the hand takes. Each slot is worked out from the hand, so that none waits for the one before.
 pub fn sweep(l: Label, table: &[u32], hand: Slot) -> Swept
     requires { ⌜ (length (now table) ≡ tableLength l) × (hand .0 < l .slots) ⌝ }
     ensures { λ r. ⌜ r ≡ sweptOf l (now (table .entry)) hand ⌝ }
 {
     let slots = l.slots;
-    let mut s = hand;
     let mut first: u32 = slots;
     let mut k: u32 = 0;
     while k < slots {
+        let s = slot_past(l, hand, k);
         let flags = table[2 * (s.0 as usize) + 1];
         if is_unused(flags) {
             return Swept::Took(s, k);
         }
         first = lowest(first, slots, s.0, is_closed(flags));
-        s = next_slot(l, s);
         k += 1;
     }
     lap_end(slots, first)

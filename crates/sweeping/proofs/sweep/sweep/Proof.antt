@@ -1,28 +1,34 @@
-use Prim.Native.Nat.{ℕ, _-_, _≤_, _<_}
-use mathlib.Core.Path.{_≡_, refl, sym, _∙_}
+use Prim.Native.Nat.{ℕ, _+_, _-_, _≤_, _<_}
+use mathlib.Core.Path.{_≡_, refl, sym, ap, _∙_}
 use mathlib.Core.Bool.{true, false}
-use lib.ListN.{length}
 use native.Mathlib.Omega.{arith}
 use borrow.Author.Needs.{needs}
-use Rattle.layout.specs.Places.{tableLength}
-use Rattle.sweeping.specs.Sweeps.{lapFrom}
-use Rattle.sweeping.proofs.SweepLaws.{lap-begun, lap-on, lap-took, lap-done}
+use Rattle.layout.specs.declared.Slot.{Slot}
+use Rattle.protocol.specs.Sweep.{nextSlot}
+use Rattle.sweeping.specs.Sweeps.{lapFrom, slotPast}
+use Rattle.sweeping.proofs.SweepLaws.{past-none, past-next, lap-begun, lap-on, lap-took, lap-done}
 use Rattle.sweeping.proofs.sweep.sweep.Statement.{statement}
 use Rattle.sweeping.proofs.sweep.sweep.Tie as tie
 
 abbrev Inv-loop : tie.InvT-loop
-Inv-loop l table slots s₀ first₀ k₀ s first k =
-    (slots ≡ l .slots) × (length table ≡ tableLength l) × (s .0 < slots) × (k ≤ slots)
-    × (lapFrom (slots - k) k l table s first ≡ lapFrom slots 0 l table s₀ slots)
+Inv-loop l table hand slots first₀ k₀ first k =
+    (slots ≡ l .slots) × (k ≤ slots) × (lapFrom (slots - k) k l table (slotPast k l hand) first ≡ lapFrom slots 0 l table hand slots)
 
 abbrev μ-loop : tie.MeasureT-loop
-μ-loop l table slots s₀ first₀ k₀ s first k = slots - k
+μ-loop l table hand slots first₀ k₀ first k = slots - k
 
 loop-holds : tie.Need-loop-holds Inv-loop μ-loop
 loop-holds c =
-    let p = c .before .pre in
     let a = c .before .args in
-    (refl, p .0, p .1, omega arith, lap-begun (a .l .slots) (a .l) (a .table .now) (a .hand))
+    let n = a .l .slots in (
+      refl,
+      omega arith,
+      ap (λ (s : Slot). lapFrom (n - 0) 0 (a .l) (a .table .now) s n) (past-none (a .l) (a .hand) (c .before .pre .1))
+          ∙ lap-begun n (a .l) (a .table .now) (a .hand),
+    )
+
+slot-past-requires : tie.Need-slot-past-requires Inv-loop μ-loop
+slot-past-requires c κs = (c .before .before .before .pre .1, c .loop-test .taken)
 
 cast-flags : tie.Need-cast-flags Inv-loop μ-loop
 cast-flags c = search needs
@@ -37,27 +43,28 @@ mul-flags-2 : tie.Need-mul-flags-2 Inv-loop μ-loop
 mul-flags-2 c = search needs
 
 shared-slice-read-flags : tie.Need-shared-slice-read-flags Inv-loop μ-loop
-shared-slice-read-flags c = let i = c .before .before .before .loop .inv in omega (arith, i .0, i .1, i .2)
+shared-slice-read-flags c =
+    let p = c .before .before .before .before .before .before .pre in
+    omega (arith, p .0, c .before .before .slot-past .ensures .1)
 
 is-unused-requires : tie.Need-is-unused-requires Inv-loop μ-loop
 is-unused-requires c κs = search needs
 
 returns : tie.Need-returns Inv-loop μ-loop
 returns c =
-    let l = c .before .before .before .before .before .loop in
-    let a = c .before .before .before .before .before .before .before .args in
+    let b = c .before .before .before .before in
+    let l = b .before .before .loop in
+    let a = b .before .before .before .before .args in
+    let p = b .slot-past .ensures .0 in
     let e = sym (c .before .is-unused .ensures) ∙ c .if1 .taken in
-    sym (lap-took (a .l .slots) (l .k) (a .l) (a .table .now) (l .s) (l .first) (c .before .before .before .before .loop-test .taken) e)
-    ∙ l .inv .4
+    let t = lap-took (a .l .slots) (l .k) (a .l) (a .table .now) (b .slot-past .result) (l .first) (b .before .loop-test .taken) e in
+    sym t ∙ ap (λ (s : Slot). lapFrom (a .l .slots - l .k) (l .k) (a .l) (a .table .now) s (l .first)) p ∙ l .inv .2
 
 is-closed-requires : tie.Need-is-closed-requires Inv-loop μ-loop
 is-closed-requires c κs = search needs
 
 lowest-requires : tie.Need-lowest-requires Inv-loop μ-loop
 lowest-requires c κs = search needs
-
-next-slot-requires : tie.Need-next-slot-requires Inv-loop μ-loop
-next-slot-requires c κs = search needs
 
 add-k : tie.Need-add-k Inv-loop μ-loop
 add-k c = search needs
@@ -67,18 +74,20 @@ loop-less c = search needs
 
 loop-again : tie.Need-loop-again Inv-loop μ-loop
 loop-again c =
-    let i = c .before .before .before in
-    let l = i .before .before .before .before .before .loop in
-    let a = i .before .before .before .before .before .before .before .args in
-    let t = i .before .before .before .before .loop-test .taken in
+    let i = c .before .before in
+    let b = i .before .before .before .before in
+    let l = b .before .before .loop in
+    let a = b .before .before .before .before .args in
+    let p = b .slot-past .ensures .0 in
+    let t = b .before .loop-test .taken in
     let e = sym (i .before .is-unused .ensures) ∙ i .if1 .left in
-    let n = c .next-slot .ensures in (
+    let n : slotPast (l .k + 1) (a .l) (a .hand) ≡ nextSlot (a .l) (b .slot-past .result) =
+    sym (past-next (a .l) (a .hand) (l .k) (b .before .before .before .before .pre .1) t) ∙ ap (nextSlot (a .l)) (sym p) in
+    let o = lap-on (a .l .slots) (l .k) (a .l) (a .table .now) (b .slot-past .result) (l .first) t e in (
       refl,
-      l .inv .1,
-      n .1,
       omega (arith, t),
-      rw (n .0, c .before .lowest .ensures, c .before .before .is-closed .ensures)
-          (sym (lap-on (a .l .slots) (l .k) (a .l) (a .table .now) (l .s) (l .first) t e) ∙ l .inv .4),
+      rw (n, c .lowest .ensures, c .before .is-closed .ensures)
+          (sym o ∙ ap (λ (s : Slot). lapFrom (a .l .slots - l .k) (l .k) (a .l) (a .table .now) s (l .first)) p ∙ l .inv .2),
     )
 
 lap-end-requires : tie.Need-lap-end-requires Inv-loop μ-loop
@@ -89,8 +98,8 @@ returns-2 c =
     let l = c .before .before .loop in
     let a = c .before .before .before .before .args in
     c .lap-end .ensures
-    ∙ sym (lap-done (a .l .slots) (l .k) (a .l) (a .table .now) (l .s) (l .first) (c .before .loop-test .left))
-    ∙ l .inv .4
+    ∙ sym (lap-done (a .l .slots) (l .k) (a .l) (a .table .now) (slotPast (l .k) (a .l) (a .hand)) (l .first) (c .before .loop-test .left))
+    ∙ l .inv .2
 
 pub sweep-spec : {M : Type 1} → statement M
 sweep-spec =
@@ -99,6 +108,7 @@ sweep-spec =
     Inv-loop
     μ-loop
     loop-holds
+    slot-past-requires
     cast-flags
     mul-flags
     add-flags
@@ -108,7 +118,6 @@ sweep-spec =
     returns
     is-closed-requires
     lowest-requires
-    next-slot-requires
     add-k
     loop-less
     loop-again
