@@ -70,7 +70,7 @@ start10 c = start8 (c .before .before .before)
 
 passed10 : (c : tie.Else10) → Read (start10 c) 6 ≡ true
 passed10 c =
-    let f = not-false (Field (start10 c) 6) (cc (c .if10 .left)) in
+    let f = sym (c .before .legal-entries .ensures) ∙ not-false _ (c .if10 .left) in
     next (start10 c) 5 (passed8 (c .before .before .before)) f
 
 returns : tie.Need-returns
@@ -115,7 +115,7 @@ all-zero-requires-2 c κs = search needs
 returns-8 : tie.Need-returns-8
 returns-8 c =
     let b = c .before .before .before in
-    let f = not-true (Field (start6 b) 5) (cc (c .if8 .taken)) in
+    let f = sym (c .before .all-zero2 .ensures) ∙ not-true _ (c .if8 .taken) in
     refuses (start6 b) 4 (passed6 b) f (omega arith)
 
 returns-9 : tie.Need-returns-9
@@ -127,7 +127,7 @@ legal-entries-requires c κs = search needs
 returns-10 : tie.Need-returns-10
 returns-10 c =
     let b = c .before .before .before in
-    let f = not-true (Field (start8 b) 6) (cc (c .if10 .taken)) in
+    let f = sym (c .before .legal-entries .ensures) ∙ not-true _ (c .if10 .taken) in
     refuses (start8 b) 5 (passed8 b) f (omega arith)
 
 returns-11 : tie.Need-returns-11
