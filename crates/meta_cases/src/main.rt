@@ -4,7 +4,6 @@ use layout::Slot;
 use layout::WINDOW;
 use layout::Window;
 use layout::places;
-use metadata::judge;
 use metadata::page;
 ghost use Prim.Native.Nat.{_≤_, _<_, _^_};
 
@@ -13,7 +12,7 @@ fn judged(name: &[u8], slots: u32, p: u32, page: [u8; 4096])
     requires { ⌜ p < 2 ^ 16 ⌝ }
 {
     io::write_all(1, name);
-    if judge::legal_page(places::label(slots, 8), p, &page) {
+    if page_rule::legal_page(places::label(slots, 8), p, &page) {
         io::write_all(1, b": legal\n");
     } else {
         io::write_all(1, b": refused\n");
@@ -152,7 +151,7 @@ fn second_page_cases() {
 
 // Reads page 0 of 4 slots down to a row of the page table.
 fn read_row(page: [u8; 4096], rows: u32) {
-    if judge::read_down(places::label(4, 8), 0, &page, rows) {
+    if page_rule::read_down(places::label(4, 8), 0, &page, rows) {
         io::write_all(1, b" passes");
     } else {
         io::write_all(1, b" refused");

@@ -1,3 +1,2 @@
-// Metadata pages: written, read and judged. What a page is, is said by the definitions of crate layout.
-pub mod judge;
+// Metadata pages: written and read. What a page is, is said by the definitions of crate layout.
 pub mod page;

@@ -4,7 +4,6 @@ use crate::twice;
 use layout::Label;
 use layout::Window;
 use layout::places;
-use metadata::judge;
 ghost use mathlib.Core.Path.{_≡_};
 ghost use mathlib.Core.Bool.{true, false, not, _&&_, _||_};
 ghost use Prim.Native.Nat.{_+_, _≤_, _<_};
@@ -25,7 +24,7 @@ pub fn all_legal(ssd: &[u8], l: Label) -> bool
     let m = places::meta_pages(l);
     let mut p: u32 = 0;
     while p < m {
-        if !judge::legal_page(l, p, image::meta_page(ssd, l, p)) {
+        if !page_rule::legal_page(l, p, image::meta_page(ssd, l, p)) {
             return false;
         }
         p += 1;

@@ -8,8 +8,8 @@ use Rattle.layout.specs.PageRule.{pairTest, entryTest}
 use Rattle.layout.proofs.JudgeLaws.{entry-tail}
 use native.Mathlib.Omega.{arith}
 use borrow.Author.Needs.{needs}
-use Rattle.metadata.proofs.judge.legal_entry.Statement.{statement}
-use Rattle.metadata.proofs.judge.legal_entry.Tie as tie
+use Rattle.page_rule.proofs.legal_entry.Statement.{statement}
+use Rattle.page_rule.proofs.legal_entry.Tie as tie
 
 -- the block and flags were judged, and the bytes after them
 abbrev start : tie.After-legal-pair → tie.Start

@@ -10,8 +10,8 @@ use Rattle.layout.specs.PageRule.{listed}
 use Rattle.layout.proofs.JudgeLaws.{listed-left, window-end}
 use borrow.Author.Needs.{needs}
 use native.Mathlib.Omega.{arith}
-use Rattle.metadata.proofs.judge.listed_from.Statement.{statement}
-use Rattle.metadata.proofs.judge.listed_from.Tie as tie
+use Rattle.page_rule.proofs.listed_from.Statement.{statement}
+use Rattle.page_rule.proofs.listed_from.Tie as tie
 
 abbrev Inv-loop : tie.InvT-loop
 Inv-loop s page count k m₀ m = (m ≤ count) × (listed s (drop m (windowOf page)) ≡ listed s (drop k (windowOf page)))

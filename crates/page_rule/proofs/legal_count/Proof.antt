@@ -1,8 +1,8 @@
 use borrow.Author.Tests.{eq-eqb, ne-eqb, le-leb, lt-leb}
 use Rattle.layout.specs.PageRule.{countTest}
 use borrow.Author.Needs.{needs}
-use Rattle.metadata.proofs.judge.legal_count.Statement.{statement}
-use Rattle.metadata.proofs.judge.legal_count.Tie as tie
+use Rattle.page_rule.proofs.legal_count.Statement.{statement}
+use Rattle.page_rule.proofs.legal_count.Tie as tie
 
 count-of-requires : tie.Need-count-of-requires
 count-of-requires c κs = search needs

@@ -8,8 +8,8 @@ use Rattle.layout.proofs.RuleLaws.{count-rule}
 use Rattle.layout.proofs.RowLaws.{read-next, read-less, read-more, read-all}
 use native.Mathlib.Omega.{arith}
 use borrow.Author.Needs.{needs}
-use Rattle.metadata.proofs.judge.read_down.Statement.{statement}
-use Rattle.metadata.proofs.judge.read_down.Tie as tie
+use Rattle.page_rule.proofs.read_down.Statement.{statement}
+use Rattle.page_rule.proofs.read_down.Tie as tie
 
 -- the page read down to a row, and the test of one row
 module _ (s : tie.Start) where

@@ -1,7 +1,7 @@
 use Rattle.layout.specs.PageRule.{pageTest}
 use borrow.Author.Needs.{needs}
-use Rattle.metadata.proofs.judge.legal_page.Statement.{statement}
-use Rattle.metadata.proofs.judge.legal_page.Tie as tie
+use Rattle.page_rule.proofs.legal_page.Statement.{statement}
+use Rattle.page_rule.proofs.legal_page.Tie as tie
 
 read-down-requires : tie.Need-read-down-requires
 read-down-requires c κs = search needs

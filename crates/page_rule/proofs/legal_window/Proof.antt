@@ -7,8 +7,8 @@ use Rattle.layout.specs.PageRule.{inRange, distinct, windowTest, zeroTest}
 use Rattle.layout.proofs.Booleans.{and-assoc, skip, halt}
 use native.Mathlib.Omega.{arith}
 use borrow.Author.Needs.{needs}
-use Rattle.metadata.proofs.judge.legal_window.Statement.{statement}
-use Rattle.metadata.proofs.judge.legal_window.Tie as tie
+use Rattle.page_rule.proofs.legal_window.Statement.{statement}
+use Rattle.page_rule.proofs.legal_window.Tie as tie
 
 -- the slots' test, then that of the bytes past them
 window-test : (s : tie.Start)

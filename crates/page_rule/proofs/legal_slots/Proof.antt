@@ -11,8 +11,8 @@ use Rattle.layout.proofs.Loops.{go-on, stop}
 use Rattle.layout.proofs.JudgeLaws.{slots-left, slots-end}
 use borrow.Author.Needs.{needs}
 use native.Mathlib.Omega.{arith}
-use Rattle.metadata.proofs.judge.legal_slots.Statement.{statement}
-use Rattle.metadata.proofs.judge.legal_slots.Tie as tie
+use Rattle.page_rule.proofs.legal_slots.Statement.{statement}
+use Rattle.page_rule.proofs.legal_slots.Tie as tie
 
 abbrev Inv-loop : tie.InvT-loop
 Inv-loop l page count k₀ k =

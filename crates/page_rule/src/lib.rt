@@ -1,9 +1,9 @@
 // Judging a metadata page, row by row of document 01's page table and in its order.
-use crate::page;
 use layout::Label;
 use layout::Slot;
 use layout::WINDOW;
 use layout::zeros;
+use metadata::page;
 ghost use mathlib.Core.Path.{_≡_};
 ghost use mathlib.Core.Bool.{_&&_};
 ghost use Prim.Native.Nat.{_+_, _^_, _≤_, _<_};

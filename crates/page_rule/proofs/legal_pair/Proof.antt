@@ -7,8 +7,8 @@ use Rattle.layout.specs.PageRule.{legalFlags, pairTest}
 use Rattle.layout.proofs.Booleans.{and-last}
 use Rattle.layout.proofs.RuleLaws.{flags-odd, flags-none}
 use borrow.Author.Needs.{needs}
-use Rattle.metadata.proofs.judge.legal_pair.Statement.{statement}
-use Rattle.metadata.proofs.judge.legal_pair.Tie as tie
+use Rattle.page_rule.proofs.legal_pair.Statement.{statement}
+use Rattle.page_rule.proofs.legal_pair.Tie as tie
 
 returns : tie.Need-returns
 unfolding pairTest legalFlags

@@ -9,8 +9,8 @@ use Rattle.layout.specs.PageRule.{entryTest}
 use Rattle.layout.proofs.JudgeLaws.{entries-pass, entries-fail}
 use borrow.Author.Needs.{needs}
 use native.Mathlib.Omega.{arith}
-use Rattle.metadata.proofs.judge.legal_entries.Statement.{statement}
-use Rattle.metadata.proofs.judge.legal_entries.Tie as tie
+use Rattle.page_rule.proofs.legal_entries.Statement.{statement}
+use Rattle.page_rule.proofs.legal_entries.Tie as tie
 
 abbrev Inv-loop : tie.InvT-loop
 Inv-loop l p page i₀ i = (i ≤ 240) × ((j : ℕ) → j < i → entryTest l (slotOn p j) (entryPart page j) ≡ true)
