@@ -1,6 +1,5 @@
 // Builds label pages, legal and not, and prints what each decodes to.
 use layout::LabelRead;
-use layout::label_page;
 use layout::places;
 use libc::STDOUT_FILENO;
 ghost use Prim.Native.Nat.{_≤_};

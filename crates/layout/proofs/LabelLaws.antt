@@ -2,10 +2,12 @@
 use Prim.Native.Nat.{ℕ, _-_, _≤_}
 use mathlib.Core.Path.{_≡_, refl, sym, ap, _∙_}
 use mathlib.Core.Bool.{Bool, true, false, _&&_}
-use mathlib.Core.List.{List, _∷_, _++_, append-assoc}
-use mathlib.Core.Option.{Option, some, none}
+use mathlib.Core.List.{List, [], _∷_, _++_, append-assoc}
+use mathlib.Core.Option.{Option, some, none, Option·none-ne-some, Option·some-injective}
+use native.Mathlib.Decide.{ℕ-discrete}
 use native.Mathlib.Omega.{arith}
 use lib.ListN.{length, replicate, length-append}
+use borrow.Author.Tests.{eq-eqb, ne-eqb}
 use Rattle.pages.specs.Pages.{padded}
 use Rattle.pages.proofs.PadLaws.{length-padded}
 use Rattle.layout.specs.declared.Label.{Label}
@@ -16,8 +18,24 @@ use Rattle.layout.specs.LabelPage.{cacheLine, layoutLine, slotsKey, bloc
 use Rattle.layout.proofs.PlaceLaws.{within}
 use Rattle.layout.proofs.Booleans.{and-parts}
 use Rattle.layout.proofs.ZeroLaws.{zeros-zero, zero-only}
-use Rattle.layout.proofs.LabelReads.{after-back, after-only}
 use Rattle.layout.proofs.Decimal.{ReadOf, decimal-size, number-back, number-only}
+
+-- A text is found where it stands, and nowhere else.
+
+pub after-back : (text rest : List ℕ) → after text (text ++ rest) ≡ some rest
+unfolding after
+after-back [] rest = refl
+after-back (t ∷ text) rest = rw (eq-eqb t t refl, after) (after-back text rest)
+
+pub after-only : (text bytes rest : List ℕ) → after text bytes ≡ some rest → bytes ≡ text ++ rest
+unfolding after
+after-only [] bytes rest e = Option·some-injective _ _ e
+after-only (t ∷ text) [] rest e = absurd (Option·none-ne-some rest e)
+after-only (t ∷ text) (b ∷ bytes) rest e = go (ℕ-discrete t b) (after-only text bytes rest)
+  where
+    go : Dec (t ≡ b) → (after text bytes ≡ some rest → bytes ≡ text ++ rest) → b ∷ bytes ≡ t ∷ text ++ rest
+    go (yes q) f = rw q (ap (λ (l : List ℕ). b ∷ l) (f (rw (eq-eqb t b q, after) at e)))
+    go (no q) f = absurd (Option·none-ne-some rest (rw (ne-eqb t b q, after) at e))
 
 -- The text of a label, and whatever stands after it.
 abbrev textThen : Label → List ℕ → List ℕ

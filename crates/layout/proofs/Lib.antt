@@ -3,10 +3,7 @@ pub mod Loops
 pub mod ZeroLaws
 pub mod PlaceLaws
 pub mod Decimal
-pub mod LabelSteps
-pub mod LabelReads
 pub mod LabelLaws
-pub mod LabelBuilt
 pub mod LabelExamples
 pub mod RowCases
 pub mod MetaLaws

@@ -2,7 +2,6 @@ pub mod Numbers
 pub mod Places
 pub mod Window
 pub mod LabelPage
-pub mod LabelScan
 pub mod MetaPage
 pub mod PageRule
 pub mod ReadDown

@@ -1,9 +1,7 @@
-// What is stored: slot and block numbers, the label, and where each page of the two images lies; the label page, written
-// and read; text and decimal numbers; what a metadata page is (crate metadata has its code).
-pub mod label_page;
+// What is stored: slot and block numbers, the label, and where each page of the two images lies; what a label
+// page is (crate label_page has its code), and a metadata page (metadata, page_rule).
 pub mod numbers;
 pub mod places;
-pub mod text;
 pub mod zeros;
 
 // The number of a slot: a place in the SSD, counted from 0.

@@ -3,7 +3,6 @@ use layout::Entry;
 use layout::Label;
 use layout::Slot;
 use layout::Window;
-use layout::text;
 use record::window;
 ghost use mathlib.Core.Path.{_≡_};
 ghost use mathlib.Core.Bool.{true, false};

@@ -1,7 +1,6 @@
 // "Format": begun by zeroing the table; then one store a step.
 use layout::Label;
 use layout::Slot;
-use layout::label_page;
 use layout::places;
 use moves::answers;
 use protocol::Answer;

@@ -6,7 +6,6 @@ use layout::LabelRead;
 use layout::Slot;
 use layout::WINDOW;
 use layout::Window;
-use layout::label_page;
 use layout::places;
 use metadata::page;
 use record::window;

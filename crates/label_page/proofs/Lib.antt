@@ -1,0 +1,3 @@
+pub mod LabelSteps
+pub mod LabelReads
+pub mod LabelBuilt
