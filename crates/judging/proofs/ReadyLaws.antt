@@ -25,7 +25,7 @@ use Rattle.protocol.proofs.Accepted.{Legal, legal}
 use Rattle.protocol.proofs.refine.Tables.{each-get}
 use Rattle.table.specs.Scan.{legalRows}
 use Rattle.record.proofs.RecordLaws.{parts}
-use Rattle.table.proofs.AgreeLaws.{ready-is}
+use Rattle.agreement.proofs.AgreeLaws.{ready-is}
 use Rattle.judging.specs.Judging.{refuseIf, soundThen, readyThen, servesThen}
 use Rattle.judging.specs.Fits.{FitsRecord}
 use Rattle.judging.proofs.JudgingLaws.{Asks, stopped, passed, sound-asks, ready-asks}

@@ -8,7 +8,6 @@ use record::Record;
 use record::rule;
 use table::condition;
 use table::rows;
-use table::window;
 ghost use mathlib.Core.Path.{_≡_};
 ghost use mathlib.Core.Bool.{true, false, not};
 ghost use lib.ListN.{length};
@@ -61,7 +60,7 @@ fn look(table: &[u32], state: Record, b: Block) -> Judged
     if !scan.legal {
         return refused(5);
     }
-    if !window::agrees(table, scan, state) {
+    if !agreement::agrees(table, scan, state) {
         return refused(5);
     }
     let condition = condition::condition(table, scan.at, l.slots);

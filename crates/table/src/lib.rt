@@ -1,8 +1,7 @@
-// The table in memory: a lent slice of 32-bit words, two for each slot, block and flags. It is judged, searched and changed
-// by slot number here; what the record keeps of it, the window and the hand, too.
+// The table in memory: a lent slice of 32-bit words, two for each slot, block and flags. It is judged and searched by slot
+// number here.
 pub mod condition;
 pub mod rows;
-pub mod window;
 
 // What one pass over the table finds: whether every row keeps its rule and, if so, how many are writing, how many are not
 // free, and the lowest slot that holds the block (the number of slots where none does).

@@ -1,8 +1,8 @@
 use mathlib.Core.Path.{sym, _∙_}
 use borrow.Author.Tests.{not-true, not-false, eq-eqb, ne-eqb}
 use borrow.Author.Needs.{needs}
-use Rattle.table.proofs.window.recovering_agrees.Statement.{statement}
-use Rattle.table.proofs.window.recovering_agrees.Tie as tie
+use Rattle.agreement.proofs.recovering_agrees.Statement.{statement}
+use Rattle.agreement.proofs.recovering_agrees.Tie as tie
 
 returns : tie.Need-returns
 returns c = rw (eq-eqb _ _ (c .if1 .taken))
