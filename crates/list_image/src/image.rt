@@ -7,7 +7,6 @@ use layout::Slot;
 use layout::Window;
 use layout::places;
 use stored::image;
-use stored::rules;
 ghost use mathlib.Core.Path.{_≡_};
 ghost use mathlib.Core.Bool.{true};
 ghost use Prim.Native.Nat.{_+_, _*_, _≤_, _<_};
@@ -64,7 +63,7 @@ fn put_listing(page: &mut [u8], ssd: &[u8]) -> usize
     if 65536 < ssd.len() {
         return lines::put_refusal(page, 4);
     }
-    if !rules::pages_ok(ssd, l) {
+    if !image_rules::pages_ok(ssd, l) {
         return lines::put_refusal(page, 5);
     }
     put_image(page, ssd, l)

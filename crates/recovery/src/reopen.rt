@@ -6,7 +6,6 @@ use protocol::Answer;
 use protocol::Outcome;
 use record::Record;
 use stored::image;
-use stored::rules;
 ghost use mathlib.Core.Path.{_≡_};
 ghost use Rattle.protocol.specs.Calls.{leaves, reopenOf};
 
@@ -19,7 +18,7 @@ pub fn reopen(ssd: &[u8], hdd: &[u8], table: &mut [u32], state: Record) -> Outco
     if !judging::lengths_ok(l, ssd.len(), hdd.len(), table.len()) {
         return answers::refused(4, state);
     }
-    if !rules::pages_ok(ssd, l) {
+    if !image_rules::pages_ok(ssd, l) {
         return answers::refused(5, state);
     }
     let next = fill::recover(ssd, table, l);

@@ -1,7 +1,5 @@
-// What an SSD image holds, and whether it keeps every rule.
+// What an SSD image holds: label, metadata pages, the newest window. (Crate image_rules judges it.)
 pub mod image;
-pub mod rules;
-pub mod twice;
 
 // The largest stamp, and the number of its page plus 1, or 0 where every stamp is 0.
 pub struct Newest {

@@ -1,0 +1,19 @@
+use borrow.Author.Needs.{needs}
+use native.Mathlib.Omega.{arith}
+use Rattle.image_rules.proofs.twice.page_end.Statement.{statement}
+use Rattle.image_rules.proofs.twice.page_end.Tie as tie
+
+sub-if1 : tie.Need-sub-if1
+sub-if1 c = search needs
+
+returns : tie.Need-returns
+returns c = omega arith
+
+add-result : tie.Need-add-result
+add-result c = search needs
+
+returns-2 : tie.Need-returns-2
+returns-2 c = omega arith
+
+pub page-end-spec : {M : Type 1} → statement M
+page-end-spec = tie.close (tie.spec sub-if1 returns add-result returns-2)
