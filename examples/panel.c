@@ -1,11 +1,12 @@
-/* A status panel: what a look-up tells of a block, its five answers on one box. */
+/* A status panel: what a look-up tells of a block, its five answers on one box; and the slot map of that box. */
 #include <stdio.h>
 #include "ferjulm.h"
 
-#define BOX ssd, sizeof ssd, hdd, sizeof hdd, table, 8, record, FERJULM_RECORD_WORDS
-static uint8_t ssd[6 * FERJULM_PAGE], hdd[8 * FERJULM_PAGE], page[FERJULM_PAGE];
-static uint32_t table[8], record[FERJULM_RECORD_WORDS], slot, image;
+#define BOX ssd, sizeof ssd, hdd, sizeof hdd, table, 10, record, FERJULM_RECORD_WORDS
+static uint8_t ssd[7 * FERJULM_PAGE], hdd[8 * FERJULM_PAGE], page[FERJULM_PAGE];
+static uint32_t table[10], record[FERJULM_RECORD_WORDS], slot, image;
 static uint64_t offset;
+static uint8_t sheet[67]; /* ferjulm_map_bytes(5) */
 
 static const char *panel(uint32_t answer)
 {
@@ -27,7 +28,7 @@ static const char *panel(uint32_t answer)
 
 int main(void)
 {
-    ferjulm_format(BOX, 4, 8);
+    ferjulm_format(BOX, 5, 8);
     while (record[FERJULM_PHASE] != FERJULM_READY)
         ferjulm_step(BOX, &image, &offset);
     ferjulm_fetch(BOX, 1, &slot, &image, &offset);
@@ -38,5 +39,7 @@ int main(void)
     ferjulm_fetch(BOX, 4, &slot, &image, &offset);
     for (uint32_t block = 0; block < 5; block++)
         printf("block %u: %s\n", (unsigned)block, panel(ferjulm_look_up(BOX, block, &slot)));
+    if (ferjulm_map(BOX, sheet, sizeof sheet) == FERJULM_DONE)
+        fwrite(sheet, 1, ferjulm_map_bytes(record[FERJULM_SLOTS]), stdout);
     return 0;
 }

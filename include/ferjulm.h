@@ -12,7 +12,7 @@
  * - One caller at a time: no two calls on one box at once, and nobody else reads or writes what a call was lent meanwhile.
  * - No pointer is null, not even one with length 0. Pointers to 32-bit words are aligned to 4 bytes, `offset` to 8. Each
  *   pointer with length n points to n elements.
- * - What is lent to one call does not overlap: images, table, record, page and out-parameters.
+ * - What is lent to one call does not overlap: images, table, record, page, sheet and out-parameters.
  * - A call stores at most one page, in one of the images, and names it: outside that page the images are as they were lent.
  *   Where the images are kept on drives, that page reaches its drive whole or not at all, and before the page of any later
  *   call.
@@ -22,7 +22,7 @@
  * valid, 2 dirty, 4 writing (the slot is open) and 8 used (looked up, or landed by a write, since a sweep last passed). A free
  * row is zero.
  *
- * Lengths are counted in elements: bytes of an image or page, 32-bit words of table and record. Nothing else has to hold of
+ * Lengths are counted in elements: bytes of an image, page or sheet, 32-bit words of table and record. Nothing else has to hold of
  * what is lent: any length, any bytes and any words are judged, and refused by number where they break a rule. What is lent
  * `const` is only read. A refusal changes nothing that was lent, out-parameters included.
  *
@@ -68,7 +68,7 @@ enum {
     FERJULM_READY = 2
 };
 
-/* What a call returns: one of these, or a refusal's number from 1 to 13. Where no slot is set here, *slot stays as it was. */
+/* What a call returns: one of these, or a refusal's number from 1 to 14. Where no slot is set here, *slot stays as it was. */
 enum {
     FERJULM_DONE = 0,
     FERJULM_ANNOUNCED = 101, /* the slot is open; *slot is set */
@@ -90,7 +90,7 @@ enum {
     FERJULM_HDD = 2
 };
 
-/* Why a call says no; the least number whose condition holds.
+/* Why a call says no; the least number whose condition holds, but for 14, which is judged after 6.
  *
  *   1  format: slots or blocks outside the limits
  *   2  reopen, label: SSD under a page, or first page no legal label
@@ -107,6 +107,7 @@ enum {
  *  11  a fetch, or an offer of a block that isn't dirty, while 63 are open
  *  12  a slot must be swept for, all are open
  *  13  the call would store metadata, and too few stamps are left
+ *  14  map: the buffer is shorter than 67 bytes for each line
  *
  * Every call but format, reopen and label may refuse with 3, 4, 5 and 6; each function names those that it may give besides.
  */
@@ -134,6 +135,12 @@ static inline size_t ferjulm_hdd_bytes(uint32_t blocks)
 static inline size_t ferjulm_table_words(uint32_t slots)
 {
     return 2 * (size_t)slots;
+}
+
+/* The length of a slot map: a line of 67 bytes for each 60 slots. */
+static inline size_t ferjulm_map_bytes(uint32_t slots)
+{
+    return ((size_t)slots + 59) / 60 * 67;
 }
 
 /* Begins a format: zeroes the table and makes a record with no step done. It stores nothing; the steps that follow, as many
@@ -206,6 +213,14 @@ uint32_t ferjulm_look_up(const uint8_t *ssd, size_t ssd_len, const uint8_t *hdd,
 uint32_t ferjulm_view(const uint8_t *ssd, size_t ssd_len, const uint8_t *hdd, size_t hdd_len, const uint32_t *table,
                       size_t table_len, const uint32_t *record, size_t record_len, uint32_t block, uint32_t *image,
                       uint64_t *offset);
+
+/* Writes the slot map, the whole cache as text, over the first ferjulm_map_bytes(slots) bytes of `sheet`; bytes after them stay.
+ * Each line covers 60 slots, in 67 bytes: the first slot's number right-aligned in 5 columns, a space, a letter for each slot, byte
+ * 10. `.` is a free slot, `c` clean, `d` dirty, `w` open for writing, `f` open for fetch; past the last slot the line is filled with
+ * spaces. Nothing ends the text but its length. Returns FERJULM_DONE. Nothing else changes. May refuse with 14.
+ */
+uint32_t ferjulm_map(const uint8_t *ssd, size_t ssd_len, const uint8_t *hdd, size_t hdd_len, const uint32_t *table,
+                     size_t table_len, const uint32_t *record, size_t record_len, uint8_t *sheet, size_t sheet_len);
 
 /* Writes a block back: copies its page to the HDD if it is dirty, and marks it clean; uncached or clean:
  * FERJULM_NOTHING_TO_DO. May refuse with 7 and 8.

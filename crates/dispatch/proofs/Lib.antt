@@ -1,2 +1,3 @@
 pub mod DispatchLaws
 pub mod ViewReads
+pub mod MapMade

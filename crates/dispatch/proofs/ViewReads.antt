@@ -1,4 +1,4 @@
--- View, the one call that dispatch leaves out (it hands back a part and no outcome): by its contract, the bytes that it hands back,
+-- View, which dispatch leaves out (it hands back a part and no outcome): by its contract, the bytes that it hands back,
 -- wherever the images lie, are what demand 3 says that the block reads as.
 use Prim.Native.Nat.{ℕ}
 use mathlib.Core.Path.{_≡_, ap, _∙_}

@@ -2,3 +2,4 @@ pub mod CodeLaws
 pub mod CodesApart
 pub mod ListLaws
 pub mod ViewLaws
+pub mod MapLaws

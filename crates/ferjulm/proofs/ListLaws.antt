@@ -23,7 +23,7 @@ use Rattle.record.proofs.WindowLaws.{length-array}
 use Rattle.protocol.specs.Reply.{Reply, refusal, answer, refused}
 use Rattle.protocol.specs.Rows.{rowFlags, writing}
 use Rattle.protocol.specs.Box.{Box, left, Result, boxAfter}
-use Rattle.protocol.specs.Plan.{Call, format, step, flush, reopen, offer, fetch, landFetch, lookUp, view, writeBack, land, Move, lowestPage, stepping, plan}
+use Rattle.protocol.specs.Plan.{slotMap, Call, format, step, flush, reopen, offer, fetch, landFetch, lookUp, view, writeBack, land, ask, Move, lowestPage, stepping, plan}
 use Rattle.protocol.specs.Perform.{confirmed, landedState, formatState, perform}
 use Rattle.protocol.specs.Recovery.{labelAt, metasOf, newestOf, recover, offPage}
 use Rattle.protocol.specs.Kinds.{Aim}
@@ -38,6 +38,7 @@ use Rattle.protocol.proofs.Does.{Does, does-nothing, does-use, does-open, does-
 use Rattle.protocol.proofs.Sorted.{Sorted, is-format, is-reopen, is-step, is-service, sorted}
 use Rattle.protocol.proofs.refine.Windows.{length-nums}
 use Rattle.protocol.proofs.why.Answers.{plan-answers}
+use Rattle.protocol.proofs.SlotMaps.{changes-nothing}
 use Rattle.stored.specs.Stored.{numberedOf}
 use Rattle.stored.proofs.StoredLaws.{found, newest-bounded}
 use Rattle.stored.proofs.RuleLaws.{passed}
@@ -232,6 +233,12 @@ once (lookUp b) k = served-once (lookUp b) k refl refl
 once (view b) k = record { made = λ h. view-box b (boxIn k); stays = λ h. refl; reach = λ h. h; stay-record = λ h. h }
 once (writeBack b) k = served-once (writeBack b) k refl refl
 once (land b page) k = served-once (land b page) k refl refl
+once (ask (slotMap n)) k = record {
+  made = λ h. sym (changes-nothing (slotMap n) (boxIn k) .box);
+  stays = λ h. refl;
+  reach = λ h. h;
+  stay-record = λ h. h;
+}
 
 -- The list.
 module _ (c : Call) (cs : List Call) (k : Left) (d : Disk) where

@@ -1,4 +1,5 @@
 pub mod Calls
 pub mod View
+pub mod Map
 pub mod Lists
 pub mod Label

@@ -4,11 +4,11 @@ use mathlib.Core.Path.{_≡_}
 use mathlib.Core.Bool.{Bool, true, false}
 use mathlib.Core.List.{List, [], _∷_, map}
 use mathlib.Core.Option.{some}
-use lib.ListN.{length}
+use lib.ListN.{length, replicate}
 use lib.Dec.{eqb}
 use Rattle.layout.specs.declared.Block.{Block}
 use Rattle.protocol.specs.Box.{Box}
-use Rattle.protocol.specs.Plan.{Call, format, step, flush, reopen, offer, fetch, landFetch, lookUp, view, writeBack, land}
+use Rattle.protocol.specs.Plan.{Ask, slotMap, Call, format, step, flush, reopen, offer, fetch, landFetch, lookUp, view, writeBack, land, ask}
 use Rattle.protocol.specs.Kinds.{Kind, aFormat, aReopening, aStep, aService, kind}
 use Rattle.protocol.specs.Calls.{boxOf}
 use Rattle.protocol.specs.ReferenceDisk.{Disk}
@@ -16,6 +16,7 @@ use Rattle.protocol.specs.Events.{World, call, run}
 use Rattle.c_record.specs.Words.{recordWords, wordsOf, unpacked, isRecord, recordIn}
 use Rattle.ferjulm.specs.Calls.{Left, kept, cCall, cFormat, cReopen}
 use Rattle.ferjulm.specs.View.{cView}
+use Rattle.ferjulm.specs.Map.{cMap}
 
 -- a call by words that must be a record
 abbrev pub cServed : Call → Left → Left
@@ -25,6 +26,11 @@ cServed c k = cCall c (k .ssd) (k .hdd) (k .table) (k .words)
 abbrev pub cViewed : Block → Left → Left
 cViewed b k =
     kept (cView (k .ssd) (k .hdd) (k .table) (k .words) b (record { image = 0; offset = 0 }) .code) (k .ssd) (k .hdd) (k .table) (k .words)
+
+-- nor does a call that only asks: a slot map's number, into any buffer of so many bytes
+abbrev pub cAsked : Ask → Left → Left
+cAsked (slotMap n) k =
+    kept (cMap (k .ssd) (k .hdd) (k .table) (k .words) (replicate n 0) .number) (k .ssd) (k .hdd) (k .table) (k .words)
 
 -- what a call's C function leaves of what the last one left, by its contract
 abbrev pub cMade : Call → Left → Left
@@ -39,6 +45,7 @@ cMade (lookUp b) k = cServed (lookUp b) k
 cMade (view b) k = cViewed b k
 cMade (writeBack b) k = cServed (writeBack b) k
 cMade (land b page) k = cServed (land b page) k
+cMade (ask a) k = cAsked a k
 
 unfoldable pub cRun : List Call → Left → Left
 cRun [] k = k

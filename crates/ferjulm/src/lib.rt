@@ -2,4 +2,5 @@
 // nothing that was lent.
 pub mod calls;
 pub mod label;
+pub mod map;
 pub mod view;

@@ -3,10 +3,10 @@ use Prim.Native.Nat.{ℕ}
 use mathlib.Core.Path.{_≡_, sym, ap, _∙_}
 use mathlib.Core.Logic.{_≢_}
 use mathlib.Core.Bool.{Bool, true, false, not, _&&_}
-use mathlib.Core.List.{List, [], _∷_}
+use mathlib.Core.List.{List, [], _∷_, _++_}
 use mathlib.Core.Option.{Option}
-use lib.ListN.{length}
-use lib.Dec.{leb}
+use lib.ListN.{length, drop}
+use lib.Dec.{leb, ltb}
 use Rattle.pages.specs.Parts.{Part}
 use Rattle.layout.specs.declared.Block.{Block}
 use Rattle.record.specs.declared.Record.{Record}
@@ -15,13 +15,14 @@ use Rattle.protocol.specs.Reply.{nothingToDo}
 use Rattle.record.specs.Record.{labelIn, largestStamp}
 use Rattle.protocol.specs.Box.{Box, refusing, left}
 use Rattle.protocol.specs.Condition.{conditionOf, isOpen, takesWrite, takesFetch}
-use Rattle.protocol.specs.Plan.{flush, landFetch, lookUp, view, writeBack, land, stay, confirms, lookingUp, writingBack, landing, landingFetch, flushing, storesMeta, plan}
+use Rattle.protocol.specs.Plan.{flush, landFetch, lookUp, view, writeBack, land, ask, slotMap, stay, confirms, lookingUp, writingBack, landing, landingFetch, flushing, storesMeta, plan}
 use Rattle.protocol.specs.Perform.{perform}
-use Rattle.protocol.specs.Judge.{Reason, slotOpen, wrongState, stampsSpent, test, firstOf, judged}
-use Rattle.protocol.specs.Calls.{boxOf, lookUpOf, writeBackOf, landOf, landFetchOf, flushOf, viewed, viewPart, viewOf}
+use Rattle.protocol.specs.SlotMap.{mapBytes, mapText}
+use Rattle.protocol.specs.Judge.{Reason, slotOpen, wrongState, stampsSpent, sheetShort, test, firstOf, judged}
+use Rattle.protocol.specs.Calls.{boxOf, lookUpOf, writeBackOf, landOf, landFetchOf, flushOf, viewed, viewPart, viewOf, mapped, mapOf}
 use Rattle.judging.specs.Judging.{readyThen, servesThen}
 use Rattle.protocol.proofs.Judged.{first-yes, first-no, performs, refused-as}
-use Rattle.judging.proofs.ServeLaws.{end, first-judged, judged-on, flush-judges, look-up-judges, view-judges, write-back-judges, land-judges, land-fetch-judges}
+use Rattle.judging.proofs.ServeLaws.{end, first-judged, judged-on, flush-judges, map-judges, look-up-judges, view-judges, write-back-judges, land-judges, land-fetch-judges}
 
 module _ (ssd hdd t : List ℕ) (r : Record) (b : Block) (k : Condition) (e : conditionOf t b ≡ k) where
   abbrev x : Box
@@ -115,3 +116,31 @@ module _ (S H : Part) (t : List ℕ) (r : Record) (b : Block) where
       ap (λ (c : Condition). record { number = 0; handed = viewPart S H (labelIn r) b c }) (sym e)
       ∙ ap (λ (o : Option Reason). viewed o S H (labelIn r) b (conditionOf t b))
       (sym (judged-on (view b) v _ [] (view-judges (S .bytes) (H .bytes) t r b) z ∙ end _))
+
+-- a slot map
+module _ (ssd hdd t : List ℕ) (r : Record) (sheet : List ℕ) where
+  abbrev m : Box
+  m = boxOf ssd hdd t r
+
+  by-reason : {o : Option Reason} → judged (ask (slotMap (length sheet))) m ≡ o → mapped o (labelIn r) t sheet ≡ mapOf ssd hdd t r sheet
+  unfolding mapOf
+  by-reason e = ap (λ (o : Option Reason). mapped o (labelIn r) t sheet) (sym e)
+
+  pub map-refused : (n : ℕ) → n ≡ readyThen (length ssd) (length hdd) 4096 t r 0 → n ≢ 0
+      → record { number = n; sheet = sheet } ≡ mapOf ssd hdd t r sheet
+  map-refused n e z =
+      let f = first-judged (ask (slotMap (length sheet))) m _ (sheetShort ∷ []) (map-judges ssd hdd t r (length sheet)) (λ q. z (e ∙ q)) in
+      ap (λ (k : ℕ). record { number = k; sheet = sheet }) (e ∙ sym (f .2)) ∙ by-reason (f .1)
+
+  module _ (z : readyThen (length ssd) (length hdd) 4096 t r 0 ≡ 0) where
+    asked-sheet : judged (ask (slotMap (length sheet))) m ≡ firstOf (sheetShort ∷ []) (λ q. test q (ask (slotMap (length sheet))) m)
+    asked-sheet = judged-on (ask (slotMap (length sheet))) m _ (sheetShort ∷ []) (map-judges ssd hdd t r (length sheet)) z
+
+    pub map-short : ltb (length sheet) (mapBytes (labelIn r)) ≡ true → record { number = 14; sheet = sheet } ≡ mapOf ssd hdd t r sheet
+    unfolding test
+    map-short h = by-reason (asked-sheet ∙ first-yes _ sheetShort [] h)
+
+    pub map-is : ltb (length sheet) (mapBytes (labelIn r)) ≡ false
+        → record { number = 0; sheet = mapText (labelIn r) t ++ drop (mapBytes (labelIn r)) sheet } ≡ mapOf ssd hdd t r sheet
+    unfolding test
+    map-is h = by-reason (asked-sheet ∙ first-no _ sheetShort [] h ∙ end _)

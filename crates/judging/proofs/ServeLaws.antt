@@ -12,8 +12,8 @@ use borrow.Author.Tests.{eq-eqb, ne-eqb}
 use Rattle.layout.specs.declared.Block.{Block}
 use Rattle.record.specs.declared.Record.{Record}
 use Rattle.protocol.specs.Box.{Box, refusing, left}
-use Rattle.protocol.specs.Plan.{Call, flush, offer, fetch, landFetch, lookUp, view, writeBack, land}
-use Rattle.protocol.specs.Judge.{lengthsTest, Reason, badRecord, wrongLength, badRows, wrongPhase, blockTooHigh, slotOpen, wrongState, hasSlot, windowFull, allOpen, stampsSpent, numberOf, lengthTest, test, chain, firstOf, judged}
+use Rattle.protocol.specs.Plan.{Call, flush, offer, fetch, landFetch, lookUp, view, writeBack, land, ask, slotMap}
+use Rattle.protocol.specs.Judge.{lengthsTest, Reason, badRecord, wrongLength, badRows, wrongPhase, blockTooHigh, slotOpen, wrongState, hasSlot, windowFull, allOpen, stampsSpent, sheetShort, numberOf, lengthTest, test, chain, firstOf, judged}
 use Rattle.protocol.specs.Calls.{resultOf, boxOf}
 use Rattle.layout.proofs.Booleans.{Told, told, told-true, told-false, clash}
 use Rattle.protocol.proofs.Judged.{first-yes, first-no, refused-as}
@@ -112,6 +112,10 @@ module _ (ssd hdd t : List ℕ) (r : Record) where
   pub flush-judges : Judges flush (boxOf ssd hdd t r) (readyThen (length ssd) (length hdd) 4096 t r 0) (stampsSpent ∷ [])
   unfolding numbers test soundThen lengthTest lengthsTest
   flush-judges = record { begins = ready-reasons; chain-is = refl; number-is = refl }
+
+  pub map-judges : (room : ℕ) → Judges (ask (slotMap room)) (boxOf ssd hdd t r) (readyThen (length ssd) (length hdd) 4096 t r 0) (sheetShort ∷ [])
+  unfolding numbers test soundThen lengthTest lengthsTest
+  map-judges room = record { begins = ready-reasons; chain-is = refl; number-is = refl }
 
 module _ (ssd hdd t : List ℕ) (r : Record) (b : Block) where
   pub look-up-judges : Judges (lookUp b) (boxOf ssd hdd t r) (servesThen (length ssd) (length hdd) 4096 t r b 0) []

@@ -20,9 +20,9 @@ use Rattle.record.specs.Record.{labelIn, windowIn, largestStamp}
 use Rattle.protocol.specs.Box.{Box}
 use Rattle.protocol.specs.Condition.{conditionOf, isOpen, takesWrite, takesFetch}
 use Rattle.protocol.specs.Sweep.{Victim, sweep}
-use Rattle.protocol.specs.Plan.{flush, offer, fetch, landFetch, lookUp, view, writeBack, land, Move, stay, uses, opens, lands, copies, confirms, takesAs, takes, offering, fetching, landing, landingFetch, lookingUp, writingBack, flushing, plan, storesMeta}
+use Rattle.protocol.specs.Plan.{flush, offer, fetch, landFetch, lookUp, view, writeBack, land, ask, Ask, slotMap, Move, stay, uses, opens, lands, copies, confirms, takesAs, takes, offering, fetching, landing, landingFetch, lookingUp, writingBack, flushing, plan, storesMeta}
 use Rattle.protocol.specs.Perform.{confirmed, landedFlags, landedState, perform}
-use Rattle.protocol.specs.Kinds.{toServe, toSettle, toWrite, toFetch, toLandFetch, toLand, Aim, aims, noBlock}
+use Rattle.protocol.specs.Kinds.{toServe, toSettle, toWrite, toFetch, toLandFetch, toLand, Aim, aims, askAim, noBlock}
 use Rattle.protocol.specs.Judge.{wrongLength, blockTooHigh, slotOpen, wrongState, windowFull, stampsSpent, lengthTest, test, judged}
 use Rattle.protocol.specs.ReferenceDisk.{Disk, fedCall}
 use Rattle.layout.proofs.Booleans.{clash, and-parts}
@@ -249,6 +249,10 @@ module _ (x : Box) where
   pub flush-does : judged flush x ≡ none → Does x (aims noBlock toSettle) (plan flush x)
   unfolding test plan
   flush-does e = flushes x (service-legal flush x refl e) (x .state .unconfirmed) refl (passed flush x e stampsSpent refl)
+
+  pub ask-does : (a : Ask) → judged (ask a) x ≡ none → Does x (askAim a) (plan (ask a) x)
+  unfolding plan
+  ask-does (slotMap n) e = does-nothing (λ d. refl) refl
 
   module _ (b : Block) where
     pub offer-does : judged (offer b) x ≡ none → Does x (aims b toWrite) (plan (offer b) x)

@@ -10,3 +10,4 @@ pub mod Does
 pub mod Sorted
 pub mod ReadsAnywhere
 pub mod why
+pub mod SlotMaps

@@ -5,6 +5,7 @@ pub mod QuickRows
 pub mod Known
 pub mod Case
 pub mod Moves
+pub mod Maps
 pub mod TwoPages
 pub mod Refusals
 pub mod Cases

@@ -1,33 +1,34 @@
 -- What holds beside demand 3.
-use Prim.Native.Nat.{ℕ, _-_, _*_, _%_, min, _≤_, _<_}
+use Prim.Native.Nat.{ℕ, zero, suc, _+_, _-_, _*_, _/_, _%_, min, _≤_, _<_}
 use mathlib.Core.Path.{_≡_}
 use mathlib.Core.Logic.{_≢_, _⊎_}
 use mathlib.Core.Bool.{true, false}
 use mathlib.Core.List.{List, [], _∷_, _++_, map, List·Mem, List·Permᴰ, Pairwise}
 use mathlib.Core.Option.{Option, some, none}
-use lib.ListN.{length}
+use lib.ListN.{length, getD, take}
 use Rattle.pages.specs.Pages.{pageAt, putPage, zeroPage, IsPage}
 use Rattle.pages.specs.Parts.{Part}
 use Rattle.layout.specs.declared.Slot.{Slot}
 use Rattle.layout.specs.declared.Block.{Block}
 use Rattle.layout.specs.declared.Label.{Label}
-use Rattle.layout.specs.Places.{labelOf, formatSteps, labelPlace, metaPages, metaPlace, slotOn}
+use Rattle.layout.specs.Places.{Limits, labelOf, formatSteps, labelPlace, metaPages, metaPlace, slotOn}
 use Rattle.layout.specs.MetaPage.{encodeMeta, rowsOn, stampOf, windowOf, entryAt, rowsFrom}
 use Rattle.layout.specs.PageRule.{PageRule, listed}
 use Rattle.record.specs.declared.Record.{Record}
 use Rattle.record.specs.declared.Phase.{Phase}
 use Rattle.record.specs.declared.Phase.the-variants.{Formatting, Recovering, Ready}
-use Rattle.protocol.specs.declared.Condition.the-variants.{Dirty, Writing, Fetching}
+use Rattle.protocol.specs.declared.Condition.the-variants.{Clean, Dirty, Writing, Fetching}
 use Rattle.protocol.specs.declared.Stored.the-variants.{Nothing, Ssd, Hdd}
-use Rattle.protocol.specs.Reply.{Reply, refused, announced, overwrite, copiedOut, done}
+use Rattle.protocol.specs.Reply.{Reply, refusal, refused, announced, overwrite, copiedOut, done}
 use Rattle.protocol.specs.Rows.{rowBlock, rowFlags, valid, dirty, writing}
 use Rattle.record.specs.Record.{labelIn, windowIn}
 use Rattle.protocol.specs.Box.{Images, Box, ssdImage, Store, Effect, refusing, boxAfter}
 use Rattle.protocol.specs.Condition.{conditionOf, isOpen}
-use Rattle.protocol.specs.Plan.{Call, format, step, reopen, offer, fetch, land, landFetch}
+use Rattle.protocol.specs.Plan.{Ask, slotMap, Call, format, step, reopen, offer, fetch, land, landFetch, ask}
 use Rattle.protocol.specs.Recovery.{labelAt, metasOf, entryIn, storedRows, Recovered, recoverFrom}
+use Rattle.protocol.specs.SlotMap.{letterOf, mapLines, mapBytes, mapText}
 use Rattle.protocol.specs.Judge.{noLabel, wrongLength, test}
-use Rattle.protocol.specs.Calls.{effectOf, resultOf, boxOf, viewOf}
+use Rattle.protocol.specs.Calls.{effectOf, resultOf, boxOf, viewOf, mapOf}
 use Rattle.protocol.specs.Events.{World, Memory, Arrival, new, Event, call, cut, lent, readOf, called, crashed, run, steps, formatted, startOf, AllFit}
 use Rattle.protocol.specs.Demand3.{storedWindow}
 
@@ -142,6 +143,45 @@ ReopensFrom x =
 pub record ReadsAnywhere (ssd hdd : Part) (table : List ℕ) (state : Record) (b : Block) : Type 0 where
   pub number : viewOf ssd hdd table state b .number ≡ viewOf (lent (ssd .bytes)) (lent (hdd .bytes)) table state b .number
   pub bytes : viewOf ssd hdd table state b .handed .bytes ≡ readOf (boxOf (ssd .bytes) (hdd .bytes) table state) b
+
+-- A call that only asks changes nothing of a box and stores nothing, refused or not.
+pub record ChangesNothing (a : Ask) (x : Box) : Type 0 where
+  pub box : boxAfter (resultOf (ask a) x) ≡ x
+  pub stored : resultOf (ask a) x .stored ≡ Nothing
+
+-- Document 02, N1: the slot map. In demand 3's lists it answers by the number that its contract gives: 0 is done.
+abbrev pub saidBy : ℕ → Reply
+saidBy zero = done
+saidBy (suc n) = refusal (suc n)
+
+abbrev pub MapSays : List ℕ → List ℕ → List ℕ → Record → List ℕ → Type 0
+MapSays ssd hdd table state sheet =
+    resultOf (ask (slotMap (length sheet))) (boxOf ssd hdd table state) .said ≡ saidBy (mapOf ssd hdd table state sheet .number)
+
+-- lines of "67 bytes exactly"; where each slot's letter stands, what fills the last line, and what ends each
+pub record MapPlaces (l : Label) (table : List ℕ) : Type 0 where
+  pub size : length (mapText l table) ≡ 67 * mapLines l
+  pub letter : (s : Slot) → s .0 < l .slots → getD (mapText l table) (67 * (s .0 / 60) + (6 + s .0 % 60)) 0 ≡ letterOf (rowFlags table s)
+  pub filled : (s : ℕ) → l .slots ≤ s → s < 60 * mapLines l → getD (mapText l table) (67 * (s / 60) + (6 + s % 60)) 0 ≡ 32
+  pub ended : (k : ℕ) → k < mapLines l → getD (mapText l table) (67 * k + 66) 0 ≡ 10
+
+abbrev pub MapsSlots : Type 0
+MapsSlots = (l : Label) (table : List ℕ) → Limits l → MapPlaces l table
+
+-- a refused map leaves the buffer; one that is not begins it with the text; "Bytes of the buffer after the last line stay"
+pub record MapKeeps (ssd hdd table : List ℕ) (state : Record) (sheet : List ℕ) : Type 0 where
+  pub refused-same : mapOf ssd hdd table state sheet .number ≢ 0 → mapOf ssd hdd table state sheet .sheet ≡ sheet
+  pub begins : mapOf ssd hdd table state sheet .number ≡ 0
+      → take (mapBytes (labelIn state)) (mapOf ssd hdd table state sheet .sheet) ≡ mapText (labelIn state) table
+  pub after-stays : (k : ℕ) → mapBytes (labelIn state) ≤ k → getD (mapOf ssd hdd table state sheet .sheet) k 0 ≡ getD sheet k 0
+  pub size : length (mapOf ssd hdd table state sheet .sheet) ≡ length sheet
+
+-- "`c` clean, `d` dirty, `w` open for writing, `f` open for fetch": the letter of a block's slot says the block's condition
+pub record LetterSays (table : List ℕ) (b : Block) (s : Slot) : Type 0 where
+  pub clean : conditionOf table b ≡ Clean s → letterOf (rowFlags table s) ≡ 99
+  pub dirtied : conditionOf table b ≡ Dirty s → letterOf (rowFlags table s) ≡ 100
+  pub writes : conditionOf table b ≡ Writing s → letterOf (rowFlags table s) ≡ 119
+  pub fetches : conditionOf table b ≡ Fetching s → letterOf (rowFlags table s) ≡ 102
 
 -- "the page of the call it breaks off old or new; that call counts as made exactly if its store was done": what a cut leaves is
 -- the world after the call or before it

@@ -1,7 +1,8 @@
 -- The calls: judged, planned, performed. The right side of every call's contract.
 use Prim.Native.Nat.{ℕ}
-use mathlib.Core.List.{List, []}
+use mathlib.Core.List.{List, [], _++_}
 use mathlib.Core.Option.{Option, some, none}
+use lib.ListN.{length, drop}
 use Rattle.pages.specs.Parts.{Part, pagePart}
 use Rattle.layout.specs.declared.Block.{Block}
 use Rattle.layout.specs.declared.Label.{Label}
@@ -14,8 +15,9 @@ use Rattle.protocol.specs.declared.Condition.the-variants.{NotCached, Cl
 use Rattle.record.specs.Record.{labelIn}
 use Rattle.protocol.specs.Box.{Box, Effect, Result, refusing, left}
 use Rattle.protocol.specs.Condition.{conditionOf}
-use Rattle.protocol.specs.Plan.{Call, format, step, flush, reopen, offer, fetch, landFetch, lookUp, view, writeBack, land, plan}
+use Rattle.protocol.specs.Plan.{Call, format, step, flush, reopen, offer, fetch, landFetch, lookUp, view, writeBack, land, ask, slotMap, plan}
 use Rattle.protocol.specs.Perform.{perform}
+use Rattle.protocol.specs.SlotMap.{mapText, mapBytes}
 use Rattle.protocol.specs.Judge.{Reason, numberOf, judged}
 
 -- what a call does: refused by the first reason that holds, or its plan performed
@@ -96,3 +98,17 @@ viewed none ssd hdd l b k = record { number = 0; handed = viewPart ssd hdd l b k
 unfoldable pub viewOf : Part → Part → List ℕ → Record → Block → View
 viewOf ssd hdd table state b =
     viewed (judged (view b) (boxOf (ssd .bytes) (hdd .bytes) table state)) ssd hdd (labelIn state) b (conditionOf table b)
+
+-- document 02, N1: what a slot map leaves: the number of its refusal (0 where it is none) and the lent buffer
+pub record MapLeft : Type 0 where
+  pub number : ℕ
+  pub sheet : List ℕ
+
+-- a refused map leaves the buffer; else it begins with the text, and "Bytes of the buffer after the last line stay"
+abbrev pub mapped : Option Reason → Label → List ℕ → List ℕ → MapLeft
+mapped (some r) l table sheet = record { number = numberOf r; sheet = sheet }
+mapped none l table sheet = record { number = 0; sheet = mapText l table ++ drop (mapBytes l) sheet }
+
+unfoldable pub mapOf : List ℕ → List ℕ → List ℕ → Record → List ℕ → MapLeft
+mapOf ssd hdd table state sheet =
+    mapped (judged (ask (slotMap (length sheet))) (boxOf ssd hdd table state)) (labelIn state) table sheet

@@ -1,5 +1,5 @@
--- Why a call says no: one test for each number of document 01's table, and each call's chain of them, "Least number first", but for a
--- fetch's 10, which comes before 8 (document 02, N9).
+-- Why a call says no: one test for each number of document 01's table and document 02's, and each call's chain of them, "Least number
+-- first", but for a fetch's 10, which comes before 8 (document 02, N9), and for 14, which comes after 6 (N1).
 use Prim.Native.Nat.{ℕ, _-_, _%_}
 use mathlib.Core.Bool.{Bool, true, false, not, _&&_, _||_}
 use mathlib.Core.List.{List, [], _∷_, _++_}
@@ -25,14 +25,16 @@ use Rattle.record.specs.Record.{largestStamp, labelIn, windowIn}
 use Rattle.record.specs.Rule.{recordTest}
 use Rattle.protocol.specs.Box.{Images, Box}
 use Rattle.protocol.specs.Condition.{conditionOf, isOpen, isCached, isWriting, hasOther, takesWrite, takesFetch}
-use Rattle.protocol.specs.Plan.{Call, format, step, flush, reopen, offer, fetch, landFetch, lookUp, view, writeBack, land, plan, storesMeta}
+use Rattle.protocol.specs.Plan.{Call, format, step, flush, reopen, offer, fetch, landFetch, lookUp, view, writeBack, land, ask, slotMap, plan, storesMeta}
 use Rattle.protocol.specs.Kinds.{Purpose, toServe, toSettle, toWrite, toFetch, toLandFetch, toLand, Kind, aFormat, aReopening, aStep, aService, kind, aim}
 use Rattle.protocol.specs.Recovery.{labelAt, metasOf, pagesTest}
+use Rattle.protocol.specs.SlotMap.{mapBytes}
 
--- the rows of document 01's table
+-- the rows of document 01's table, and document 02's numbers
 pub data Reason : Type 0 where
   badLimits noLabel badRecord wrongLength badRows wrongPhase blockTooHigh : Reason
   slotOpen wrongState hasSlot windowFull allOpen stampsSpent : Reason
+  sheetShort : Reason
 
 abbrev pub numberOf : Reason → ℕ
 numberOf badLimits = 1
@@ -48,6 +50,7 @@ numberOf hasSlot = 10
 numberOf windowFull = 11
 numberOf allOpen = 12
 numberOf stampsSpent = 13
+numberOf sheetShort = 14
 
 -- the label by which a call judges lengths: format by its arguments, reopen by the label page, others by the record
 abbrev pub labelFor : Kind → Box → Label
@@ -172,6 +175,8 @@ test hasSlot c x = hasOther (conditionOf (x .table) (aim c .block))
 test windowFull c x = opensAnother (aim c .purpose) (conditionOf (x .table) (aim c .block)) && leb windowMost (openRows (x .table))
 test allOpen c x = not (isCached (conditionOf (x .table) (aim c .block))) && allWriting (x .table)
 test stampsSpent c x = storesMeta (plan c x) && leb (stampBound (aim c .purpose)) (x .state .newest)
+-- document 02, N1: "if the buffer is shorter than 67 × the number of lines"
+test sheetShort c x = ltb (aim c .room) (mapBytes (labelIn (x .state)))
 
 -- the numbers that belong to each call, in the order of judging: first those of its kind ("Format and reopen judge neither that
 -- record nor the table's contents"), then its own
@@ -193,6 +198,8 @@ askedThen (lookUp b) = blockTooHigh ∷ []
 askedThen (view b) = blockTooHigh ∷ []
 askedThen (writeBack b) = blockTooHigh ∷ slotOpen ∷ []
 askedThen (land b page) = blockTooHigh ∷ wrongState ∷ []
+-- document 02, N1: "It refuses with 14, after 6"
+askedThen (ask (slotMap n)) = sheetShort ∷ []
 
 abbrev pub chain : Call → List Reason
 chain c = askedFirst (kind c) ++ askedThen c

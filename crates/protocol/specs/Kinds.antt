@@ -4,7 +4,7 @@ use mathlib.Core.List.{List}
 use Rattle.layout.specs.declared.Block.{Block}
 use Rattle.layout.specs.declared.Label.{Label}
 use Rattle.layout.specs.Places.{labelOf}
-use Rattle.protocol.specs.Plan.{Call, format, step, flush, reopen, offer, fetch, landFetch, lookUp, view, writeBack, land}
+use Rattle.protocol.specs.Plan.{Call, format, step, flush, reopen, offer, fetch, landFetch, lookUp, view, writeBack, land, ask, Ask, slotMap}
 
 -- what a call is for, as far as conditions and the plain disk differ by it
 pub data Purpose : Type 0 where
@@ -13,16 +13,21 @@ pub data Purpose : Type 0 where
   -- that these bytes land
   toLand : List ℕ → Purpose
 
--- the block that a call names (0 where it names none: no such call asks for it), and what it is for
+-- the block that a call names (0 where it names none: no such call asks for it), what it is for, and how many places are lent for its
+-- answer (0 where none are)
 pub record Aim : Type 0 where
   pub block : Block
   pub purpose : Purpose
+  pub room : ℕ
 
 abbrev pub aims : Block → Purpose → Aim
-aims b p = record { block = b; purpose = p }
+aims b p = record { block = b; purpose = p; room = 0 }
 
 abbrev pub noBlock : Block
 noBlock = record { 0 = 0 }
+
+abbrev pub askAim : Ask → Aim
+askAim (slotMap n) = record { block = noBlock; purpose = toServe; room = n }
 
 -- a call begins a format of a label, reopens, makes a step, or is a service of a ready box
 pub data Kind : Type 0 where
@@ -42,6 +47,7 @@ kind (lookUp b) = aService (aims b toServe)
 kind (view b) = aService (aims b toServe)
 kind (writeBack b) = aService (aims b toServe)
 kind (land b page) = aService (aims b (toLand page))
+kind (ask a) = aService (askAim a)
 
 abbrev pub aimOf : Kind → Aim
 aimOf (aFormat l) = aims noBlock toServe

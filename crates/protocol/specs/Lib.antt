@@ -7,6 +7,7 @@ pub mod Plan
 pub mod Kinds
 pub mod Recovery
 pub mod Perform
+pub mod SlotMap
 pub mod Judge
 pub mod Calls
 pub mod Why

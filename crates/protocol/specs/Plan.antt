@@ -21,12 +21,18 @@ use Rattle.protocol.specs.Box.{Box}
 use Rattle.protocol.specs.Condition.{conditionOf}
 use Rattle.protocol.specs.Sweep.{Victim, nextSlot, sweep}
 
--- document 01's calls, with their arguments
+-- what is asked by a call that changes nothing
+pub data Ask : Type 0 where
+  -- document 02, N1: the slot map, into a buffer of so many bytes
+  slotMap : ℕ → Ask
+
+-- document 01's calls, with their arguments, and those that document 02 adds
 pub data Call : Type 0 where
   format : ℕ → ℕ → Call
   step flush reopen : Call
   offer fetch landFetch lookUp view writeBack : Block → Call
   land : Block → List ℕ → Call
+  ask : Ask → Call
 
 pub data Move : Type 0 where
   -- nothing changes
@@ -142,6 +148,7 @@ plan (lookUp b) x = lookingUp (conditionOf (x .table) b)
 plan (view b) x = stay done
 plan (writeBack b) x = writingBack x (conditionOf (x .table) b)
 plan (land b page) x = landing page (conditionOf (x .table) b)
+plan (ask a) x = stay done
 
 -- the moves that store metadata, a format's steps apart
 abbrev pub storesMeta : Move → Bool

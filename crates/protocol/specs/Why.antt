@@ -1,4 +1,4 @@
--- Why a call says no, in document 01's words and with no definition of Judge: which numbers belong to which call, and the
+-- Why a call says no, in the documents' words and with no definition of Judge: which numbers belong to which call, and the
 -- condition of each as a proposition.
 use Prim.Native.Nat.{ℕ, _+_, _*_, _%_, _≤_, _<_}
 use mathlib.Core.Path.{_≡_}
@@ -22,7 +22,7 @@ use Rattle.protocol.specs.Rows.{rowBlock, rowFlags, valid, dirty, writin
 use Rattle.record.specs.Record.{labelIn, windowIn}
 use Rattle.record.specs.Rule.{RecordRule}
 use Rattle.protocol.specs.Box.{Box}
-use Rattle.protocol.specs.Plan.{Call, format, step, flush, reopen, offer, fetch, landFetch, lookUp, view, writeBack, land, plan, storesMeta}
+use Rattle.protocol.specs.Plan.{Call, format, step, flush, reopen, offer, fetch, landFetch, lookUp, view, writeBack, land, ask, slotMap, plan, storesMeta}
 use Rattle.protocol.specs.Recovery.{labelAt, metasOf, entryIn}
 
 -- 2: the first page is the page of a label within the limits
@@ -154,6 +154,15 @@ AllOpen b x = (SlotOf (x .table) b → ⊥) × ((s : Slot) → IsRow (x .table) 
 abbrev pub Spent : ℕ → Call → Box → Type 0
 Spent bound c x = (storesMeta (plan c x) ≡ true) × (bound ≤ x .state .newest)
 
+-- 14 (document 02, N1): "Each line covers 60 slots": so many lines, and no fewer, cover all
+pub record Lines (slots n : ℕ) : Type 0 where
+  pub cover : slots ≤ 60 * n
+  pub no-fewer : (m : ℕ) → slots ≤ 60 * m → n ≤ m
+
+-- "the buffer is shorter than 67 × the number of lines"
+abbrev pub ShortSheet : ℕ → Box → Type 0
+ShortSheet room x = (n : ℕ) × Lines (x .state .label .slots) n × (room < 67 * n)
+
 -- the table of document 01, by calls: each call's numbers, in the order of judging, and their conditions
 abbrev pub Why : Call → Box → List (ℕ × Type 0)
 Why (format slots blocks) x = (1, Limits (labelOf slots blocks) → ⊥) ∷ (4, Lengths (labelOf slots blocks) x → ⊥) ∷ []
@@ -175,6 +184,7 @@ Why (writeBack b) x =
     (3, BadRecord x) ∷ (4, BadLengths x) ∷ (5, BadRows x) ∷ (6, NotReady x) ∷ (7, TooHigh b x) ∷ (8, SlotOpen b x) ∷ []
 Why (land b page) x =
     (3, BadRecord x) ∷ (4, LandLengths page x → ⊥) ∷ (5, BadRows x) ∷ (6, NotReady x) ∷ (7, TooHigh b x) ∷ (9, NotToLand b x) ∷ []
+Why (ask (slotMap n)) x = (3, BadRecord x) ∷ (4, BadLengths x) ∷ (5, BadRows x) ∷ (6, NotReady x) ∷ (14, ShortSheet n x) ∷ []
 
 -- "Least number first .. A number is used if its condition holds for that call, and in no other case": n is the first of the
 -- call's numbers whose condition holds; a number that is not the call's is never given
@@ -187,10 +197,10 @@ abbrev pub NoneWhy : List (ℕ × Type 0) → Type 0
 NoneWhy [] = Unit {0}
 NoneWhy (w ∷ ws) = (w .1 → ⊥) × NoneWhy ws
 
--- the order of judging: by number, but for 10 before 8 (document 02, N9). Document 02 puts more numbers between these (the first of
--- them, 14, between 6 and 7), so it is a list of its own, and every call's numbers are some of these in this order
+-- the order of judging: by number, but for 14 after 6 and 10 before 8 (document 02, N1 and N9). It is a list of its own, and every
+-- call's numbers are some of these in this order
 abbrev pub turns : List ℕ
-turns = 1 ∷ 2 ∷ 3 ∷ 4 ∷ 5 ∷ 6 ∷ 7 ∷ 10 ∷ 8 ∷ 9 ∷ 11 ∷ 12 ∷ 13 ∷ []
+turns = 1 ∷ 2 ∷ 3 ∷ 4 ∷ 5 ∷ 6 ∷ 14 ∷ 7 ∷ 10 ∷ 8 ∷ 9 ∷ 11 ∷ 12 ∷ 13 ∷ []
 
 unfoldable pub inTurn : List ℕ → List (ℕ × Type 0) → Bool
 inTurn [] [] = true

@@ -2,10 +2,10 @@
 
 use crate::drawing;
 use crate::drives::{FieldBox, GEOMETRY};
-use crate::files::{land, offer, pages, read_file, slot_of, OTHERS, SCANS, SURVEY};
+use crate::files::{land, offer, pages, read_file, slot_of, OLD_PLAN, OTHERS, SCANS, SURVEY};
 use crate::plot::plot;
 use crate::survey;
-use ferjulm::{Block, Offered, Phase, Saved, PAGE};
+use ferjulm::{Block, Fetched, Offered, Phase, Saved, PAGE};
 use std::error::Error;
 use std::fs;
 use std::path::Path;
@@ -111,15 +111,29 @@ pub fn thursday(
     let flushed = field.call(|cache| cache.flush(), Saved::stored)?;
     assert!(flushed.stored().is_some(), "writes were unconfirmed");
     println!("  flush: Done");
+    for block in SURVEY {
+        let saved = field.call(|cache| cache.write_back(Block(block)), Saved::stored)?;
+        assert!(saved.stored().is_some(), "the block was dirty");
+    }
+    println!("  The survey is written back to the disk: its slots are clean.");
     Ok(file)
 }
 
 pub fn friday(field: &mut FieldBox) -> Done {
-    println!("Friday: other writes are announced; the generator stops before they land.");
+    println!("Friday: other writes are announced, and an old plan is fetched; the generator stops before they land.");
     for block in OTHERS {
         announce(field, Block(block))?;
     }
-    Ok(())
+    loop {
+        let fetched = field.call(|cache| cache.fetch(OLD_PLAN), Fetched::stored)?;
+        if let Fetched::Announced { slot, .. } = fetched {
+            println!(
+                "  block {} is being fetched into slot {}",
+                OLD_PLAN.0, slot.0
+            );
+            return Ok(());
+        }
+    }
 }
 
 pub fn saturday(field: &mut FieldBox) -> Done {
@@ -142,11 +156,11 @@ pub fn saturday(field: &mut FieldBox) -> Done {
     }
     assert_eq!(steps, 1, "one metadata page had pending slots");
     println!("  mending took {steps} step");
-    for block in OTHERS {
+    for block in OTHERS.map(Block).chain([OLD_PLAN]) {
         assert_eq!(
-            slot_of(field, Block(block))?,
+            slot_of(field, block)?,
             None,
-            "a write that had not landed is dropped"
+            "what had not landed is dropped"
         );
     }
     Ok(())

@@ -9,6 +9,8 @@ use std::ops::Range;
 pub const SURVEY: Range<u32> = 8..13;
 pub const SCANS: Range<u32> = 32..43;
 pub const OTHERS: Range<u32> = 20..23;
+/// A block of another file that is read.
+pub const OLD_PLAN: Block = Block(50);
 
 /// A file as the pages of its blocks, zero past its end.
 pub fn pages(file: &[u8], blocks: Range<u32>) -> Vec<(Block, [u8; PAGE])> {

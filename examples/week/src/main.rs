@@ -1,6 +1,6 @@
 //! A surveyor's week on a field box: a survey is saved, read, crowded out, corrected and flushed; power fails, the box
 //! reopens and recovers, and the file that is copied to the office is Thursday's. Each day checks itself and shows the listing
-//! of the SSD. `run` beside this builds what is needed first.
+//! of the SSD and the slot map. `run` beside this builds what is needed first.
 
 mod days;
 mod drawing;
@@ -31,8 +31,17 @@ fn list(field: &FieldBox, listing: &Path) -> Done {
     for line in text.lines() {
         println!("    {line}");
     }
-    println!();
     Ok(())
+}
+
+/// Shows the slot map: its letters.
+fn map(field: &mut FieldBox) -> Result<String, Box<dyn std::error::Error>> {
+    let mut sheet = vec![0; GEOMETRY.map_bytes()];
+    field.read(|cache| cache.map(&mut sheet))?;
+    let text = String::from_utf8(sheet)?;
+    let line = text.trim_end();
+    println!("    {line}\n");
+    Ok(line[6..].to_string())
 }
 
 /// The disk as last year left it: an older survey, and other files.
@@ -57,20 +66,29 @@ fn week(folder: &Path, listing: &Path) -> Done {
     while field.read(|cache| cache.record().phase()) != Some(Phase::Ready) {
         field.call(|cache| cache.step(), Some)?;
     }
+    let mut maps = String::new();
+    let mut show = |field: &mut FieldBox| -> Done {
+        list(field, listing)?;
+        maps += &map(field)?;
+        Ok(())
+    };
     days::monday(&mut field, &first)?;
-    list(&field, listing)?;
+    show(&mut field)?;
     days::tuesday(&mut field, &first)?;
-    list(&field, listing)?;
+    show(&mut field)?;
     days::wednesday(&mut field, &first)?;
-    list(&field, listing)?;
+    show(&mut field)?;
     let second = days::thursday(&mut field, &typed, &legs)?;
-    list(&field, listing)?;
+    show(&mut field)?;
     days::friday(&mut field)?;
-    list(&field, listing)?;
+    show(&mut field)?;
     days::saturday(&mut field)?;
-    list(&field, listing)?;
+    show(&mut field)?;
     days::sunday(&mut field, &second, folder)?;
-    list(&field, listing)
+    show(&mut field)?;
+    let all = ".cdwf".chars().all(|letter| maps.contains(letter));
+    assert!(all, "the week's maps have all five letters: {maps}");
+    Ok(())
 }
 
 /// The repository that cargo runs this in, and the program that lists an SSD.

@@ -6,7 +6,7 @@ use crate::plain::Plain;
 use crate::proved::Proved;
 use crate::report::{grouped, Table};
 use crate::timing::{alternate, compared, Times};
-use crate::world::{meta_pages, Call, Side, PHASE, RECOVERING, STEPS};
+use crate::world::{map_bytes, meta_pages, Call, Side, PHASE, RECOVERING, STEPS};
 
 /// Slots, blocks, boxes that are timed together, turns.
 type Size = (u32, u32, usize, usize);
@@ -32,6 +32,8 @@ fn held<S: Side>(b: &mut Bench) {
     b.time::<S>("look up, not cached", 107, Call::LookUp(b.spare));
     b.time::<S>("look up, clean", 108, Call::LookUp(block));
     b.time::<S>("view", 0, Call::View(block));
+    let room = map_bytes(b.boxes[0].record[0]);
+    b.time::<S>("map", 0, Call::Map(room));
     b.close_last();
     b.time::<S>("offer, announced (clean)", 101, Call::Offer(block));
     b.time::<S>("look up, open for writing", 110, Call::LookUp(block));

@@ -7,7 +7,7 @@ use crate::plain::Plain;
 use crate::proved::Proved;
 use crate::report::grouped;
 use crate::rng::{scattered, Rng};
-use crate::world::{meta_pages, Call, Side, World, COUNT, NEWEST, PHASE, READY, RECORD};
+use crate::world::{map_bytes, meta_pages, Call, Side, World, COUNT, NEWEST, PHASE, READY, RECORD};
 use std::collections::BTreeMap;
 
 /// How often each result code was seen.
@@ -64,6 +64,7 @@ fn wrong(rng: &mut Rng, slots: u32) -> (Place, u32) {
 /// A call that fits the phase more often than not, and often names an open block; while `opening`, none is landed.
 fn random_call<'a>(rng: &mut Rng, w: &World, opening: bool, page: &'a [u8]) -> Call<'a> {
     let (slots, blocks) = ((w.table.len() / 2) as u32, (w.hdd.len() / PAGE) as u32);
+    let room = map_bytes(slots);
     let open = &w.record[8..8 + w.record[COUNT] as usize];
     let block = match rng.below(3) {
         0 if !open.is_empty() => w.table[2 * rng.pick(open) as usize],
@@ -78,7 +79,8 @@ fn random_call<'a>(rng: &mut Rng, w: &World, opening: bool, page: &'a [u8]) -> C
         2..=15 => Call::Reopen,
         16..=19 => Call::Step,
         20..=59 => Call::Flush,
-        60..=129 => Call::WriteBack(block),
+        60..=119 => Call::WriteBack(block),
+        120..=129 => Call::Map(rng.pick(&[0, room - 1, room, room, room, room + 1, room + 67])),
         130..=189 => Call::View(block),
         190..=289 => Call::LookUp(block),
         290..=389 => Call::Fetch(block),
@@ -132,15 +134,15 @@ pub fn run() -> String {
     for (slots, blocks, calls) in sizes {
         agree(slots, blocks, calls, &mut seen);
     }
-    let all: Vec<u32> = (0..=13).chain(101..=103).chain(106..=111).collect();
+    let all: Vec<u32> = (0..=14).chain(101..=103).chain(106..=111).collect();
     assert!(seen.keys().eq(&all), "the result codes seen: {seen:?}");
     let random: u32 = seen.values().sum();
     let refused: u32 = seen.range(1..100).map(|(_, n)| n).sum();
     calls::OPEN.iter().for_each(|(_, open)| calls::check(*open));
     format!(
-        "{} random calls, {} of them refused, with every answer and every number from 1 to 13 among them, and the calls\n\
+        "{} random calls, {} of them refused, with every answer and every number from 1 to 14 among them, and the calls\n\
          that are timed, with 0, 16 and 63 slots open: both sides gave the same code, named the same\n\
-         slot and page, and left the same record, table and images.\n",
+         slot and page, and left the same record, table, images and sheet.\n",
         grouped(random),
         grouped(refused)
     )

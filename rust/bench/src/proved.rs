@@ -26,6 +26,9 @@ impl Side for Proved {
             Call::LandFetch(block) => lend!(land_fetch, w, (block), image offset),
             Call::LookUp(block) => lend!(look_up, w, (block), slot),
             Call::View(block) => lend!(view, w, (block), image offset),
+            Call::Map(room) => {
+                calls::map(&w.ssd, &w.hdd, &w.table, &w.record, &mut w.sheet[..room])
+            }
             Call::WriteBack(block) => lend!(write_back, w, (block), image offset),
             Call::Flush => lend!(flush, w, (), image offset),
             Call::Reopen => lend!(reopen, w, (),),

@@ -20,14 +20,20 @@ pub fn meta_pages(slots: u32) -> u32 {
     slots.div_ceil(240)
 }
 
-/// What a call is lent, and what it sets besides: a slot, and the page that it stored or that a view found. A refusal leaves
-/// them as they were.
+/// The length of a slot map.
+pub fn map_bytes(slots: u32) -> usize {
+    67 * slots.div_ceil(60) as usize
+}
+
+/// What a call is lent, the sheet of a slot map among it, and what it sets besides: a slot, and the page that it stored or that a view
+/// found. A refusal leaves them as they were.
 #[derive(PartialEq)]
 pub struct World {
     pub ssd: Image,
     pub hdd: Image,
     pub table: Vec<u32>,
     pub record: Vec<u32>,
+    pub sheet: Vec<u8>,
     pub slot: u32,
     pub image: u32,
     pub offset: u64,
@@ -45,6 +51,7 @@ impl World {
             hdd: Image::new(blocks as usize),
             table: vec![0; 2 * slots as usize],
             record,
+            sheet: vec![0xa5; map_bytes(slots) + 67],
             slot: 0,
             image: 0,
             offset: 0,
@@ -106,6 +113,8 @@ pub enum Call<'a> {
     LandFetch(u32),
     LookUp(u32),
     View(u32),
+    /// A slot map into so many bytes of the sheet.
+    Map(usize),
     WriteBack(u32),
     Flush,
     Reopen,

@@ -15,6 +15,8 @@ pub enum Call {
     LandFetch(Block),
     LookUp(Block),
     View(Block),
+    /// Into a buffer of so many bytes.
+    Map(usize),
     WriteBack(Block),
     Flush,
 }
@@ -26,7 +28,7 @@ impl Call {
         let at = text.find(char::is_numeric).unwrap_or(text.len());
         let (name, arguments) = text.split_at(at);
         let arguments: Vec<&str> = arguments.split(' ').collect();
-        let number = |at: usize| arguments[at].parse().expect("a number");
+        let number = |at: usize| arguments[at].parse::<u32>().expect("a number");
         let block = || Block(number(0));
         match name.trim_end() {
             "format" => Call::Format(Geometry {
@@ -41,6 +43,7 @@ impl Call {
             "land fetch" => Call::LandFetch(block()),
             "look up" => Call::LookUp(block()),
             "view" => Call::View(block()),
+            "map" => Call::Map(number(0) as usize),
             "write back" => Call::WriteBack(block()),
             "flush" => Call::Flush,
             _ => panic!("no call: {text}"),

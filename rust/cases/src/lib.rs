@@ -9,6 +9,8 @@ mod landings;
 mod listed;
 mod lists;
 pub mod looked;
+pub mod mapped;
+mod maps;
 mod orders;
 mod paper;
 pub mod place;
@@ -22,7 +24,7 @@ mod stamps;
 pub mod stored;
 mod windows;
 
-/// What the fixed lists come to, a line for each case; `expected.txt` was written from document 01.
+/// What the fixed lists come to, a line for each case; `expected.txt` was written from the documents.
 pub fn lines() -> Vec<String> {
     [
         paper::lines(),
@@ -33,6 +35,7 @@ pub fn lines() -> Vec<String> {
         orders::lines(),
         refusals::lines(),
         windows::lines(),
+        maps::lines(),
         stamps::lines(),
         generated::lines(),
     ]

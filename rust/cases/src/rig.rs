@@ -2,6 +2,7 @@
 
 pub use crate::call::{Answer, Call, Made, Said};
 use crate::looked;
+use crate::mapped;
 use crate::place::{check_alone, check_told, Memory};
 use crate::stored::page;
 use ferjulm::{calls, Block, Cache, Geometry, Images, Phase, Record, Refusal, Slot, PAGE};
@@ -67,12 +68,13 @@ impl Rig {
         made
     }
 
-    /// Makes a call, and checks the page that it names by document 01 alone, and what a look-up answers and leaves: for a caller
-    /// that compares images itself.
+    /// Makes a call, and checks the page that it names by document 01 alone, what a look-up answers and leaves, and what a map writes:
+    /// for a caller that compares images itself.
     pub fn make_told(&mut self, call: &Call) -> Made {
         let before = Memory::of(self);
         let made = self.call(call);
         check_told(&before, call, &made);
+        mapped::check(&before, self, call);
         looked::check(before, self, call, &made);
         made
     }
@@ -92,6 +94,7 @@ impl Rig {
             Call::LandFetch(block) => cache.land_fetch(*block).map(Made::from),
             Call::LookUp(block) => cache.look_up(*block).map(Made::from),
             Call::View(block) => cache.view(*block).map(|_| Made::from(())),
+            Call::Map(room) => mapped::map(self, *room).map(Made::from),
             Call::WriteBack(block) => cache.write_back(*block).map(Made::from),
             Call::Flush => cache.flush().map(Made::from),
         }

@@ -18,8 +18,8 @@ use crate::{WrongLength, PAGE};
 /// store it is as good as cut off: reopen what the drives have.
 ///
 /// # Threads
-/// A box is `Send` and `Sync`. One thread at a time makes calls, since they take `&mut self`; but [`view`](Cache::view) takes
-/// `&self`, so that several threads may view at once, and read the pages that they were lent.
+/// A box is `Send` and `Sync`. One thread at a time makes calls, since they take `&mut self`; but [`view`](Cache::view) and
+/// [`map`](Cache::map) take `&self`, so that several threads may view at once, and read the pages that they were lent.
 ///
 /// # Errors
 /// Every call but format and reopen may be refused by 3 (the record), 4 (a length), 5 (the table) and 6 (the phase). The
@@ -207,6 +207,44 @@ impl<'a> Cache<'a> {
         let place = out.stored();
         let page = self.page(place);
         Ok(View { place, page })
+    }
+
+    /// The slot map: the whole cache as text, over the first [`map_bytes`](Geometry::map_bytes) bytes of a buffer; those after them
+    /// stay. Each line covers 60 slots: the first slot's number in 5 columns, a space, and a letter for each: `.` free, `c` clean, `d`
+    /// dirty, `w` open for writing, `f` open for fetch; past the last slot spaces. Changes nothing else.
+    ///
+    /// ```
+    /// use ferjulm::{Block, Cache, Geometry, Images, Record, Refusal, PAGE};
+    ///
+    /// let geometry = Geometry { slots: 62, blocks: 99 };
+    /// let (mut images, mut record) = (Images::zeroed(geometry), Record::default());
+    /// let mut table = vec![0; geometry.table_words()];
+    /// let mut cache = Cache::new(images.lend(), &mut table, &mut record);
+    /// cache.format(geometry)?;
+    /// cache.finish(|_, _| Ok::<(), Refusal>(()))?;
+    /// cache.offer(Block(5))?;
+    /// cache.land(Block(5), &[7; PAGE])?;
+    /// cache.fetch(Block(6))?;
+    /// cache.land_fetch(Block(6))?;
+    /// cache.fetch(Block(7))?;
+    /// cache.offer(Block(8))?;
+    ///
+    /// let mut sheet = vec![0; geometry.map_bytes()];
+    /// cache.map(&mut sheet)?;
+    /// let text = String::from_utf8(sheet).unwrap();
+    /// let lines: Vec<&str> = text.lines().collect();
+    /// assert_eq!(lines[0], format!("    0 dcfw{}", ".".repeat(56)));
+    /// assert_eq!(lines[1], format!("   60 ..{}", " ".repeat(58)));
+    /// assert_eq!(cache.map(&mut [0; 133]).unwrap_err().number(), 14);
+    /// # Ok::<(), Refusal>(())
+    /// ```
+    ///
+    /// # Errors
+    /// 3 to 6, and 14 (the buffer is too short).
+    pub fn map(&self, sheet: &mut [u8]) -> Result<(), Refusal> {
+        let (ssd, hdd, words) = (&*self.images.ssd, &*self.images.hdd, &self.record.0);
+        let code = calls::map(ssd, hdd, self.table, words, sheet);
+        self.judged(code).map(|_| ())
     }
 
     /// Writes a block back: stored if it was dirty, its page on the HDD; else nothing to do.

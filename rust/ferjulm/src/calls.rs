@@ -92,6 +92,13 @@ pub fn land(
     lend!(ferjulm_land(ssd, hdd, table, record; block, page, page_len, image, offset))
 }
 
+/// Writes the slot map over the first bytes of a sheet.
+#[inline]
+pub fn map(ssd: &[u8], hdd: &[u8], table: &[u32], record: &[u32], sheet: &mut [u8]) -> u32 {
+    let (sheet, sheet_len) = sheet.lent();
+    lend!(ferjulm_map(ssd, hdd, table, record; sheet, sheet_len))
+}
+
 /// Reads the label page of an SSD image: 0 with `slots` and `blocks` set, or 2.
 #[inline]
 pub fn label(ssd: &[u8], slots: &mut u32, blocks: &mut u32) -> u32 {

@@ -51,6 +51,11 @@ impl Geometry {
         2 * self.slots as usize
     }
 
+    /// Bytes of a slot map: a line of 67 for each 60 slots.
+    pub fn map_bytes(self) -> usize {
+        67 * (self.slots as usize).div_ceil(60)
+    }
+
     /// Where a slot's page begins in the SSD image.
     pub fn slot_at(self, slot: Slot) -> usize {
         (1 + self.metadata_pages() + slot.0 as usize) * PAGE

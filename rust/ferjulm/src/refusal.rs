@@ -34,7 +34,7 @@ pub enum Lent {
 }
 
 /// The conditions of documents 01 and 02 by number from 1; 5, 9, 11 and 13 are shortened.
-const REASONS: [&str; 13] = [
+const REASONS: [&str; 14] = [
     "format: slots or blocks outside the limits",
     "reopen: SSD under a page, or first page no legal label",
     "a record number out of range, window repeated or not zero past its length",
@@ -48,6 +48,7 @@ const REASONS: [&str; 13] = [
     "a fetch, or an offer of a block that isn't dirty, while 63 are open",
     "a slot must be swept for, all are open",
     "this call would store metadata, and too few stamps are left",
+    "map: the buffer is shorter than 67 × the number of lines",
 ];
 
 impl Refusal {
@@ -63,12 +64,12 @@ impl Refusal {
             .then(|| refusal(code))
     }
 
-    /// Document 01's number, 1 to 13.
+    /// The documents' number, 1 to 14.
     pub fn number(self) -> u32 {
         self.number
     }
 
-    /// The condition, in document 01's words.
+    /// The condition, in the documents' words.
     pub fn reason(self) -> &'static str {
         REASONS[self.number as usize - 1]
     }

@@ -11,12 +11,13 @@ const SMALL: Geometry = Geometry {
 /// The wrong length that each call tells, of a box that judges by this geometry.
 fn lengths(rig: &mut Rig, geometry: Geometry) -> Vec<WrongLength> {
     let mut cache = rig.cache();
-    let said: [Result<(), Refusal>; 6] = [
+    let said: [Result<(), Refusal>; 7] = [
         cache.format(geometry),
         cache.reopen(),
         cache.offer(Block(5)).map(|_| ()),
         cache.land(Block(5), &[0; PAGE]).map(|_| ()),
         cache.view(Block(5)).map(|_| ()),
+        cache.map(&mut []),
         cache.flush().map(|_| ()),
     ];
     said.iter()
@@ -54,7 +55,7 @@ fn number_4_tells_the_length_that_was_expected() {
     for (resize, expected) in cases {
         let mut rig = Rig::formatted(SMALL);
         resize(&mut rig);
-        assert_eq!(lengths(&mut rig, SMALL), [expected; 6]);
+        assert_eq!(lengths(&mut rig, SMALL), [expected; 7]);
     }
 }
 
@@ -80,7 +81,7 @@ fn a_refusal_in_words() {
 fn refusals_of_result_codes() {
     for code in (0..200).chain([u32::MAX]) {
         let refusal = Refusal::of_code(code);
-        let number = (1..=13).contains(&code).then_some(code);
+        let number = (1..=14).contains(&code).then_some(code);
         assert_eq!(refusal.map(Refusal::number), number);
         assert!(refusal.is_none_or(|refusal| !refusal.reason().is_empty()));
     }

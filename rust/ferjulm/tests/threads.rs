@@ -1,4 +1,4 @@
-//! What holds of threads: a box goes from one to another, and several may view it at once.
+//! What holds of threads: a box goes from one to another, and several may view and map it at once.
 
 use cases::rig::{Call, Rig};
 use cases::stored::{named, page};
@@ -20,7 +20,7 @@ fn everything_is_send_and_sync() {
 }
 
 #[test]
-fn several_threads_view_one_box_at_once() {
+fn several_threads_view_and_map_one_box_at_once() {
     let mut rig = Rig::formatted(Geometry {
         slots: 4,
         blocks: 8,
@@ -44,6 +44,9 @@ fn several_threads_view_one_box_at_once() {
                     assert!(view.page == &expected[..], "block {block}");
                     let cached = [5, 2].contains(&block);
                     assert_eq!(view.place.image == Image::Ssd, cached, "block {block}");
+                    let mut sheet = [0; 67];
+                    cache.map(&mut sheet).expect("a map");
+                    assert!(sheet.starts_with(b"    0 dcw. "), "the map");
                 }
             });
         }

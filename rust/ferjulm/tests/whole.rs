@@ -1,5 +1,6 @@
 //! The largest box: 57,600 slots, 240 metadata pages.
 
+use cases::mapped;
 use cases::place::{hdd, page_of, ssd};
 use cases::rig::{word, Answer, Call, Rig, Said};
 use cases::stored::{label, label_page, page, Meta, Metas, LANDED_PAGES};
@@ -98,8 +99,22 @@ fn written() -> Whole {
     assert_eq!(whole.make(&Call::Flush), Ok(Answer::NothingToDo));
     whole.rig.set(word::HAND, 24_000);
     offer(&mut whole, 200, 24_000);
+    // 960 lines; the last begins at slot 57,540
+    let lines = mapped::lines(&whole.rig.table);
+    assert!(lines.len() == 960 && lines[959].starts_with("57540 .........."));
+    assert!(lines[959].ends_with("dddddwddddddddddddddddddddddwd"));
+    assert_eq!(whole.make(&whole_map(0)), Ok(Answer::Done));
+    assert_eq!(whole.make(&whole_map(1)), Ok(Answer::Done));
+    let short = whole.make(&Call::Map(WHOLE.map_bytes() - 1));
+    assert_eq!(short.map_err(|refusal| refusal.number()), Err(14));
     whole.check_images();
     whole
+}
+
+/// A map into a buffer that is so much longer than it.
+fn whole_map(more: usize) -> Call {
+    assert_eq!(WHOLE.map_bytes(), 64_320);
+    Call::Map(64_320 + more)
 }
 
 /// What every block reads as that has to do with the list: landed and kept, or dropped and not cached.

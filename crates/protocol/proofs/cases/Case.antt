@@ -37,7 +37,7 @@ scripted l w es bs wanted = record { sizes = l; world = w; events = es; asked = 
 
 -- A case: a script; the bytes of the SSD image after some events; metadata pages, and what a reopening makes of them; a call, and
 -- its effect on a box; its move alone, for which lengths do not matter; the page that it names as stored; the closed slot that
--- it names; whether a refusal's condition holds.
+-- it names; whether a refusal's condition holds; a text, and its bytes.
 pub data Case : Type 0 where
   script : Script → Case
   bytes : World → List Event → ℕ → Case
@@ -46,6 +46,7 @@ pub data Case : Type 0 where
   names : Call → Box → Stored → Case
   closed : Call → Box → Option Slot → Case
   condition : Reason → Call → Box → Bool → Case
+  written : List ℕ → List ℕ → Case
 
 abbrev pub Holds : Case → Type 0
 Holds (script p) = report (p .sizes) (p .events) (p .asked) (p .world) ≡ p .wanted
@@ -56,6 +57,7 @@ Holds (move c x wanted) = perform (plan c x) x ≡ wanted
 Holds (names c x wanted) = left (perform (plan c x) x) (x .images) .stored ≡ wanted
 Holds (closed c x wanted) = slotSaid (perform (plan c x) x .said) ≡ wanted
 Holds (condition r c x wanted) = test r c x ≡ wanted
+Holds (written t wanted) = t ≡ wanted
 
 abbrev pub AllHold : List Case → Type 0
 AllHold [] = Unit {0}

@@ -21,7 +21,7 @@ use Rattle.record.specs.declared.Phase.the-variants.{Recovering}
 use Rattle.record.specs.Record.{recordOf}
 use Rattle.protocol.specs.Reply.{refused, nothingToDo}
 use Rattle.protocol.specs.Box.{Box, Store, Result, boxAfter}
-use Rattle.protocol.specs.Plan.{Call, format, step, flush, reopen, offer, fetch, landFetch, lookUp, view, writeBack, land}
+use Rattle.protocol.specs.Plan.{Call, format, step, flush, reopen, offer, fetch, landFetch, lookUp, view, writeBack, land, ask, Ask, slotMap}
 use Rattle.protocol.specs.Kinds.{kind, aim}
 use Rattle.protocol.specs.Judge.{isReady}
 use Rattle.protocol.specs.Calls.{effectOf, resultOf}
@@ -107,6 +107,10 @@ module _ (w : World) where
     unfed (writeBack b) refl refl,
   )
 
+  -- and a slot map (document 02, N1)
+  pub map-unfed : (n : ℕ) → Unfed (ask (slotMap n))
+  map-unfed n = unfed (ask (slotMap n)) refl refl
+
   -- "A cut finds .. the page of the call it breaks off old or new; that call counts as made exactly if its store was done"
   pub cut-old : (c : Call) → crashed c old w ≡ w
   unfolding crashed
@@ -121,10 +125,10 @@ module _ (w : World) where
   cut-idle c h = rw h
 
   -- "Calls that later requests add to the box join it, as do refused formats"
-  pub calls-join : (b : Block) (page : List ℕ)
+  pub calls-join : (b : Block) (page : List ℕ) (a : Ask)
       → CallFits step w × CallFits flush w × CallFits reopen w × CallFits (offer b) w × CallFits (fetch b) w × CallFits (landFetch b) w
-      × CallFits (lookUp b) w × CallFits (view b) w × CallFits (writeBack b) w × CallFits (land b page) w
-  calls-join b page = (tt, tt, tt, tt, tt, tt, tt, tt, tt, tt)
+      × CallFits (lookUp b) w × CallFits (view b) w × CallFits (writeBack b) w × CallFits (land b page) w × CallFits (ask a) w
+  calls-join b page a = (tt, tt, tt, tt, tt, tt, tt, tt, tt, tt, tt)
 
   pub refused-format-joins : (slots blocks : ℕ) → refused (R (format slots blocks) .said) ≡ true
       → CallFits (format slots blocks) w

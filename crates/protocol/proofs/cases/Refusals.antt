@@ -9,7 +9,7 @@ use Rattle.record.specs.declared.Record.{Record}
 use Rattle.record.specs.declared.Phase.the-variants.{Formatting, Recovering, Ready}
 use Rattle.record.specs.Record.{recordOf}
 use Rattle.protocol.specs.Box.{Box, Effect, refusing}
-use Rattle.protocol.specs.Plan.{Call, format, step, flush, offer, land, fetch, landFetch, lookUp, reopen, writeBack}
+use Rattle.protocol.specs.Plan.{Call, format, step, flush, offer, land, fetch, landFetch, lookUp, reopen, writeBack, ask, slotMap}
 use Rattle.protocol.specs.Judge.{windowFull, allOpen, labelFor, lengthsTest, lengthTest, judged, stampsSpent}
 use Rattle.protocol.specs.Calls.{effectOf}
 use Rattle.protocol.proofs.cases.Report.{diskOf, filled, metaPage, labelPage}
@@ -159,12 +159,14 @@ call-refusals =
     ∷ refusesBy 13 flush (boxed (0 ∷ 0 ∷ []) (unsettledAt 4294967295))
     ∷ []
 
--- a look-up while mending; block 2 of 2 where a fetch lands; a fetch with all slots open
+-- a look-up while mending; block 2 of 2 where a fetch lands; a fetch with all slots open; a map into 66 bytes, and while mending into none
 abbrev pub edge-refusals : List Case
 edge-refusals =
     refusesBy 6 (lookUp (record { 0 = 0 })) (boxed (0 ∷ 0 ∷ []) (recordOf one (record { 0 = 0 }) 1 Recovering false (record { 0 = 0 } ∷ [])))
     ∷ refusesBy 7 (landFetch (record { 0 = 2 })) (boxed (0 ∷ 5 ∷ []) (openAt 1))
     ∷ refusesBy 12 (fetch (record { 0 = 1 })) (boxed (0 ∷ 7 ∷ []) (openAt 1))
+    ∷ refusesBy 14 (ask (slotMap 66)) (boxed (0 ∷ 7 ∷ []) (openAt 1))
+    ∷ refusesBy 6 (ask (slotMap 0)) (boxed (0 ∷ 0 ∷ []) (recordOf one (record { 0 = 0 }) 1 Recovering false (record { 0 = 0 } ∷ [])))
     ∷ []
 
 Stamps : AllHold stamps
@@ -224,7 +226,13 @@ Call-refusals =
 
 Edge-refusals : AllHold edge-refusals
 unfolding known textOf
-Edge-refusals = Call-refusals first counted _ _ _ _ refl refl also counted _ _ _ _ refl refl also counted _ _ _ _ refl refl also tt
+Edge-refusals =
+    Call-refusals first counted _ _ _ _ refl refl
+    also counted _ _ _ _ refl refl
+    also counted _ _ _ _ refl refl
+    also counted _ _ _ _ refl refl
+    also counted _ _ _ _ refl refl
+    also tt
 
 pub Refusals : AllHold refusals
 unfolding known textOf effectOf judged lengthTest lengthsTest

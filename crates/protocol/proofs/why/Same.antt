@@ -1,10 +1,11 @@
 -- Each call's tests, in their order, are its numbers and conditions in document 01's words.
-use Prim.Native.Nat.{ℕ, _≤_}
+use Prim.Native.Nat.{ℕ, _*_, _≤_, _<_}
 use mathlib.Core.Path.{_≡_, refl, ap}
 use mathlib.Core.Bool.{Bool, true, not, _&&_, Bool·not-not}
 use mathlib.Core.List.{List, [], _∷_}
-use lib.Dec.{leb}
-use borrow.Author.Tests.{leb-true, le-leb}
+use native.Mathlib.Omega.{arith}
+use lib.Dec.{leb, ltb}
+use borrow.Author.Tests.{leb-true, le-leb, ltb-true, lt-ltb}
 use Rattle.layout.specs.declared.Block.{Block}
 use Rattle.layout.specs.Places.{labelOf}
 use Rattle.layout.proofs.PlaceLaws.{within}
@@ -18,10 +19,11 @@ use Rattle.record.specs.Rule.{recordTest}
 use Rattle.protocol.specs.Rows.{writing, allWriting}
 use Rattle.protocol.specs.Box.{Box}
 use Rattle.protocol.specs.Condition.{conditionOf, isOpen, isCached}
-use Rattle.protocol.specs.Plan.{Call, format, step, flush, reopen, offer, fetch, landFetch, lookUp, view, writeBack, land, plan, storesMeta}
+use Rattle.protocol.specs.Plan.{Call, format, step, flush, reopen, offer, fetch, landFetch, lookUp, view, writeBack, land, ask, slotMap, plan, storesMeta}
 use Rattle.protocol.specs.Recovery.{labelAt, metasOf}
+use Rattle.protocol.specs.SlotMap.{mapLines, mapBytes}
 use Rattle.protocol.specs.Judge.{Reason, numberOf, lengthTest, rowsTest, isReady, test, chain}
-use Rattle.protocol.specs.Why.{BadRecord, BadLengths, BadRows, NotReady, TooHigh, SlotOpen, AllOpen, Spent, Why, turns, inTurn}
+use Rattle.protocol.specs.Why.{BadRecord, BadLengths, BadRows, NotReady, TooHigh, SlotOpen, AllOpen, Spent, Lines, ShortSheet, Why, turns, inTurn}
 use Rattle.protocol.proofs.why.Basics.{none-same, and-same, is-same}
 use Rattle.protocol.proofs.why.Records.{label-same, lengths-same, land-lengths-same}
 use Rattle.protocol.proofs.why.RowsRules.{each-same, rows-same}
@@ -77,7 +79,20 @@ module _ (x : Box) where
   stamps-asked : (n : ℕ) (c : Call) → (storesMeta (plan c x) && leb n (x .state .newest)) ⇔ Spent n c x
   stamps-asked n c = and-same (is-same (storesMeta (plan c x))) (most-same n (x .state .newest))
 
--- each test says what document 01 says
+  -- the lines of a map are as many as cover all slots, and no fewer
+  lines-are : Lines (x .state .label .slots) (mapLines (labelIn (x .state)))
+  lines-are = record { cover = omega arith; no-fewer = λ m h. omega arith }
+
+  sheet-asked : (room : ℕ) → ltb room (mapBytes (labelIn (x .state))) ⇔ ShortSheet room x
+  sheet-asked room = (
+    λ h. (mapLines (labelIn (x .state)), lines-are, ltb-true _ _ h),
+    λ h. lt-ltb room _ (short (h .0) (h .1) (h .2)),
+  )
+    where
+      short : (n : ℕ) → Lines (x .state .label .slots) n → room < 67 * n → room < mapBytes (labelIn (x .state))
+      short n N h = omega (arith, N .no-fewer (mapLines (labelIn (x .state))) (lines-are .cover))
+
+-- each test says what the documents say
 pub same : (c : Call) (x : Box) → Says (λ r. test r c x) (chain c) (Why c x)
 unfolding test
 same (format slots blocks) x = none-same (within (labelOf slots blocks)) ▸ none-same (lengths-same (labelOf slots blocks) x) ▸ end
@@ -102,6 +117,7 @@ same (writeBack b) x =
 same (land b page) x =
     record-asked x ▸ none-same (land-lengths-same page x) ▸ rows-asked x ▸ phase-asked x ▸ high-asked x b
     ▸ none-same (write-same (x .table) b) ▸ end
+same (ask (slotMap n)) x = record-asked x ▸ lengths-asked x ▸ rows-asked x ▸ phase-asked x ▸ sheet-asked x n ▸ end
 
 -- every call's numbers are in the order of judging
 pub in-order : (c : Call) (x : Box) → inTurn turns (Why c x) ≡ true
@@ -117,3 +133,4 @@ in-order (lookUp b) x = refl
 in-order (view b) x = refl
 in-order (writeBack b) x = refl
 in-order (land b page) x = refl
+in-order (ask (slotMap n)) x = refl

@@ -31,15 +31,15 @@ same-slot table b s t = go (decLt (s .slot .0) (t .slot .0)) (decLt (t .slot .0)
     go (no h) (no k) = let e : t .slot .0 ≡ s .slot .0 = omega arith in ap (λ (n : ℕ). record { 0 = n }) e
 
 -- a block's condition: none without a slot, else by its slot's flags
-abbrev cachedAs : Bool → Bool → Slot → Condition
+abbrev pub cachedAs : Bool → Bool → Slot → Condition
 cachedAs true d s = openAs d s
 cachedAs false d s = closedAs d s
 
-data Found (table : List ℕ) (b : Block) : Condition → Type 0 where
+pub data Found (table : List ℕ) (b : Block) : Condition → Type 0 where
   missing : (SlotOf table b → ⊥) → Found table b NotCached
   held : (s : SlotOf table b) → Found table b (cachedAs (writing (rowFlags table (s .slot))) (dirty (rowFlags table (s .slot))) (s .slot))
 
-found : (table : List ℕ) (b : Block) → Found table b (conditionOf table b)
+pub found : (table : List ℕ) (b : Block) → Found table b (conditionOf table b)
 unfolding conditionOf
 found table b = go (located 0 table b)
   where

@@ -1,7 +1,8 @@
-//! The same calls in plain safe Rust, written from document 01, with the same checks in the same order.
+//! The same calls in plain safe Rust, written from the documents, with the same checks in the same order.
 
 mod calls;
 mod judge;
+mod map;
 mod moves;
 pub mod record;
 mod reopen;
@@ -27,6 +28,7 @@ impl Side for Plain {
             Call::LandFetch(block) => calls::land_fetch(w, block),
             Call::LookUp(block) => calls::look_up(w, block),
             Call::View(block) => calls::view(w, block),
+            Call::Map(room) => map::map(w, room),
             Call::WriteBack(block) => calls::write_back(w, block),
             Call::Flush => calls::flush(w),
             Call::Reopen => reopen::reopen(w),

@@ -11,6 +11,7 @@ pub struct Input {
     pub ssd: Vec<u8>,
     pub hdd: Vec<u8>,
     pub page: Vec<u8>,
+    pub sheet: Vec<u8>,
     pub table: Vec<u32>,
     pub record: Vec<u32>,
     pub slots: u32,
@@ -24,6 +25,7 @@ impl Input {
             ssd: rig.images.ssd,
             hdd: rig.images.hdd,
             page: page(1 << 50),
+            sheet: vec![0x5a; geometry.map_bytes()],
             table: rig.table,
             record: rig.record.words().to_vec(),
             slots: geometry.slots,
@@ -34,7 +36,7 @@ impl Input {
 
     /// Spoils one thing.
     pub fn spoil(&mut self, random: &mut Random) {
-        match random.below(15) {
+        match random.below(16) {
             0 => resize(&mut self.ssd, PAGE, random),
             1 => resize(&mut self.hdd, PAGE, random),
             2 => resize(&mut self.page, PAGE, random),
@@ -49,6 +51,7 @@ impl Input {
             11 => self.table.iter_mut().for_each(|word| *word = random.word()),
             12 => self.spoil_ssd(random),
             13 => self.double(random),
+            14 => resize(&mut self.sheet, 67, random),
             _ => self
                 .ssd
                 .iter_mut()

@@ -25,7 +25,7 @@ const fn kind(
 const ALL: &[&str] = &["ssd", "hdd", "table", "record", "slot", "place"];
 const LANDING: &[&str] = &["ssd", "table", "record", "place"];
 
-pub const KINDS: [Kind; 12] = [
+pub const KINDS: [Kind; 13] = [
     kind("format", &[1, 3, 4], &[0], &["table", "record"]),
     kind("step", &[3, 4, 5, 6, 13], &[0], &["ssd", "record", "place"]),
     kind("reopen", &[2, 3, 4, 5], &[0], &["table", "record"]),
@@ -62,6 +62,7 @@ pub const KINDS: [Kind; 12] = [
         &[0, 106],
         &["ssd", "record", "place"],
     ),
+    kind("map", &[3, 4, 5, 6, 14], &[0], &["sheet"]),
     kind("label", &[2], &[0], &["label"]),
 ];
 

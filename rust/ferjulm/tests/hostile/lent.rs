@@ -34,6 +34,7 @@ pub struct Lent {
     ssd: Guarded<u8>,
     hdd: Guarded<u8>,
     page: Guarded<u8>,
+    pub sheet: Guarded<u8>,
     pub table: Guarded<u32>,
     pub record: Guarded<u32>,
     pub slot: Guarded<u32>,
@@ -52,6 +53,7 @@ impl Lent {
             ssd: Guarded::new(&input.ssd, 0xc3),
             hdd: Guarded::new(&input.hdd, 0xc3),
             page: Guarded::new(&input.page, 0xc3),
+            sheet: Guarded::new(&input.sheet, 0xc3),
             table: Guarded::new(&input.table, 0xc3c3_c3c3),
             record: Guarded::new(&input.record, 0xc3c3_c3c3),
             slot: Guarded::new(&[UNSET], 0xc3c3_c3c3),
@@ -67,6 +69,7 @@ impl Lent {
             (&self.ssd, &other.ssd),
             (&self.hdd, &other.hdd),
             (&self.page, &other.page),
+            (&self.sheet, &other.sheet),
         ];
         let words = [
             (&self.table, &other.table),
@@ -87,6 +90,7 @@ impl Lent {
             ("ssd", self.ssd == other.ssd),
             ("hdd", self.hdd == other.hdd),
             ("page", self.page == other.page),
+            ("sheet", self.sheet == other.sheet),
             ("table", self.table == other.table),
             ("record", self.record == other.record),
             ("slot", self.slot == other.slot),
@@ -138,6 +142,7 @@ impl Lent {
             "look up" => calls::look_up(ssd, hdd, table, record, block, slot),
             "view" => calls::view(ssd, hdd, table, record, block, image, offset),
             "write back" => calls::write_back(ssd, hdd, table, record, block, image, offset),
+            "map" => calls::map(ssd, hdd, table, record, self.sheet.lent()),
             "flush" => calls::flush(ssd, hdd, table, record, image, offset),
             _ => calls::label(ssd, &mut self.slots.lent()[0], &mut self.blocks.lent()[0]),
         }

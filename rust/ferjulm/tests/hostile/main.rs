@@ -6,6 +6,7 @@ mod kinds;
 mod lent;
 
 use cases::looked::condition;
+use cases::mapped;
 use cases::random::Random;
 use cases::rig::{word, Rig};
 use cases::stored::{label, label_page};
@@ -47,6 +48,9 @@ fn check(kind: &Kind, input: &Input) -> u32 {
     check_fits(kind, &mut lent, input);
     if name == "look up" {
         check_condition(result, &mut lent, input);
+    }
+    if name == "map" {
+        check_sheet(&mut lent, input);
     }
     result
 }
@@ -110,6 +114,14 @@ fn check_condition(result: u32, lent: &mut Lent, input: &Input) {
         table[2 * slot.0 as usize + 1] |= 8;
     }
     assert!(lent.table.lent() == table, "a look-up of {condition:?}");
+}
+
+/// A map that is done has the table's lines, and then what the buffer had.
+fn check_sheet(lent: &mut Lent, input: &Input) {
+    let text = mapped::text(&input.table);
+    let rest = &input.sheet[text.len()..];
+    let sheet = [text.as_bytes(), rest].concat();
+    assert!(lent.sheet.lent() == sheet, "a map: {text}");
 }
 
 /// The page that a call names lies in its image, and no other was changed; it names one exactly where its answer says so, and
@@ -187,19 +199,19 @@ fn any_input_is_refused_or_served_within() {
 #[test]
 fn nothing_lent() {
     type Empty = fn(&mut Input);
-    const FOUR: [u32; 12] = [4, 4, 4, 4, 4, 4, 4, 4, 4, 4, 4, 0];
-    let empties: [(Empty, [u32; 12]); 5] = [
+    const FOUR: [u32; 13] = [4, 4, 4, 4, 4, 4, 4, 4, 4, 4, 4, 4, 0];
+    let empties: [(Empty, [u32; 13]); 5] = [
         (
             |input| input.record.clear(),
-            [3, 3, 3, 3, 3, 3, 3, 3, 3, 3, 3, 0],
+            [3, 3, 3, 3, 3, 3, 3, 3, 3, 3, 3, 3, 0],
         ),
         (
             |input| input.ssd.clear(),
-            [4, 4, 2, 4, 4, 4, 4, 4, 4, 4, 4, 2],
+            [4, 4, 2, 4, 4, 4, 4, 4, 4, 4, 4, 4, 2],
         ),
         (|input| input.hdd.clear(), FOUR),
         (|input| input.table.clear(), FOUR),
-        (clear_all, [3, 3, 2, 3, 3, 3, 3, 3, 3, 3, 3, 2]),
+        (clear_all, [3, 3, 2, 3, 3, 3, 3, 3, 3, 3, 3, 3, 2]),
     ];
     for (empty, numbers) in empties {
         let mut input = Input::of(Rig::formatted(SMALL), SMALL);
@@ -211,7 +223,12 @@ fn nothing_lent() {
 }
 
 fn clear_all(input: &mut Input) {
-    for bytes in [&mut input.ssd, &mut input.hdd, &mut input.page] {
+    for bytes in [
+        &mut input.ssd,
+        &mut input.hdd,
+        &mut input.page,
+        &mut input.sheet,
+    ] {
         bytes.clear();
     }
     input.table.clear();

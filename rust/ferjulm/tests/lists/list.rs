@@ -7,7 +7,7 @@ use cases::stored::{page, LANDED_PAGES};
 use ferjulm::{Block, Condition, Geometry, Slot, PAGE};
 use std::collections::{BTreeMap, BTreeSet};
 
-/// How often each call is made, in hundredths: offer, land, fetch, land a fetch, look up, view, write back, flush; the rest
+/// How often each call is made, in hundredths: offer, land, fetch, land a fetch, look up, view or map, write back, flush; the rest
 /// are calls that must be refused.
 type Weights = [u32; 8];
 
@@ -38,6 +38,8 @@ pub struct Counts {
     pub landed_twice: u32,
     /// Look-ups of a block that was not cached, clean, dirty, open for writing, open for fetch.
     pub looked_up: [u32; 5],
+    /// Slot maps that were not refused.
+    pub mapped: u32,
 }
 
 /// A list in the making.
@@ -141,6 +143,9 @@ impl<'a> List<'a> {
             2 => Call::Fetch(self.block()),
             3 => Call::LandFetch(self.open_block()),
             4 => Call::LookUp(self.block()),
+            5 if self.random.once_in(3) => {
+                Call::Map(self.b.geometry.map_bytes() + self.random.below(3) as usize)
+            }
             5 => Call::View(self.block()),
             6 => Call::WriteBack(self.block()),
             7 => Call::Flush,
@@ -152,12 +157,13 @@ impl<'a> List<'a> {
     fn refused_call(&mut self) -> Call {
         let Geometry { slots, blocks } = self.b.geometry;
         let high = Block(blocks + self.random.below(3));
-        match self.random.below(6) {
+        match self.random.below(7) {
             0 => Call::Offer(high),
             1 => Call::View(high),
             2 => Call::Land(self.open_block(), vec![0; PAGE - 1]),
             3 => Call::Step,
             4 => Call::Format(Geometry { slots: 0, blocks }),
+            5 => Call::Map(self.b.geometry.map_bytes() - 1),
             _ => Call::Format(Geometry {
                 slots: slots + 1,
                 blocks,
@@ -193,6 +199,7 @@ impl<'a> List<'a> {
         }
         match said {
             Ok(Answer::CopiedOut) => self.counts.copied_out += 1,
+            Ok(_) if matches!(call, Call::Map(_)) => self.counts.mapped += 1,
             Ok(Answer::Looked(condition)) => self.counts.looked_up[kind_of(condition)] += 1,
             Ok(_) => {}
             Err(refusal) => *self.counts.refused.entry(refusal.number()).or_default() += 1,
