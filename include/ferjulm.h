@@ -12,7 +12,7 @@
  * - One caller at a time: no two calls on one box at once, and nobody else reads or writes what a call was lent meanwhile.
  * - No pointer is null, not even one with length 0. Pointers to 32-bit words are aligned to 4 bytes, `offset` to 8. Each
  *   pointer with length n points to n elements.
- * - What is lent to one call does not overlap: images, table, record, page, sheet and out-parameters.
+ * - What is lent to one call does not overlap: images, table, record, page, sheet, lists and out-parameters.
  * - A call stores at most one page, in one of the images, and names it: outside that page the images are as they were lent.
  *   Where the images are kept on drives, that page reaches its drive whole or not at all, and before the page of any later
  *   call.
@@ -48,6 +48,9 @@ extern "C" {
 #define FERJULM_MAX_SLOTS 57600
 #define FERJULM_MAX_BLOCKS 16777216
 
+/* The most blocks of a list that is looked up. */
+#define FERJULM_LIST_MOST 64
+
 /* The words of a record by index; the window's slots, 63 of them, begin at FERJULM_WINDOW and are zero past the count. */
 enum {
     FERJULM_SLOTS = 0,
@@ -68,7 +71,7 @@ enum {
     FERJULM_READY = 2
 };
 
-/* What a call returns: one of these, or a refusal's number from 1 to 14. Where no slot is set here, *slot stays as it was. */
+/* What a call returns: one of these, or a refusal's number: 1 to 14, or 16. Where no slot is set here, *slot stays as it was. */
 enum {
     FERJULM_DONE = 0,
     FERJULM_ANNOUNCED = 101, /* the slot is open; *slot is set */
@@ -90,7 +93,7 @@ enum {
     FERJULM_HDD = 2
 };
 
-/* Why a call says no; the least number whose condition holds, but for 14, which is judged after 6.
+/* Why a call says no; the least number whose condition holds, but for 10 before 8, and 14 and 16 between 6 and 7.
  *
  *   1  format: slots or blocks outside the limits
  *   2  reopen, label: SSD under a page, or first page no legal label
@@ -108,6 +111,7 @@ enum {
  *  12  a slot must be swept for, all are open
  *  13  the call would store metadata, and too few stamps are left
  *  14  map: the buffer is shorter than 67 bytes for each line
+ *  16  look up a list: it is empty, over 64, or not as long as the answer list
  *
  * Every call but format, reopen and label may refuse with 3, 4, 5 and 6; each function names those that it may give besides.
  */
@@ -206,6 +210,15 @@ uint32_t ferjulm_land_fetch(uint8_t *ssd, size_t ssd_len, const uint8_t *hdd, si
  */
 uint32_t ferjulm_look_up(const uint8_t *ssd, size_t ssd_len, const uint8_t *hdd, size_t hdd_len, uint32_t *table,
                          size_t table_len, const uint32_t *record, size_t record_len, uint32_t block, uint32_t *slot);
+
+/* Looks a list of up to FERJULM_LIST_MOST blocks up, by one pass over the table for the whole list: words[i] becomes the slot of
+ * blocks[i] plus 1, or 0 where the block is open or not cached. Words and used flags are those of ferjulm_look_up for each block
+ * in list order; a block may be listed twice. Returns FERJULM_DONE. May refuse with 16 (the list is empty, too long, or not as
+ * long as the answer list) and 7 (any block), in this order; no refusal writes a word.
+ */
+uint32_t ferjulm_look_up_list(const uint8_t *ssd, size_t ssd_len, const uint8_t *hdd, size_t hdd_len, uint32_t *table,
+                              size_t table_len, const uint32_t *record, size_t record_len, const uint32_t *blocks,
+                              size_t blocks_len, uint32_t *words, size_t words_len);
 
 /* Views a block: where its page lies. *image becomes FERJULM_SSD (cached and not open) or FERJULM_HDD, *offset the page's
  * first byte in that image. Nothing else changes, and no byte is copied. May refuse with 7.

@@ -15,6 +15,7 @@ made-call : (c : Call) (x : Box) (r : Result) → r ≡ resultOf c x → (disk :
 unfolding called
 made-call c x r e disk = ap (λ (y : Result). madeOf c y disk) e
 
-pub made : (q v : Request) (page : List ℕ) (x : Box) (r : Result) → q ≡ v → r ≡ resultOf (callOf v page) x → (disk : Disk)
-    → madeOf (callOf q page) r disk ≡ madeBy (callOf q page) (record { box = x; disk = disk })
-made q v page x r e f disk = rw e (made-call (callOf v page) x r f disk)
+pub made : (q v : Request) (page blocks : List ℕ) (room : ℕ) (x : Box) (r : Result) → q ≡ v
+    → r ≡ resultOf (callOf v page blocks room) x → (disk : Disk)
+    → madeOf (callOf q page blocks room) r disk ≡ madeBy (callOf q page blocks room) (record { box = x; disk = disk })
+made q v page blocks room x r e f disk = rw e (made-call (callOf v page blocks room) x r f disk)

@@ -3,25 +3,26 @@ use Prim.Native.Nat.{ℕ}
 use mathlib.Core.List.{List}
 use Rattle.protocol.specs.Reply.{Reply, refused}
 use Rattle.protocol.specs.Box.{Result, boxAfter}
-use Rattle.protocol.specs.Plan.{Call, format, step, flush, reopen, offer, fetch, landFetch, lookUp, writeBack, land}
+use Rattle.protocol.specs.Plan.{Call, format, step, flush, reopen, offer, fetch, landFetch, lookUp, writeBack, land, lookUpList}
 use Rattle.protocol.specs.Calls.{resultOf}
 use Rattle.protocol.specs.ReferenceDisk.{Disk, fed}
 use Rattle.protocol.specs.Events.{World, call, readsIf, finished, apply}
 use Rattle.dispatch.specs.declared.Request.{Request}
-use Rattle.dispatch.specs.declared.Request.the-variants.{Format, Step, Offer, Land, Fetch, LandFetch, LookUp, WriteBack, Flush, Reopen}
+use Rattle.dispatch.specs.declared.Request.the-variants.{Format, Step, Offer, Land, Fetch, LandFetch, LookUp, LookUpList, WriteBack, Flush, Reopen}
 
--- the call that a request is, with the page beside it
-abbrev pub callOf : Request → List ℕ → Call
-callOf (Format slots blocks) page = format slots blocks
-callOf Step page = step
-callOf (Offer b) page = offer b
-callOf (Land b) page = land b page
-callOf (Fetch b) page = fetch b
-callOf (LandFetch b) page = landFetch b
-callOf (LookUp b) page = lookUp b
-callOf (WriteBack b) page = writeBack b
-callOf Flush page = flush
-callOf Reopen page = reopen
+-- the call that a request is, with the page, the listed blocks and the room for their words beside it
+abbrev pub callOf : Request → List ℕ → List ℕ → ℕ → Call
+callOf (Format slots blocks) page list room = format slots blocks
+callOf Step page list room = step
+callOf (Offer b) page list room = offer b
+callOf (Land b) page list room = land b page
+callOf (Fetch b) page list room = fetch b
+callOf (LandFetch b) page list room = landFetch b
+callOf (LookUp b) page list room = lookUp b
+callOf LookUpList page list room = lookUpList list room
+callOf (WriteBack b) page list room = writeBack b
+callOf Flush page list room = flush
+callOf Reopen page list room = reopen
 
 -- a call's answer, and box and reference disk after it
 pub record Made : Type 0 where

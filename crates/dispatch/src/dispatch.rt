@@ -7,12 +7,14 @@ use protocol::Outcome;
 use read_path::fetch;
 use read_path::land_fetch;
 use read_path::look_up;
+use read_path::look_up_list;
 use record::Record;
 use recovery::reopen;
 use steps::step;
 use write_path::land;
 use write_path::offer;
 ghost use mathlib.Core.Path.{_≡_};
+ghost use lib.ListN.{length};
 ghost use Rattle.protocol.specs.ReferenceDisk.{Disk};
 ghost use Rattle.protocol.specs.Calls.{leaves, boxOf};
 ghost use Rattle.dispatch.specs.Dispatch.{callOf, madeOf, madeBy};
@@ -24,8 +26,10 @@ pub fn dispatch(
     table: &mut [u32],
     state: Record,
     page: &[u8],
+    blocks: &[u32],
+    words: &mut [u32],
 ) -> Outcome
-    ensures { λ q. ⌜ ((disk : Disk) → madeOf (callOf request (now (page .entry))) (leaves q (now (ssd .exit)) (now (hdd .exit)) (now (table .exit))) disk ≡ madeBy (callOf request (now (page .entry))) (record { box = boxOf (now (ssd .entry)) (now (hdd .entry)) (now (table .entry)) state; disk = disk })) ⌝ }
+    ensures { λ q. ⌜ ((disk : Disk) → madeOf (callOf request (now (page .entry)) (now (blocks .entry)) (length (now (words .entry)))) (leaves q (now (ssd .exit)) (now (hdd .exit)) (now (table .exit))) disk ≡ madeBy (callOf request (now (page .entry)) (now (blocks .entry)) (length (now (words .entry)))) (record { box = boxOf (now (ssd .entry)) (now (hdd .entry)) (now (table .entry)) state; disk = disk })) ⌝ }
 {
     match request {
         Request::Format(slots, blocks) => format::format(ssd, hdd, table, state, slots, blocks),
@@ -35,6 +39,7 @@ pub fn dispatch(
         Request::Fetch(block) => fetch::fetch(ssd, hdd, table, state, block),
         Request::LandFetch(block) => land_fetch::land_fetch(ssd, hdd, table, state, block),
         Request::LookUp(block) => look_up::look_up(ssd, hdd, table, state, block),
+        Request::LookUpList => look_up_list::look_up_list(ssd, hdd, table, state, blocks, words),
         Request::WriteBack(block) => write_back::write_back(ssd, hdd, table, state, block),
         Request::Flush => flush::flush(ssd, hdd, table, state),
         Request::Reopen => reopen::reopen(ssd, hdd, table, state),

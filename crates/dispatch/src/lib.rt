@@ -1,8 +1,8 @@
 // Any call, by its value.
 pub mod dispatch;
 
-// A call as a value, with its numbers. The page that Land is lent stands beside it; view, which hands a page back and
-// changes nothing, is not among them.
+// A call as a value, with its numbers. The page that Land is lent stands beside it, and so do the lists of LookUpList: its blocks, and
+// the words for the answer. View, which hands a page back and changes nothing, is not among them.
 pub enum Request {
     Format(u32, u32),
     Step,
@@ -11,6 +11,7 @@ pub enum Request {
     Fetch(layout::Block),
     LandFetch(layout::Block),
     LookUp(layout::Block),
+    LookUpList,
     WriteBack(layout::Block),
     Flush,
     Reopen,

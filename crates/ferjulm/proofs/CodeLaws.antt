@@ -15,15 +15,16 @@ use Rattle.protocol.specs.declared.Stored.{Stored}
 use Rattle.protocol.specs.Reply.{Reply, refusal, answer, replyOf}
 use Rattle.protocol.specs.Box.{Box, Result}
 use Rattle.protocol.specs.Condition.{conditionOf}
-use Rattle.protocol.specs.Plan.{Call, lookUp, lookingUp, plan}
+use Rattle.protocol.specs.Plan.{Call, lookUp, lookUpList, lookingUp, plan}
 use Rattle.protocol.specs.Perform.{perform}
 use Rattle.protocol.specs.Judge.{Reason, judged}
-use Rattle.protocol.specs.Calls.{decided, effectOf, leaves, resultOf, boxOf}
+use Rattle.protocol.specs.Calls.{decided, effectOf, leaves, resultOf, boxOf, listWordsOf}
 use Rattle.c_record.specs.declared.Place.{Place}
 use Rattle.c_record.specs.Words.{wordsOf, unpacked, isRecord}
 use Rattle.c_record.specs.Codes.{codeOf, closedBy, slotAfter, placeAfter}
 use Rattle.c_record.proofs.RoundTrip.{words-kept}
 use Rattle.ferjulm.specs.Calls.{kept, leftBy, cCall, cSlot, cPlace, cFresh}
+use Rattle.ferjulm.specs.List.{cLocated}
 
 -- what a call and the closing after it leave is what the call's result leaves
 left-is : (R : Result) (said : Reply) (stored : Stored) (state : Record) (table ssd hdd words after : List ℕ) (code : ℕ)
@@ -49,6 +50,26 @@ look-up-state b x = by-reason (judged (lookUp b) x)
     by-reason : (o : Option Reason) → decided o (lookUp b) x .state ≡ x .state
     by-reason (some q) = refl
     by-reason none = looks (conditionOf (x .table) b)
+
+-- so does a list
+pub list-state : (blocks : List ℕ) (room : ℕ) (x : Box) → resultOf (lookUpList blocks room) x .state ≡ x .state
+unfolding effectOf plan perform
+list-state blocks room x = by-reason (judged (lookUpList blocks room) x)
+  where
+    by-reason : (o : Option Reason) → decided o (lookUpList blocks room) x .state ≡ x .state
+    by-reason (some q) = refl
+    by-reason none = refl
+
+-- the words for the answer, by words that are no record, and by those that unpack to one
+module _ (blocks ssd hdd table words before : List ℕ) where
+  pub located-barred : isRecord words ≡ false → before ≡ cLocated blocks ssd hdd table words before
+  unfolding cLocated
+  located-barred h = rw h
+
+  pub located-past : (r : Record) → r ≡ unpacked words → isRecord words ≡ true
+      → listWordsOf ssd hdd table r blocks before ≡ cLocated blocks ssd hdd table words before
+  unfolding cLocated
+  located-past r e h = rw h (ap (λ (q : Record). listWordsOf ssd hdd table q blocks before) e)
 
 module _ (c : Call) (ssd hdd table words : List ℕ) where
   -- no record: 3, and nothing changes

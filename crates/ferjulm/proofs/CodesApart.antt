@@ -1,4 +1,4 @@
--- A result code tells a refusal from an answer: 1 to 14 are refusals, which change nothing; 0 and from 101 on are answers, of
+-- A result code tells a refusal from an answer: 1 to 99 are refusals, which change nothing; 0 and from 101 on are answers, of
 -- which 101 and 108 to 111 carry a slot.
 use Prim.Native.Nat.{ℕ, _≤_}
 use mathlib.Core.Path.{_≡_, refl}
@@ -15,7 +15,7 @@ use Rattle.protocol.specs.declared.Stored.{Stored}
 use Rattle.protocol.specs.Reply.{Reply, refusal, answer, replyOf, refused}
 use Rattle.protocol.specs.Box.{Box, left}
 use Rattle.protocol.specs.Plan.{Call}
-use Rattle.protocol.specs.Judge.{Reason, badLimits, noLabel, badRecord, wrongLength, badRows, wrongPhase, blockTooHigh, slotOpen, wrongState, hasSlot, windowFull, allOpen, stampsSpent, sheetShort, numberOf, judged}
+use Rattle.protocol.specs.Judge.{Reason, badLimits, noLabel, badRecord, wrongLength, badRows, wrongPhase, blockTooHigh, slotOpen, wrongState, hasSlot, windowFull, allOpen, stampsSpent, badList, sheetShort, numberOf, judged}
 use Rattle.protocol.specs.Calls.{decided, effectOf, resultOf, boxOf}
 use Rattle.layout.proofs.Booleans.{clash}
 use Rattle.protocol.proofs.why.Answers.{plan-answers}
@@ -25,7 +25,7 @@ use Rattle.ferjulm.specs.Calls.{kept, leftBy}
 
 pub record IsRefusal (code : ℕ) : Type 0 where
   pub least : 1 ≤ code
-  pub most : code ≤ 14
+  pub most : code ≤ 99
 
 pub number-refuses : (r : Reason) → IsRefusal (numberOf r)
 number-refuses badLimits = omega arith
@@ -42,8 +42,9 @@ number-refuses windowFull = omega arith
 number-refuses allOpen = omega arith
 number-refuses stampsSpent = omega arith
 number-refuses sheetShort = omega arith
+number-refuses badList = omega arith
 
--- a call that is refused has a code from 1 to 14
+-- a call that is refused has a code from 1 to 99
 pub refusal-code : (c : Call) (x : Box) → refused (resultOf c x .said) ≡ true → IsRefusal (codeOf (resultOf c x .said))
 unfolding effectOf
 refusal-code c x h = by-reason (judged c x) refl h

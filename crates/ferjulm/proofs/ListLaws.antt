@@ -23,7 +23,7 @@ use Rattle.record.proofs.WindowLaws.{length-array}
 use Rattle.protocol.specs.Reply.{Reply, refusal, answer, refused}
 use Rattle.protocol.specs.Rows.{rowFlags, writing}
 use Rattle.protocol.specs.Box.{Box, left, Result, boxAfter}
-use Rattle.protocol.specs.Plan.{slotMap, Call, format, step, flush, reopen, offer, fetch, landFetch, lookUp, view, writeBack, land, ask, Move, lowestPage, stepping, plan}
+use Rattle.protocol.specs.Plan.{slotMap, Call, format, step, flush, reopen, offer, fetch, landFetch, lookUp, view, writeBack, land, lookUpList, ask, Move, lowestPage, stepping, plan}
 use Rattle.protocol.specs.Perform.{confirmed, landedState, formatState, perform}
 use Rattle.protocol.specs.Recovery.{labelAt, metasOf, newestOf, recover, offPage}
 use Rattle.protocol.specs.Kinds.{Aim}
@@ -34,7 +34,7 @@ use Rattle.protocol.specs.Events.{World, call, called, run}
 use Rattle.protocol.proofs.Judged as judging
 use Rattle.protocol.proofs.Accepted.{service-legal, service-ready, legal-sound}
 use Rattle.protocol.proofs.Sound.{Sound, room}
-use Rattle.protocol.proofs.Does.{Does, does-nothing, does-use, does-open, does-copy, does-land, does-fetch, does-rest, does-confirm}
+use Rattle.protocol.proofs.Does.{Does, does-nothing, does-use, does-use-all, does-open, does-copy, does-land, does-fetch, does-rest, does-confirm}
 use Rattle.protocol.proofs.Sorted.{Sorted, is-format, is-reopen, is-step, is-service, sorted}
 use Rattle.protocol.proofs.refine.Windows.{length-nums}
 use Rattle.protocol.proofs.why.Answers.{plan-answers}
@@ -102,6 +102,7 @@ module _ (x : Box) (whole : Whole (x .state)) where
   unfolding perform confirmed
   does-whole S (does-nothing z n) = whole
   does-whole S (does-use z n H) = whole
+  does-whole S (does-use-all z A) = whole
   does-whole S (does-open {s = s} z O) =
       length-array _ (omega (arith, length-append (windowIn (x .state)) (s ∷ []), room S (O .few), length-nums (windowIn (x .state))))
   does-whole S (does-copy z n C) = whole
@@ -239,6 +240,7 @@ once (ask (slotMap n)) k = record {
   reach = λ h. h;
   stay-record = λ h. h;
 }
+once (lookUpList blocks room) k = served-once (lookUpList blocks room) k refl refl
 
 -- The list.
 module _ (c : Call) (cs : List Call) (k : Left) (d : Disk) where

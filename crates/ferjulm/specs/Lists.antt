@@ -8,7 +8,7 @@ use lib.ListN.{length, replicate}
 use lib.Dec.{eqb}
 use Rattle.layout.specs.declared.Block.{Block}
 use Rattle.protocol.specs.Box.{Box}
-use Rattle.protocol.specs.Plan.{Ask, slotMap, Call, format, step, flush, reopen, offer, fetch, landFetch, lookUp, view, writeBack, land, ask}
+use Rattle.protocol.specs.Plan.{Ask, slotMap, Call, format, step, flush, reopen, offer, fetch, landFetch, lookUp, view, writeBack, land, lookUpList, ask}
 use Rattle.protocol.specs.Kinds.{Kind, aFormat, aReopening, aStep, aService, kind}
 use Rattle.protocol.specs.Calls.{boxOf}
 use Rattle.protocol.specs.ReferenceDisk.{Disk}
@@ -46,6 +46,7 @@ cMade (view b) k = cViewed b k
 cMade (writeBack b) k = cServed (writeBack b) k
 cMade (land b page) k = cServed (land b page) k
 cMade (ask a) k = cAsked a k
+cMade (lookUpList blocks room) k = cServed (lookUpList blocks room) k
 
 unfoldable pub cRun : List Call → Left → Left
 cRun [] k = k

@@ -2,5 +2,6 @@
 // nothing that was lent.
 pub mod calls;
 pub mod label;
+pub mod list;
 pub mod map;
 pub mod view;

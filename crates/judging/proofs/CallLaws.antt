@@ -1,6 +1,6 @@
 -- Each call by the block's condition, once 3 to 7 are passed.
 use Prim.Native.Nat.{ℕ}
-use mathlib.Core.Path.{_≡_, sym, ap, _∙_}
+use mathlib.Core.Path.{_≡_, refl, sym, ap, _∙_}
 use mathlib.Core.Logic.{_≢_}
 use mathlib.Core.Bool.{Bool, true, false, not, _&&_}
 use mathlib.Core.List.{List, [], _∷_, _++_}
@@ -14,15 +14,16 @@ use Rattle.protocol.specs.declared.Condition.{Condition}
 use Rattle.protocol.specs.Reply.{nothingToDo}
 use Rattle.record.specs.Record.{labelIn, largestStamp}
 use Rattle.protocol.specs.Box.{Box, refusing, left}
-use Rattle.protocol.specs.Condition.{conditionOf, isOpen, takesWrite, takesFetch}
-use Rattle.protocol.specs.Plan.{flush, landFetch, lookUp, view, writeBack, land, ask, slotMap, stay, confirms, lookingUp, writingBack, landing, landingFetch, flushing, storesMeta, plan}
+use Rattle.protocol.specs.Condition.{conditionOf, wordsOf, closedSlots, isOpen, takesWrite, takesFetch}
+use Rattle.protocol.specs.Plan.{Call, lookUpList, usesAll, flush, landFetch, lookUp, view, writeBack, land, ask, slotMap, stay, confirms, lookingUp, writingBack, landing, landingFetch, flushing, storesMeta, plan}
 use Rattle.protocol.specs.Perform.{perform}
 use Rattle.protocol.specs.SlotMap.{mapBytes, mapText}
 use Rattle.protocol.specs.Judge.{Reason, slotOpen, wrongState, stampsSpent, sheetShort, test, firstOf, judged}
-use Rattle.protocol.specs.Calls.{boxOf, lookUpOf, writeBackOf, landOf, landFetchOf, flushOf, viewed, viewPart, viewOf, mapped, mapOf}
-use Rattle.judging.specs.Judging.{readyThen, servesThen}
+use Rattle.protocol.specs.Calls.{boxOf, lookUpOf, writeBackOf, landOf, landFetchOf, flushOf, lookUpListOf, wordsBy, wordsLeft, listWordsOf, viewed, viewPart, viewOf, mapped, mapOf}
+use Rattle.judging.specs.Judging.{readyThen, servesThen, listThen}
 use Rattle.protocol.proofs.Judged.{first-yes, first-no, performs, refused-as}
-use Rattle.judging.proofs.ServeLaws.{end, first-judged, judged-on, flush-judges, map-judges, look-up-judges, view-judges, write-back-judges, land-judges, land-fetch-judges}
+use Rattle.judging.proofs.ServeLaws.{Judges, end, first-judged, refused-by, judged-on, list-begins, list-judges, flush-judges, map-judges, look-up-judges, view-judges, write-back-judges, land-judges, land-fetch-judges}
+use Rattle.judging.proofs.JudgingLaws.{goes-on, ready-asks}
 
 module _ (ssd hdd t : List ℕ) (r : Record) (b : Block) (k : Condition) (e : conditionOf t b ≡ k) where
   abbrev x : Box
@@ -95,6 +96,45 @@ module _ (ssd hdd t : List ℕ) (r : Record) (z : readyThen (length ssd) (length
   flush-done u s = performs flush y confirms
       (asked ∙ first-no _ stampsSpent [] (ap (λ (b : Bool). storesMeta (flushing b) && leb largestStamp (r .newest)) u ∙ s) ∙ end _)
       (ap flushing u)
+
+-- a list of blocks: what it leaves, and its words
+module _ (ssd hdd t : List ℕ) (r : Record) (blocks words : List ℕ) where
+  abbrev u : Box
+  u = boxOf ssd hdd t r
+
+  abbrev c : Call
+  c = lookUpList blocks (length words)
+
+  refused-list : (n : ℕ) (more : List Reason) → Judges c u n more → (m : ℕ) → m ≡ n → m ≢ 0
+      → (left (refusing m u) (u .images) ≡ lookUpListOf ssd hdd t r blocks words) × (words ≡ listWordsOf ssd hdd t r blocks words)
+  unfolding wordsLeft
+  refused-list n more J m e z =
+      let f = first-judged c u n more J (λ q. z (e ∙ q)) in
+      (refused-by c u n more J m e z, ap (λ (o : Option Reason). wordsBy o t blocks words) (sym (f .1)))
+
+  pub list-unready : (m : ℕ) → m ≡ readyThen (length ssd) (length hdd) 4096 t r 0 → m ≢ 0
+      → (left (refusing m u) (u .images) ≡ lookUpListOf ssd hdd t r blocks words) × (words ≡ listWordsOf ssd hdd t r blocks words)
+  list-unready m e z = refused-list _ _ (list-begins ssd hdd t r blocks (length words)) m e z
+
+  module _ (z : readyThen (length ssd) (length hdd) 4096 t r 0 ≡ 0) where
+    abbrev number : ℕ
+    number = listThen blocks (length words) (r .label .blocks) 0
+
+    -- past 6 the list's own number is judged
+    on : readyThen (length ssd) (length hdd) 4096 t r number ≡ number
+    on = goes-on (ready-asks (length ssd) (length hdd) 4096 t r) z number
+
+    pub list-refused : (m : ℕ) → m ≡ number → m ≢ 0
+        → (left (refusing m u) (u .images) ≡ lookUpListOf ssd hdd t r blocks words) × (words ≡ listWordsOf ssd hdd t r blocks words)
+    list-refused m e n = refused-list _ _ (list-judges ssd hdd t r blocks (length words)) m (e ∙ sym on) n
+
+    pub list-is : number ≡ 0
+        → (left (perform (usesAll (closedSlots t blocks)) u) (u .images) ≡ lookUpListOf ssd hdd t r blocks words)
+        × (wordsOf t blocks ≡ listWordsOf ssd hdd t r blocks words)
+    unfolding plan wordsLeft
+    list-is e =
+        let j = judged-on c u _ [] (list-judges ssd hdd t r blocks (length words)) (on ∙ e) ∙ end _ in
+        (performs c u (usesAll (closedSlots t blocks)) j refl, ap (λ (o : Option Reason). wordsBy o t blocks words) (sym j))
 
 -- view
 module _ (S H : Part) (t : List ℕ) (r : Record) (b : Block) where

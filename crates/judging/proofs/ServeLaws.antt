@@ -12,13 +12,13 @@ use borrow.Author.Tests.{eq-eqb, ne-eqb}
 use Rattle.layout.specs.declared.Block.{Block}
 use Rattle.record.specs.declared.Record.{Record}
 use Rattle.protocol.specs.Box.{Box, refusing, left}
-use Rattle.protocol.specs.Plan.{Call, flush, offer, fetch, landFetch, lookUp, view, writeBack, land, ask, slotMap}
-use Rattle.protocol.specs.Judge.{lengthsTest, Reason, badRecord, wrongLength, badRows, wrongPhase, blockTooHigh, slotOpen, wrongState, hasSlot, windowFull, allOpen, stampsSpent, sheetShort, numberOf, lengthTest, test, chain, firstOf, judged}
+use Rattle.protocol.specs.Plan.{Call, flush, offer, fetch, landFetch, lookUp, view, writeBack, land, lookUpList, ask, slotMap}
+use Rattle.protocol.specs.Judge.{lengthsTest, Reason, badRecord, wrongLength, badRows, wrongPhase, blockTooHigh, slotOpen, wrongState, hasSlot, windowFull, allOpen, stampsSpent, badList, sheetShort, numberOf, lengthTest, test, chain, firstOf, judged}
 use Rattle.protocol.specs.Calls.{resultOf, boxOf}
 use Rattle.layout.proofs.Booleans.{Told, told, told-true, told-false, clash}
 use Rattle.protocol.proofs.Judged.{first-yes, first-no, refused-as}
 use Rattle.protocol.proofs.Reasons.{number-some}
-use Rattle.judging.specs.Judging.{refuseIf, soundThen, readyThen, servesThen}
+use Rattle.judging.specs.Judging.{refuseIf, soundThen, readyThen, servesThen, listThen}
 
 -- the first number of some reasons, or 0
 unfoldable pub numbers : (Reason → Bool) → List Reason → ℕ
@@ -116,6 +116,18 @@ module _ (ssd hdd t : List ℕ) (r : Record) where
   pub map-judges : (room : ℕ) → Judges (ask (slotMap room)) (boxOf ssd hdd t r) (readyThen (length ssd) (length hdd) 4096 t r 0) (sheetShort ∷ [])
   unfolding numbers test soundThen lengthTest lengthsTest
   map-judges room = record { begins = ready-reasons; chain-is = refl; number-is = refl }
+
+-- a list, by what 3 to 6 say, and by 16 and 7 besides
+module _ (ssd hdd t : List ℕ) (r : Record) (blocks : List ℕ) (room : ℕ) where
+  pub list-begins : Judges (lookUpList blocks room) (boxOf ssd hdd t r) (readyThen (length ssd) (length hdd) 4096 t r 0)
+      (badList ∷ blockTooHigh ∷ [])
+  unfolding numbers test soundThen lengthTest lengthsTest
+  list-begins = record { begins = ready-reasons; chain-is = refl; number-is = refl }
+
+  pub list-judges : Judges (lookUpList blocks room) (boxOf ssd hdd t r)
+      (readyThen (length ssd) (length hdd) 4096 t r (listThen blocks room (r .label .blocks) 0)) []
+  unfolding numbers test soundThen lengthTest lengthsTest
+  list-judges = record { begins = ready-reasons ++ (badList ∷ blockTooHigh ∷ []); chain-is = refl; number-is = refl }
 
 module _ (ssd hdd t : List ℕ) (r : Record) (b : Block) where
   pub look-up-judges : Judges (lookUp b) (boxOf ssd hdd t r) (servesThen (length ssd) (length hdd) 4096 t r b 0) []

@@ -11,7 +11,8 @@ use Rattle.record.specs.Record.{labelIn}
 use Rattle.protocol.specs.Rows.{openRows}
 use Rattle.protocol.specs.Condition.{conditionOf}
 use Rattle.record.specs.Rule.{recordTest}
-use Rattle.protocol.specs.Judge.{lengthsTest, rowsTest, isReady}
+use Rattle.protocol.specs.Kinds.{highest}
+use Rattle.protocol.specs.Judge.{lengthsTest, rowsTest, isReady, listTest}
 use Rattle.judging.specs.declared.Judged.{Judged}
 
 -- refused by n, or the rest
@@ -33,6 +34,10 @@ readyThen ssd hdd page table state rest = soundThen ssd hdd page table state (re
 -- and 7
 abbrev pub servesThen : ℕ → ℕ → ℕ → List ℕ → Record → Block → ℕ → ℕ
 servesThen ssd hdd page table state b rest = readyThen ssd hdd page table state (refuseIf (leb (state .label .blocks) (b .0)) 7 rest)
+
+-- of a list, 16 and 7 (document 02, N6): by how many words are lent for the answer, and by how many blocks there are
+abbrev pub listThen : List ℕ → ℕ → ℕ → ℕ → ℕ
+listThen blocks room limit rest = refuseIf (not (listTest (length blocks) room)) 16 (refuseIf (leb limit (highest blocks)) 7 rest)
 
 -- what judging finds of a number
 abbrev pub judgedBy : ℕ → List ℕ → Block → Judged

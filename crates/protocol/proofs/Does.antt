@@ -18,11 +18,11 @@ use Rattle.protocol.specs.Reply.{Reply, refused}
 use Rattle.protocol.specs.Rows.{rowFlags, setFlags, setRow, valid, dirty, writing, withWriting, openRows}
 use Rattle.record.specs.Record.{labelIn, windowIn, largestStamp}
 use Rattle.protocol.specs.Box.{Box}
-use Rattle.protocol.specs.Condition.{conditionOf, isOpen, takesWrite, takesFetch}
+use Rattle.protocol.specs.Condition.{conditionOf, closedSlots, isOpen, takesWrite, takesFetch}
 use Rattle.protocol.specs.Sweep.{Victim, sweep}
-use Rattle.protocol.specs.Plan.{flush, offer, fetch, landFetch, lookUp, view, writeBack, land, ask, Ask, slotMap, Move, stay, uses, opens, lands, copies, confirms, takesAs, takes, offering, fetching, landing, landingFetch, lookingUp, writingBack, flushing, plan, storesMeta}
-use Rattle.protocol.specs.Perform.{confirmed, landedFlags, landedState, perform}
-use Rattle.protocol.specs.Kinds.{toServe, toSettle, toWrite, toFetch, toLandFetch, toLand, Aim, aims, askAim, noBlock}
+use Rattle.protocol.specs.Plan.{flush, offer, fetch, landFetch, lookUp, view, writeBack, land, lookUpList, ask, Ask, slotMap, Move, stay, uses, usesAll, opens, lands, copies, confirms, takesAs, takes, offering, fetching, landing, landingFetch, lookingUp, writingBack, flushing, plan, storesMeta}
+use Rattle.protocol.specs.Perform.{confirmed, landedFlags, landedState, usedAll, perform}
+use Rattle.protocol.specs.Kinds.{toServe, toSettle, toWrite, toFetch, toLandFetch, toLand, Aim, aims, aimsAll, askAim, noBlock}
 use Rattle.protocol.specs.Judge.{wrongLength, blockTooHigh, slotOpen, wrongState, windowFull, stampsSpent, lengthTest, test, judged}
 use Rattle.protocol.specs.ReferenceDisk.{Disk, fedCall}
 use Rattle.layout.proofs.Booleans.{clash, and-parts}
@@ -35,6 +35,7 @@ use Rattle.record.proofs.WindowLaws.{take-array}
 use Rattle.protocol.proofs.Sound.{Sound, room, sound-alike, sound-uses, sound-copies, sound-opens, sound-lands, sound-closes}
 use Rattle.protocol.proofs.Judged.{passed}
 use Rattle.protocol.proofs.Accepted.{Legal, service-legal}
+use Rattle.protocol.proofs.Used.{all-valid, used-alike}
 
 -- no row holds a block
 abbrev pub Absent : Label → List ℕ → ℕ → Type 0
@@ -72,6 +73,7 @@ pub data Does (x : Box) : Aim → Move → Type 0 where
   does-nothing : {a : Aim} {said : Reply} → Quiet a → refused said ≡ false → Does x a (stay said)
   does-use : {a : Aim} {b : ℕ} {s : Slot} {said : Reply} → Quiet a → refused said ≡ false → Held (labelIn (x .state)) (x .table) b (s .0)
       → Does x a (uses s said)
+  does-use-all : {a : Aim} {ss : List Slot} → Quiet a → Alike (labelIn (x .state)) (x .table) (usedAll ss (x .table)) → Does x a (usesAll ss)
   does-open : {a : Aim} {s : Slot} {b : Block} {f : ℕ} {v : List ℕ} {hand : Slot} → Quiet a → Opening x s b f v hand
       → Does x a (opens s b f v hand)
   does-copy : {a : Aim} {s : Slot} {said : Reply} {v : List ℕ} {hand : Slot} → Quiet a → refused said ≡ false → Copying x s v hand
@@ -90,6 +92,7 @@ pub does-said : {x : Box} {a : Aim} {m : Move} → Does x a m → refused (perfo
 unfolding perform confirmed
 does-said (does-nothing z n) = n
 does-said (does-use z n H) = n
+does-said (does-use-all z A) = refl
 does-said (does-open z O) = refl
 does-said (does-copy z n C) = n
 does-said (does-land H bl y size) = refl
@@ -123,6 +126,7 @@ module _ (x : Box) (S : Sound (labelIn (x .state)) (x .table) (windowIn (x .stat
   unfolding perform confirmed windowIn
   does-sound (does-nothing z n) = S
   does-sound (does-use {s = s} z n H) = sound-uses S (s .0) (H .low) (H .held)
+  does-sound (does-use-all z A) = sound-alike S A
   does-sound (does-open z O) = rw take-array (opening-sound O S)
   does-sound (does-copy {s = s} z n C) = sound-copies (sound-alike S (C .alike)) (s .0) (C .low) (C .is-shut)
   does-sound (does-land {page = page} H bl y size) = lands-sound true H page
@@ -231,6 +235,10 @@ module _ (x : Box) (L : Legal x) where
   looksUp b (is-writing s H w d) = does-nothing (λ d. refl) refl
   looksUp b (is-fetching s H w d) = does-nothing (λ d. refl) refl
 
+  looksUpAll : (blocks : List ℕ) (room : ℕ) → Does x (aimsAll blocks room) (usesAll (closedSlots (x .table) blocks))
+  looksUpAll blocks room =
+      does-use-all (λ d. refl) (used-alike lab (x .table) (L .rows) (x .table) same (all-valid lab (x .table) (L .table-size) blocks))
+
   writesBack : (b : Block) → {z : Condition} → Stands lab (x .table) (b .0) z → Does x (aims b toServe) (writingBack x z)
   writesBack b (absent h) = does-nothing (λ d. refl) refl
   writesBack b (is-clean s H w d) = does-nothing (λ d. refl) refl
@@ -253,6 +261,11 @@ module _ (x : Box) where
   pub ask-does : (a : Ask) → judged (ask a) x ≡ none → Does x (askAim a) (plan (ask a) x)
   unfolding plan
   ask-does (slotMap n) e = does-nothing (λ d. refl) refl
+
+  pub lookUpList-does : (blocks : List ℕ) (room : ℕ) → judged (lookUpList blocks room) x ≡ none
+      → Does x (aimsAll blocks room) (plan (lookUpList blocks room) x)
+  unfolding plan
+  lookUpList-does blocks room e = looksUpAll x (service-legal (lookUpList blocks room) x refl e) blocks room
 
   module _ (b : Block) where
     pub offer-does : judged (offer b) x ≡ none → Does x (aims b toWrite) (plan (offer b) x)

@@ -6,6 +6,7 @@ pub mod Sound
 pub mod Judged
 pub mod Accepted
 pub mod Closed
+pub mod Used
 pub mod Does
 pub mod Sorted
 pub mod ReadsAnywhere

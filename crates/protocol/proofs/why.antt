@@ -5,6 +5,7 @@ pub mod RowsRules
 pub mod PagesRules
 pub mod Slots
 pub mod Counted
+pub mod Lists
 pub mod Same
 pub mod Answers
 pub mod Stored

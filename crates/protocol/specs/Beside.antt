@@ -2,7 +2,7 @@
 use Prim.Native.Nat.{ℕ, zero, suc, _+_, _-_, _*_, _/_, _%_, min, _≤_, _<_}
 use mathlib.Core.Path.{_≡_}
 use mathlib.Core.Logic.{_≢_, _⊎_}
-use mathlib.Core.Bool.{true, false}
+use mathlib.Core.Bool.{Bool, true, false, not, _&&_}
 use mathlib.Core.List.{List, [], _∷_, _++_, map, List·Mem, List·Permᴰ, Pairwise}
 use mathlib.Core.Option.{Option, some, none}
 use lib.ListN.{length, getD, take}
@@ -24,13 +24,13 @@ use Rattle.protocol.specs.Rows.{rowBlock, rowFlags, valid, dirty, writin
 use Rattle.record.specs.Record.{labelIn, windowIn}
 use Rattle.protocol.specs.Box.{Images, Box, ssdImage, Store, Effect, refusing, boxAfter}
 use Rattle.protocol.specs.Condition.{conditionOf, isOpen}
-use Rattle.protocol.specs.Plan.{Ask, slotMap, Call, format, step, reopen, offer, fetch, land, landFetch, ask}
+use Rattle.protocol.specs.Plan.{Ask, slotMap, Call, format, step, reopen, offer, fetch, land, landFetch, lookUp, lookUpList, ask}
 use Rattle.protocol.specs.Recovery.{labelAt, metasOf, entryIn, storedRows, Recovered, recoverFrom}
 use Rattle.protocol.specs.SlotMap.{letterOf, mapLines, mapBytes, mapText}
 use Rattle.protocol.specs.Judge.{noLabel, wrongLength, test}
-use Rattle.protocol.specs.Calls.{effectOf, resultOf, boxOf, viewOf, mapOf}
+use Rattle.protocol.specs.Calls.{effectOf, resultOf, boxOf, viewOf, wordsLeft, mapOf}
 use Rattle.protocol.specs.Events.{World, Memory, Arrival, new, Event, call, cut, lent, readOf, called, crashed, run, steps, formatted, startOf, AllFit}
-use Rattle.protocol.specs.Demand3.{storedWindow}
+use Rattle.protocol.specs.Demand3.{storedWindow, slotSaid}
 
 -- On any images, table and record.
 
@@ -258,6 +258,42 @@ pub record Arrangement (cs ds : List Landing) (w : World) : Type 0 where
 
 abbrev pub Arranged : Type 0
 Arranged = (cs ds : List Landing) (w : World) → OpenSet cs (w .box) → List·Permᴰ cs ds → Arrangement cs ds w
+
+-- Document 02, N6: "equality with the single look-ups in list order is the promise".
+
+-- a single look-up's word: the slot that it names plus 1 for 108 and 109, clean and dirty; else 0
+abbrev pub wordSaid : Option Slot → ℕ
+wordSaid none = 0
+wordSaid (some s) = s .0 + 1
+
+-- the single look-ups in list order: their words, the box that they leave, and whether all were taken, none refused
+pub record Singles : Type 0 where
+  pub words : List ℕ
+  pub box : Box
+  pub taken : Bool
+
+unfoldable pub singles : List ℕ → Box → Singles
+singles [] x = record { words = []; box = x; taken = true }
+singles (b ∷ blocks) x =
+    let r = resultOf (lookUp (record { 0 = b })) x in
+    let rest = singles blocks (boxAfter r) in
+    record {
+      words = wordSaid (slotSaid (r .said)) ∷ rest .words;
+      box = rest .box;
+      taken = not (refused (r .said)) && rest .taken;
+    }
+
+-- on any box, where the list is not refused, words and box are those of the single look-ups, none of which is refused; a refusal
+-- changes neither
+pub record ListAlike (blocks words : List ℕ) (x : Box) : Type 0 where
+  pub same-words : refused (resultOf (lookUpList blocks (length words)) x .said) ≡ false → wordsLeft blocks words x ≡ singles blocks x .words
+  pub same-box : refused (resultOf (lookUpList blocks (length words)) x .said) ≡ false
+      → boxAfter (resultOf (lookUpList blocks (length words)) x) ≡ singles blocks x .box
+  pub all-taken : refused (resultOf (lookUpList blocks (length words)) x .said) ≡ false → singles blocks x .taken ≡ true
+  pub no-word : refused (resultOf (lookUpList blocks (length words)) x .said) ≡ true → wordsLeft blocks words x ≡ words
+
+abbrev pub LooksAlike : Type 0
+LooksAlike = (blocks words : List ℕ) (x : Box) → ListAlike blocks words x
 
 -- In a list of demand 3, update before data: what is stored of a slot as bytes land in it.
 

@@ -1,6 +1,7 @@
 -- The calls: judged, planned, performed. The right side of every call's contract.
 use Prim.Native.Nat.{ℕ}
 use mathlib.Core.List.{List, [], _++_}
+use lib.ListN.{length}
 use mathlib.Core.Option.{Option, some, none}
 use lib.ListN.{length, drop}
 use Rattle.pages.specs.Parts.{Part, pagePart}
@@ -14,8 +15,8 @@ use Rattle.protocol.specs.Reply.{replyOf}
 use Rattle.protocol.specs.declared.Condition.the-variants.{NotCached, Clean, Dirty, Writing, Fetching}
 use Rattle.record.specs.Record.{labelIn}
 use Rattle.protocol.specs.Box.{Box, Effect, Result, refusing, left}
-use Rattle.protocol.specs.Condition.{conditionOf}
-use Rattle.protocol.specs.Plan.{Call, format, step, flush, reopen, offer, fetch, landFetch, lookUp, view, writeBack, land, ask, slotMap, plan}
+use Rattle.protocol.specs.Condition.{conditionOf, wordsOf}
+use Rattle.protocol.specs.Plan.{Call, format, step, flush, reopen, offer, fetch, landFetch, lookUp, view, writeBack, land, lookUpList, ask, slotMap, plan}
 use Rattle.protocol.specs.Perform.{perform}
 use Rattle.protocol.specs.SlotMap.{mapText, mapBytes}
 use Rattle.protocol.specs.Judge.{Reason, numberOf, judged}
@@ -76,6 +77,21 @@ flushOf ssd hdd table state = resultOf flush (boxOf ssd hdd table state)
 
 abbrev pub reopenOf : List ℕ → List ℕ → List ℕ → Record → Result
 reopenOf ssd hdd table state = resultOf reopen (boxOf ssd hdd table state)
+
+-- document 02, N6: a list of blocks, with the lent list of words
+abbrev pub lookUpListOf : List ℕ → List ℕ → List ℕ → Record → List ℕ → List ℕ → Result
+lookUpListOf ssd hdd table state blocks words = resultOf (lookUpList blocks (length words)) (boxOf ssd hdd table state)
+
+-- what it leaves of the words: "neither writes a word", no refusal does; else a word for each block
+abbrev pub wordsBy : Option Reason → List ℕ → List ℕ → List ℕ → List ℕ
+wordsBy (some r) table blocks words = words
+wordsBy none table blocks words = wordsOf table blocks
+
+unfoldable pub wordsLeft : List ℕ → List ℕ → Box → List ℕ
+wordsLeft blocks words x = wordsBy (judged (lookUpList blocks (length words)) x) (x .table) blocks words
+
+abbrev pub listWordsOf : List ℕ → List ℕ → List ℕ → Record → List ℕ → List ℕ → List ℕ
+listWordsOf ssd hdd table state blocks words = wordsLeft blocks words (boxOf ssd hdd table state)
 
 -- "View a block: hands back that page of the SSD image itself, if cached and not open; else that page of the HDD image":
 -- the number of its refusal (0 where it is none) and the part

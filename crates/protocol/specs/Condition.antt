@@ -1,7 +1,7 @@
 -- A block's condition, on which every call rests: not cached, clean, dirty, open for writing, open for fetch.
-use Prim.Native.Nat.{ℕ, suc}
+use Prim.Native.Nat.{ℕ, suc, _+_}
 use mathlib.Core.Bool.{Bool, true, false, _&&_}
-use mathlib.Core.List.{List, [], _∷_}
+use mathlib.Core.List.{List, [], _∷_, _++_, map}
 use mathlib.Core.Option.{Option, some, none}
 use lib.Dec.{eqb}
 use Rattle.layout.specs.declared.Slot.{Slot}
@@ -37,6 +37,30 @@ conditionAt table (some s) =
 
 unfoldable pub conditionOf : List ℕ → Block → Condition
 conditionOf table b = conditionAt table (slotOf table b)
+
+-- document 02, N6: "a word is the slot plus 1, or 0 where the block is open or not cached"
+abbrev pub wordOf : Condition → ℕ
+wordOf NotCached = 0
+wordOf (Clean s) = s .0 + 1
+wordOf (Dirty s) = s .0 + 1
+wordOf (Writing s) = 0
+wordOf (Fetching s) = 0
+
+-- the words of a list of blocks, in its order
+abbrev pub wordsOf : List ℕ → List ℕ → List ℕ
+wordsOf table blocks = map (λ b. wordOf (conditionOf table (record { 0 = b }))) blocks
+
+-- the slot of a clean or a dirty block: those slots of a list's blocks, in its order
+abbrev pub closedSlot : Condition → List Slot
+closedSlot NotCached = []
+closedSlot (Clean s) = s ∷ []
+closedSlot (Dirty s) = s ∷ []
+closedSlot (Writing s) = []
+closedSlot (Fetching s) = []
+
+unfoldable pub closedSlots : List ℕ → List ℕ → List Slot
+closedSlots table [] = []
+closedSlots table (b ∷ blocks) = closedSlot (conditionOf table (record { 0 = b })) ++ closedSlots table blocks
 
 -- what 8 to 12 ask of a condition: open; cached
 abbrev pub isOpen : Condition → Bool

@@ -1,5 +1,5 @@
 -- Why a call says no: one test for each number of document 01's table and document 02's, and each call's chain of them, "Least number
--- first", but for a fetch's 10, which comes before 8 (document 02, N9), and for 14, which comes after 6 (N1).
+-- first", but for a fetch's 10, which comes before 8 (document 02, N9), and for 14 (N1) and 16 (N6), which come between 6 and 7.
 use Prim.Native.Nat.{ℕ, _-_, _%_}
 use mathlib.Core.Bool.{Bool, true, false, not, _&&_, _||_}
 use mathlib.Core.List.{List, [], _∷_, _++_}
@@ -25,7 +25,7 @@ use Rattle.record.specs.Record.{largestStamp, labelIn, windowIn}
 use Rattle.record.specs.Rule.{recordTest}
 use Rattle.protocol.specs.Box.{Images, Box}
 use Rattle.protocol.specs.Condition.{conditionOf, isOpen, isCached, isWriting, hasOther, takesWrite, takesFetch}
-use Rattle.protocol.specs.Plan.{Call, format, step, flush, reopen, offer, fetch, landFetch, lookUp, view, writeBack, land, ask, slotMap, plan, storesMeta}
+use Rattle.protocol.specs.Plan.{Call, format, step, flush, reopen, offer, fetch, landFetch, lookUp, view, writeBack, land, lookUpList, ask, slotMap, plan, storesMeta}
 use Rattle.protocol.specs.Kinds.{Purpose, toServe, toSettle, toWrite, toFetch, toLandFetch, toLand, Kind, aFormat, aReopening, aStep, aService, kind, aim}
 use Rattle.protocol.specs.Recovery.{labelAt, metasOf, pagesTest}
 use Rattle.protocol.specs.SlotMap.{mapBytes}
@@ -35,6 +35,8 @@ pub data Reason : Type 0 where
   badLimits noLabel badRecord wrongLength badRows wrongPhase blockTooHigh : Reason
   slotOpen wrongState hasSlot windowFull allOpen stampsSpent : Reason
   sheetShort : Reason
+  -- document 02, N6
+  badList : Reason
 
 abbrev pub numberOf : Reason → ℕ
 numberOf badLimits = 1
@@ -51,6 +53,7 @@ numberOf windowFull = 11
 numberOf allOpen = 12
 numberOf stampsSpent = 13
 numberOf sheetShort = 14
+numberOf badList = 16
 
 -- the label by which a call judges lengths: format by its arguments, reopen by the label page, others by the record
 abbrev pub labelFor : Kind → Box → Label
@@ -160,6 +163,13 @@ stampBound toFetch = largestStamp - windowMost
 stampBound toLandFetch = largestStamp
 stampBound (toLand page) = largestStamp
 
+-- 16 (document 02, N6): "a list that is empty, over 64, or not as long as the answer list"
+abbrev pub listMost : ℕ
+listMost = 64
+
+abbrev pub listTest : ℕ → ℕ → Bool
+listTest listed room = ltb 0 listed && (leb listed listMost && eqb listed room)
+
 -- does the condition of a row of the table hold for this call
 unfoldable pub test : Reason → Call → Box → Bool
 test badLimits c x = not (withinLimits (labelFor (kind c) x))
@@ -177,6 +187,7 @@ test allOpen c x = not (isCached (conditionOf (x .table) (aim c .block))) && all
 test stampsSpent c x = storesMeta (plan c x) && leb (stampBound (aim c .purpose)) (x .state .newest)
 -- document 02, N1: "if the buffer is shorter than 67 × the number of lines"
 test sheetShort c x = ltb (aim c .room) (mapBytes (labelIn (x .state)))
+test badList c x = not (listTest (length (aim c .list)) (aim c .room))
 
 -- the numbers that belong to each call, in the order of judging: first those of its kind ("Format and reopen judge neither that
 -- record nor the table's contents"), then its own
@@ -200,6 +211,8 @@ askedThen (writeBack b) = blockTooHigh ∷ slotOpen ∷ []
 askedThen (land b page) = blockTooHigh ∷ wrongState ∷ []
 -- document 02, N1: "It refuses with 14, after 6"
 askedThen (ask (slotMap n)) = sheetShort ∷ []
+-- document 02, N6: 16 "after 6 and before 7"
+askedThen (lookUpList blocks room) = badList ∷ blockTooHigh ∷ []
 
 abbrev pub chain : Call → List Reason
 chain c = askedFirst (kind c) ++ askedThen c

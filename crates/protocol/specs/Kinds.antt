@@ -1,10 +1,10 @@
 -- What kind of call a call is, and what it asks for: all that most conditions of document 01's table want to know of it.
-use Prim.Native.Nat.{ℕ}
-use mathlib.Core.List.{List}
+use Prim.Native.Nat.{ℕ, max}
+use mathlib.Core.List.{List, [], _∷_}
 use Rattle.layout.specs.declared.Block.{Block}
 use Rattle.layout.specs.declared.Label.{Label}
 use Rattle.layout.specs.Places.{labelOf}
-use Rattle.protocol.specs.Plan.{Call, format, step, flush, reopen, offer, fetch, landFetch, lookUp, view, writeBack, land, ask, Ask, slotMap}
+use Rattle.protocol.specs.Plan.{Call, format, step, flush, reopen, offer, fetch, landFetch, lookUp, view, writeBack, land, lookUpList, ask, Ask, slotMap}
 
 -- what a call is for, as far as conditions and the plain disk differ by it
 pub data Purpose : Type 0 where
@@ -13,21 +13,31 @@ pub data Purpose : Type 0 where
   -- that these bytes land
   toLand : List ℕ → Purpose
 
--- the block that a call names (0 where it names none: no such call asks for it), what it is for, and how many places are lent for its
--- answer (0 where none are)
+-- the block that a call names (0 where it names none: no such call asks for it), and what it is for; the blocks that it lists, and how
+-- many places are lent for the answer, bytes of a sheet or words of a list (0 where none are)
 pub record Aim : Type 0 where
   pub block : Block
   pub purpose : Purpose
+  pub list : List ℕ
   pub room : ℕ
 
 abbrev pub aims : Block → Purpose → Aim
-aims b p = record { block = b; purpose = p; room = 0 }
+aims b p = record { block = b; purpose = p; list = []; room = 0 }
+
+-- the highest of some block numbers, 0 of none
+unfoldable pub highest : List ℕ → ℕ
+highest [] = 0
+highest (b ∷ blocks) = max b (highest blocks)
+
+-- of a list it names the highest block: "any block too high is 7" (document 02, N6)
+abbrev pub aimsAll : List ℕ → ℕ → Aim
+aimsAll blocks room = record { block = record { 0 = highest blocks }; purpose = toServe; list = blocks; room = room }
 
 abbrev pub noBlock : Block
 noBlock = record { 0 = 0 }
 
 abbrev pub askAim : Ask → Aim
-askAim (slotMap n) = record { block = noBlock; purpose = toServe; room = n }
+askAim (slotMap n) = record { block = noBlock; purpose = toServe; list = []; room = n }
 
 -- a call begins a format of a label, reopens, makes a step, or is a service of a ready box
 pub data Kind : Type 0 where
@@ -48,6 +58,7 @@ kind (view b) = aService (aims b toServe)
 kind (writeBack b) = aService (aims b toServe)
 kind (land b page) = aService (aims b (toLand page))
 kind (ask a) = aService (askAim a)
+kind (lookUpList blocks room) = aService (aimsAll blocks room)
 
 abbrev pub aimOf : Kind → Aim
 aimOf (aFormat l) = aims noBlock toServe

@@ -19,7 +19,7 @@ use Rattle.record.specs.Record.{labelIn, windowIn, recordOf, withHand, withPhas
 use Rattle.record.specs.Window.{without}
 use Rattle.protocol.specs.Box.{Box, ssdImage, hddImage, Store, Effect}
 use Rattle.protocol.specs.Recovery.{labelAt, metasOf, recover, phaseOf, offPage}
-use Rattle.protocol.specs.Plan.{Move, stay, uses, opens, lands, copies, confirms, mends, begins, formats, recovers}
+use Rattle.protocol.specs.Plan.{Move, stay, uses, usesAll, opens, lands, copies, confirms, mends, begins, formats, recovers}
 
 -- "A metadata store writes from the table (without used flags) the whole metadata page .., with the window, and the newest
 -- stamp plus 1; it clears unsettled": page p, from this record and this table
@@ -111,10 +111,16 @@ formatState l r d =
       | false ↦ withPhase r (Formatting (d + 1))
     ]
 
+-- document 02, N6: used flags set, one after the other
+unfoldable pub usedAll : List Slot → List ℕ → List ℕ
+usedAll [] table = table
+usedAll (s ∷ ss) table = usedAll ss (setFlags table s (withUsed (rowFlags table s)))
+
 unfoldable pub perform : Move → Box → Effect
 perform (stay said) x = record { said = said; state = x .state; table = x .table; store = none }
 perform (uses s said) x =
     record { said = said; state = x .state; table = setFlags (x .table) s (withUsed (rowFlags (x .table) s)); store = none }
+perform (usesAll ss) x = record { said = done; state = x .state; table = usedAll ss (x .table); store = none }
 perform (opens s b flags table hand) x =
     confirmed (metaOf s) (announced s) (joined s hand (x .state)) (setRow table s b flags)
 perform (lands write s page) x = landedIn write s page x

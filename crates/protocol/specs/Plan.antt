@@ -18,7 +18,7 @@ use Rattle.protocol.specs.Reply.{Reply, overwrite, copiedOut, looked, no
 use Rattle.protocol.specs.Rows.{rowFlags, dirty, withWriting}
 use Rattle.record.specs.Record.{labelIn, windowIn}
 use Rattle.protocol.specs.Box.{Box}
-use Rattle.protocol.specs.Condition.{conditionOf}
+use Rattle.protocol.specs.Condition.{conditionOf, closedSlots}
 use Rattle.protocol.specs.Sweep.{Victim, nextSlot, sweep}
 
 -- what is asked by a call that changes nothing
@@ -26,19 +26,23 @@ pub data Ask : Type 0 where
   -- document 02, N1: the slot map, into a buffer of so many bytes
   slotMap : ℕ → Ask
 
--- document 01's calls, with their arguments, and those that document 02 adds
+-- document 01's calls, with their arguments, and those that document 02 adds: what is asked; N6, the block numbers listed and how many
+-- words are lent for the answer
 pub data Call : Type 0 where
   format : ℕ → ℕ → Call
   step flush reopen : Call
   offer fetch landFetch lookUp view writeBack : Block → Call
   land : Block → List ℕ → Call
   ask : Ask → Call
+  lookUpList : List ℕ → ℕ → Call
 
 pub data Move : Type 0 where
   -- nothing changes
   stay : Reply → Move
   -- the used flag of a slot is set; the answer
   uses : Slot → Reply → Move
+  -- the used flags of these slots are set, one after the other
+  usesAll : List Slot → Move
   -- a slot is opened for a block with these flags; the table that the sweep left, and the hand after
   opens : Slot → Block → ℕ → List ℕ → Slot → Move
   -- a page goes into a slot, by a write or by a fetch (document 02, N2: true for a write), and an open slot is closed
@@ -149,11 +153,14 @@ plan (view b) x = stay done
 plan (writeBack b) x = writingBack x (conditionOf (x .table) b)
 plan (land b page) x = landing page (conditionOf (x .table) b)
 plan (ask a) x = stay done
+-- document 02, N6: "Used flags are set as by single look-ups"
+plan (lookUpList blocks room) x = usesAll (closedSlots (x .table) blocks)
 
 -- the moves that store metadata, a format's steps apart
 abbrev pub storesMeta : Move → Bool
 storesMeta (stay p) = false
 storesMeta (uses s p) = false
+storesMeta (usesAll ss) = false
 storesMeta (opens s b f t h) = true
 storesMeta (lands w s d) = false
 storesMeta (copies s p t h) = false

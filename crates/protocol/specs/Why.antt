@@ -22,7 +22,7 @@ use Rattle.protocol.specs.Rows.{rowBlock, rowFlags, valid, dirty, writin
 use Rattle.record.specs.Record.{labelIn, windowIn}
 use Rattle.record.specs.Rule.{RecordRule}
 use Rattle.protocol.specs.Box.{Box}
-use Rattle.protocol.specs.Plan.{Call, format, step, flush, reopen, offer, fetch, landFetch, lookUp, view, writeBack, land, ask, slotMap, plan, storesMeta}
+use Rattle.protocol.specs.Plan.{Call, format, step, flush, reopen, offer, fetch, landFetch, lookUp, view, writeBack, land, lookUpList, ask, slotMap, plan, storesMeta}
 use Rattle.protocol.specs.Recovery.{labelAt, metasOf, entryIn}
 
 -- 2: the first page is the page of a label within the limits
@@ -122,6 +122,14 @@ NotReady x = x .state .phase ≢ Ready
 abbrev pub TooHigh : Block → Box → Type 0
 TooHigh b x = x .state .label .blocks ≤ b .0
 
+-- of a list (document 02, N6): 16, "a list that is empty, over 64, or not as long as the answer list"; 7, "any block too high": at a
+-- place of the list
+abbrev pub BadList : List ℕ → ℕ → Type 0
+BadList blocks room = (blocks ≡ []) ⊎ ((64 < length blocks) ⊎ (length blocks ≢ room))
+
+abbrev pub AnyHigh : List ℕ → Box → Type 0
+AnyHigh blocks x = (i : ℕ) × (i < length blocks) × TooHigh (record { 0 = getD blocks i 0 }) x
+
 abbrev pub SlotOpen : Block → Box → Type 0
 SlotOpen b x = (s : SlotOf (x .table) b) × (writing (rowFlags (x .table) (s .slot)) ≡ true)
 
@@ -185,6 +193,8 @@ Why (writeBack b) x =
 Why (land b page) x =
     (3, BadRecord x) ∷ (4, LandLengths page x → ⊥) ∷ (5, BadRows x) ∷ (6, NotReady x) ∷ (7, TooHigh b x) ∷ (9, NotToLand b x) ∷ []
 Why (ask (slotMap n)) x = (3, BadRecord x) ∷ (4, BadLengths x) ∷ (5, BadRows x) ∷ (6, NotReady x) ∷ (14, ShortSheet n x) ∷ []
+Why (lookUpList blocks room) x =
+    (3, BadRecord x) ∷ (4, BadLengths x) ∷ (5, BadRows x) ∷ (6, NotReady x) ∷ (16, BadList blocks room) ∷ (7, AnyHigh blocks x) ∷ []
 
 -- "Least number first .. A number is used if its condition holds for that call, and in no other case": n is the first of the
 -- call's numbers whose condition holds; a number that is not the call's is never given
@@ -197,10 +207,10 @@ abbrev pub NoneWhy : List (ℕ × Type 0) → Type 0
 NoneWhy [] = Unit {0}
 NoneWhy (w ∷ ws) = (w .1 → ⊥) × NoneWhy ws
 
--- the order of judging: by number, but for 14 after 6 and 10 before 8 (document 02, N1 and N9). It is a list of its own, and every
--- call's numbers are some of these in this order
+-- the order of judging: by number, but for 10 before 8 (document 02, N9), and 14 (N1) and 16 (N6), which come "after 6" and before 7. It
+-- is a list of its own, and every call's numbers are some of these in this order
 abbrev pub turns : List ℕ
-turns = 1 ∷ 2 ∷ 3 ∷ 4 ∷ 5 ∷ 6 ∷ 14 ∷ 7 ∷ 10 ∷ 8 ∷ 9 ∷ 11 ∷ 12 ∷ 13 ∷ []
+turns = 1 ∷ 2 ∷ 3 ∷ 4 ∷ 5 ∷ 6 ∷ 14 ∷ 16 ∷ 7 ∷ 10 ∷ 8 ∷ 9 ∷ 11 ∷ 12 ∷ 13 ∷ []
 
 unfoldable pub inTurn : List ℕ → List (ℕ × Type 0) → Bool
 inTurn [] [] = true

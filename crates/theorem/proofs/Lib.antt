@@ -15,3 +15,4 @@ pub mod StoresThere
 pub mod ReopensFrom
 pub mod Landings
 pub mod Arranged
+pub mod ListLookUp

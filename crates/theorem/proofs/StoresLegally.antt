@@ -45,7 +45,7 @@ use Rattle.protocol.proofs.Judged.{passed}
 use Rattle.theorem.proofs.UpdateFirst.{none-of}
 use Rattle.protocol.proofs.Sound.{Sound}
 use Rattle.protocol.proofs.Accepted.{Legal, step-legal, service-legal, service-ready, legal-sound}
-use Rattle.protocol.proofs.Does.{Opening, Does, does-nothing, does-use, does-open, does-copy, does-land, does-fetch, does-rest, does-confirm, opening-sound}
+use Rattle.protocol.proofs.Does.{Opening, Does, does-nothing, does-use, does-use-all, does-open, does-copy, does-land, does-fetch, does-rest, does-confirm, opening-sound}
 use Rattle.protocol.proofs.Sorted.{Sorted, is-format, is-reopen, is-step, is-service, sorted}
 
 -- a page of this table, window and stamp
@@ -182,6 +182,7 @@ module _ (x : Box) (L : Legal x) (on : x .state .phase ≡ Ready) where
   unfolding perform
   does-stores (does-nothing z n) = λ s g. no-store g
   does-stores (does-use z n H) = λ s g. no-store g
+  does-stores (does-use-all z A) = λ s g. no-store g
   does-stores (does-open z O) = opens-stores O
   does-stores (does-copy {s = s} z n C) =
       λ t g. (sized (the-store g) (length-page (x .images .ssd) (dataPlace lab s) (omega (arith, L .ssd-size, C .low))), λ i. hdd-not (the-store g) i)

@@ -35,6 +35,19 @@ impl Bench {
         self.times.note::<S>(name, time);
     }
 
+    /// Times a list of 64 blocks, spread over all, and as many look-ups one by one.
+    #[inline(always)]
+    pub fn time_list<S: Side>(&mut self) {
+        let blocks = self.boxes[0].record[1];
+        let list: Vec<u32> = (0..64).map(|i| (i * blocks as u64 / 64) as u32).collect();
+        self.time::<S>("look up 64 blocks, a list", 0, Call::LookUpList(&list, 64));
+        let each = per_call(&mut self.boxes, 0, |w| {
+            let codes = list.iter().map(|block| S::make(w, Call::LookUp(*block)));
+            codes.filter(|code| *code < 100).count() as u32
+        });
+        self.times.note::<S>("look up 64 blocks, one by one", each);
+    }
+
     pub fn set(&mut self, change: impl Fn(&mut World)) {
         self.boxes.iter_mut().for_each(change);
     }

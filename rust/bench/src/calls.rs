@@ -31,6 +31,7 @@ fn held<S: Side>(b: &mut Bench) {
     let block = b.far();
     b.time::<S>("look up, not cached", 107, Call::LookUp(b.spare));
     b.time::<S>("look up, clean", 108, Call::LookUp(block));
+    b.time_list::<S>();
     b.time::<S>("view", 0, Call::View(block));
     let room = map_bytes(b.boxes[0].record[0]);
     b.time::<S>("map", 0, Call::Map(room));

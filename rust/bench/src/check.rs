@@ -7,7 +7,7 @@ use crate::plain::Plain;
 use crate::proved::Proved;
 use crate::report::grouped;
 use crate::rng::{scattered, Rng};
-use crate::world::{map_bytes, meta_pages, Call, Side, World, COUNT, NEWEST, PHASE, READY, RECORD};
+use crate::world::{map_bytes, meta_pages, Call, Side, World, COUNT, NEWEST, PHASE, READY, RECORD, WORDS};
 use std::collections::BTreeMap;
 
 /// How often each result code was seen.
@@ -62,7 +62,13 @@ fn wrong(rng: &mut Rng, slots: u32) -> (Place, u32) {
 }
 
 /// A call that fits the phase more often than not, and often names an open block; while `opening`, none is landed.
-fn random_call<'a>(rng: &mut Rng, w: &World, opening: bool, page: &'a [u8]) -> Call<'a> {
+fn random_call<'a>(
+    rng: &mut Rng,
+    w: &World,
+    opening: bool,
+    page: &'a [u8],
+    list: &'a [u32],
+) -> Call<'a> {
     let (slots, blocks) = ((w.table.len() / 2) as u32, (w.hdd.len() / PAGE) as u32);
     let room = map_bytes(slots);
     let open = &w.record[8..8 + w.record[COUNT] as usize];
@@ -82,12 +88,22 @@ fn random_call<'a>(rng: &mut Rng, w: &World, opening: bool, page: &'a [u8]) -> C
         60..=119 => Call::WriteBack(block),
         120..=129 => Call::Map(rng.pick(&[0, room - 1, room, room, room, room + 1, room + 67])),
         130..=189 => Call::View(block),
-        190..=289 => Call::LookUp(block),
+        190..=249 => Call::LookUp(block),
+        250..=289 => Call::LookUpList(list, (list.len() + (rng.below(8) == 0) as usize).min(WORDS)),
         290..=389 => Call::Fetch(block),
         390..=489 if !opening => Call::LandFetch(block),
         490..=739 if !opening => Call::Land(block, page),
         _ => Call::Offer(block),
     }
+}
+
+/// A list of blocks, now and then empty or too long, or with one that is too high.
+fn random_list(rng: &mut Rng, blocks: u32) -> Vec<u32> {
+    let (n, most) = (
+        rng.pick(&[0, 1, 2, 5, 64, 64, 65]),
+        blocks + (rng.below(8) == 0) as u32,
+    );
+    (0..n).map(|_| rng.below(most as u64) as u32).collect()
 }
 
 /// Makes random calls on both sides; now and then something lent is wrong for one call, or the stamps are near their end.
@@ -106,7 +122,8 @@ fn agree(slots: u32, blocks: u32, calls: usize, seen: &mut Seen) {
             ours.record[NEWEST] = 4_294_967_225;
             theirs.record[NEWEST] = 4_294_967_225;
         }
-        let call = random_call(&mut rng, &ours, i / 500 % 2 == 0, &page);
+        let list = random_list(&mut rng, blocks);
+        let call = random_call(&mut rng, &ours, i / 500 % 2 == 0, &page, &list);
         let spoilt = (rng.below(10) == 0).then(|| wrong(&mut rng, slots));
         let make = |w: &mut World, side: fn(&mut World, Call) -> u32| {
             let before = spoilt.map(|(place, value)| (place, swap(w, place, value)));
@@ -134,15 +151,19 @@ pub fn run() -> String {
     for (slots, blocks, calls) in sizes {
         agree(slots, blocks, calls, &mut seen);
     }
-    let all: Vec<u32> = (0..=14).chain(101..=103).chain(106..=111).collect();
+    let all: Vec<u32> = (0..=14)
+        .chain([16])
+        .chain(101..=103)
+        .chain(106..=111)
+        .collect();
     assert!(seen.keys().eq(&all), "the result codes seen: {seen:?}");
     let random: u32 = seen.values().sum();
     let refused: u32 = seen.range(1..100).map(|(_, n)| n).sum();
     calls::OPEN.iter().for_each(|(_, open)| calls::check(*open));
     format!(
-        "{} random calls, {} of them refused, with every answer and every number from 1 to 14 among them, and the calls\n\
+        "{} random calls, {} of them refused, with every answer and every number from 1 to 14 and 16 among them, and the calls\n\
          that are timed, with 0, 16 and 63 slots open: both sides gave the same code, named the same\n\
-         slot and page, and left the same record, table, images and sheet.\n",
+         slot, words and page, and left the same record, table, images and sheet.\n",
         grouped(random),
         grouped(refused)
     )

@@ -25,6 +25,10 @@ impl Side for Proved {
             Call::Land(block, page) => lend!(land, w, (block, page), image offset),
             Call::LandFetch(block) => lend!(land_fetch, w, (block), image offset),
             Call::LookUp(block) => lend!(look_up, w, (block), slot),
+            Call::LookUpList(blocks, room) => {
+                let words = &mut w.words[..room];
+                calls::look_up_list(&w.ssd, &w.hdd, &mut w.table, &w.record, blocks, words)
+            }
             Call::View(block) => lend!(view, w, (block), image offset),
             Call::Map(room) => {
                 calls::map(&w.ssd, &w.hdd, &w.table, &w.record, &mut w.sheet[..room])

@@ -5,6 +5,9 @@ use crate::image::{Image, PAGE};
 /// Words of a record.
 pub const RECORD: usize = 71;
 
+/// Words that can be lent for the answer of a list look-up, which fills at most 64.
+pub const WORDS: usize = 66;
+
 /// The places in a record of what is read or set here.
 pub const HAND: usize = 2;
 pub const NEWEST: usize = 3;
@@ -25,8 +28,8 @@ pub fn map_bytes(slots: u32) -> usize {
     67 * slots.div_ceil(60) as usize
 }
 
-/// What a call is lent, the sheet of a slot map among it, and what it sets besides: a slot, and the page that it stored or that a view
-/// found. A refusal leaves them as they were.
+/// What a call is lent, the sheet of a slot map among it, and what it sets besides: a slot, the words of a list, and the page that it
+/// stored or that a view found. A refusal leaves them as they were.
 #[derive(PartialEq)]
 pub struct World {
     pub ssd: Image,
@@ -35,6 +38,7 @@ pub struct World {
     pub record: Vec<u32>,
     pub sheet: Vec<u8>,
     pub slot: u32,
+    pub words: Vec<u32>,
     pub image: u32,
     pub offset: u64,
 }
@@ -53,6 +57,7 @@ impl World {
             record,
             sheet: vec![0xa5; map_bytes(slots) + 67],
             slot: 0,
+            words: vec![0; WORDS],
             image: 0,
             offset: 0,
         }
@@ -112,6 +117,8 @@ pub enum Call<'a> {
     Land(u32, &'a [u8]),
     LandFetch(u32),
     LookUp(u32),
+    /// A list of blocks, and how many words are lent for the answer.
+    LookUpList(&'a [u32], usize),
     View(u32),
     /// A slot map into so many bytes of the sheet.
     Map(usize),

@@ -14,6 +14,8 @@ pub enum Call {
     Fetch(Block),
     LandFetch(Block),
     LookUp(Block),
+    /// A list of blocks, and how many words are lent for the answer.
+    LookUpList(Vec<Block>, usize),
     View(Block),
     /// Into a buffer of so many bytes.
     Map(usize),
@@ -42,12 +44,25 @@ impl Call {
             "fetch" => Call::Fetch(block()),
             "land fetch" => Call::LandFetch(block()),
             "look up" => Call::LookUp(block()),
+            "look up list" => {
+                let blocks = arguments
+                    .iter()
+                    .map(|block| Block(block.parse().expect("a number")));
+                Call::list(blocks)
+            }
             "view" => Call::View(block()),
             "map" => Call::Map(number(0) as usize),
             "write back" => Call::WriteBack(block()),
             "flush" => Call::Flush,
             _ => panic!("no call: {text}"),
         }
+    }
+
+    /// A list look-up with room for as many words as there are blocks.
+    pub fn list(blocks: impl Iterator<Item = Block>) -> Self {
+        let blocks: Vec<Block> = blocks.collect();
+        let room = blocks.len();
+        Call::LookUpList(blocks, room)
     }
 }
 

@@ -8,6 +8,7 @@ pub mod kept;
 mod landings;
 mod listed;
 mod lists;
+mod located;
 pub mod looked;
 pub mod mapped;
 mod maps;
@@ -31,6 +32,7 @@ pub fn lines() -> Vec<String> {
         recovery::lines(),
         reopening::lines(),
         lists::lines(),
+        located::lines(),
         landings::lines(),
         orders::lines(),
         refusals::lines(),

@@ -5,7 +5,7 @@ use crate::listed::Listed;
 /// Title, slots, blocks and calls.
 type List = (&'static str, u32, u32, &'static str);
 
-const LISTS: [List; 9] = [
+const LISTS: [List; 10] = [
     // a block written, written over, confirmed, brought to the disk, and written again
     (
         "writes",
@@ -69,6 +69,14 @@ const LISTS: [List; 9] = [
         8,
         "fetch 1, land fetch 1, offer 2, land 2 A, offer 3, fetch 4, look up 0, look up 1, look up 2, look up 3, look up 4, \
          land 3 B, land fetch 4, look up 3, look up 4, write back 3, look up 3",
+    ),
+    // document 02, N6: the same box by a list, with blocks listed twice; the used flags that it set pass slots 0 and 1 in the sweep
+    (
+        "a list",
+        4,
+        8,
+        "fetch 1, land fetch 1, offer 2, land 2 A, offer 3, fetch 4, look up list 0 1 2 3 4 2 1, look up list 8, look up list 0 8, \
+         land 3 B, land fetch 4, look up list 3, look up list 1 2, fetch 5",
     ),
     // a slot that is open still has its former block's page: 1 reads from the HDD
     (

@@ -93,12 +93,25 @@ impl Rig {
             Call::Fetch(block) => cache.fetch(*block).map(Made::from),
             Call::LandFetch(block) => cache.land_fetch(*block).map(Made::from),
             Call::LookUp(block) => cache.look_up(*block).map(Made::from),
+            Call::LookUpList(blocks, room) => self.look_up_list(blocks, *room).map(Made::from),
             Call::View(block) => cache.view(*block).map(|_| Made::from(())),
             Call::Map(room) => mapped::map(self, *room).map(Made::from),
             Call::WriteBack(block) => cache.write_back(*block).map(Made::from),
             Call::Flush => cache.flush().map(Made::from),
         }
         .unwrap_or_else(Made::from)
+    }
+
+    /// Looks a list up: its words and the table after it are those of the single look-ups, and a refusal writes no word.
+    fn look_up_list(&mut self, blocks: &[Block], room: usize) -> Result<(), Refusal> {
+        let (words, table) = looked::singles(self, blocks);
+        let mut filled = vec![77; room];
+        let said = self.cache().look_up_list(blocks, &mut filled);
+        match said {
+            Ok(()) => assert!(filled == words && self.table == table, "{blocks:?}"),
+            Err(refusal) => assert_eq!(filled, vec![77; room], "{refusal}: a word was written"),
+        }
+        said
     }
 
     /// Lands bytes that are no page, as C may: the refusal, with both out-parameters as they were.

@@ -194,6 +194,38 @@ impl<'a> Cache<'a> {
         self.judged(code).map(|code| Condition::of(code, slot))
     }
 
+    /// Looks up to 64 blocks up, by one pass over the table for the whole list: `words`, as long as the list, becomes the slot plus 1 of
+    /// each, or 0 where it is open or not cached. Words and used flags are those of the single look-ups in list order; a block may be
+    /// listed twice. Stores nothing.
+    ///
+    /// ```
+    /// use ferjulm::{Block, Cache, Geometry, Images, Record, Refusal};
+    ///
+    /// let geometry = Geometry { slots: 4, blocks: 8 };
+    /// let (mut images, mut record) = (Images::zeroed(geometry), Record::default());
+    /// let mut table = vec![0; geometry.table_words()];
+    /// let mut cache = Cache::new(images.lend(), &mut table, &mut record);
+    /// cache.format(geometry)?;
+    /// cache.finish(|_, _| Ok::<(), Refusal>(()))?;
+    /// cache.fetch(Block(5))?;
+    /// cache.land_fetch(Block(5))?;
+    /// cache.fetch(Block(6))?;
+    ///
+    /// // 5 is in slot 0, 6 is open, 7 is not cached
+    /// let mut words = [0; 4];
+    /// cache.look_up_list(&[Block(6), Block(5), Block(7), Block(5)], &mut words)?;
+    /// assert_eq!(words, [0, 1, 0, 1]);
+    /// assert_eq!(cache.look_up_list(&[Block(5)], &mut words).unwrap_err().number(), 16);
+    /// # Ok::<(), Refusal>(())
+    /// ```
+    ///
+    /// # Errors
+    /// 3 to 6, 16 (the list is empty, over 64, or not as long as `words`), and 7 (a block). No refusal writes a word.
+    pub fn look_up_list(&mut self, blocks: &[Block], words: &mut [u32]) -> Result<(), Refusal> {
+        let code = call!(self.look_up_list(Block::numbers(blocks), words));
+        self.judged(code).map(|_| ())
+    }
+
     /// Views a block: that page of the SSD image itself if it is cached and not open, else of the HDD image. Changes nothing.
     ///
     /// # Errors

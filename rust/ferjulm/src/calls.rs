@@ -99,6 +99,21 @@ pub fn map(ssd: &[u8], hdd: &[u8], table: &[u32], record: &[u32], sheet: &mut [u
     lend!(ferjulm_map(ssd, hdd, table, record; sheet, sheet_len))
 }
 
+/// Looks a list of blocks up: `words` becomes the slot plus 1 of each, or 0 where it is open or not cached.
+#[inline]
+pub fn look_up_list(
+    ssd: &[u8],
+    hdd: &[u8],
+    table: &mut [u32],
+    record: &[u32],
+    blocks: &[u32],
+    words: &mut [u32],
+) -> u32 {
+    let (blocks, blocks_len) = blocks.lent();
+    let (words, words_len) = words.lent();
+    lend!(ferjulm_look_up_list(ssd, hdd, table, record; blocks, blocks_len, words, words_len))
+}
+
 /// Reads the label page of an SSD image: 0 with `slots` and `blocks` set, or 2.
 #[inline]
 pub fn label(ssd: &[u8], slots: &mut u32, blocks: &mut u32) -> u32 {

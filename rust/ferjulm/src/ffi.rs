@@ -27,6 +27,8 @@ declare! {
         block: u32, slot: InOut<u32>, image: InOut<u32>, offset: InOut<u64>);
     ferjulm_land_fetch(InOut<u8>, In<u8>, InOut<u32>, InOut<u32>; block: u32, image: InOut<u32>, offset: InOut<u64>);
     ferjulm_look_up(In<u8>, In<u8>, InOut<u32>, In<u32>; block: u32, slot: InOut<u32>);
+    ferjulm_look_up_list(In<u8>, In<u8>, InOut<u32>, In<u32>;
+        blocks: In<u32>, blocks_len: usize, words: InOut<u32>, words_len: usize);
     ferjulm_view(In<u8>, In<u8>, In<u32>, In<u32>; block: u32, image: InOut<u32>, offset: InOut<u64>);
     ferjulm_map(In<u8>, In<u8>, In<u32>, In<u32>; sheet: InOut<u8>, sheet_len: usize);
     ferjulm_write_back(In<u8>, InOut<u8>, InOut<u32>, InOut<u32>; block: u32, image: InOut<u32>, offset: InOut<u64>);

@@ -13,7 +13,16 @@ pub struct Slot(pub u32);
 
 /// A block number, counted from 0: a page of the HDD.
 #[derive(Clone, Copy, Debug, PartialEq, Eq, PartialOrd, Ord, Hash)]
+#[repr(transparent)]
 pub struct Block(pub u32);
+
+impl Block {
+    /// A list of blocks as the numbers that they are.
+    pub(crate) fn numbers(blocks: &[Block]) -> &[u32] {
+        // sound: a block is its number and nothing else
+        unsafe { core::slice::from_raw_parts(blocks.as_ptr().cast(), blocks.len()) }
+    }
+}
 
 /// How many slots and blocks a box has. Format refuses numbers outside the limits: 1 to 57,600 slots, 1 to 16,777,216 blocks.
 #[derive(Clone, Copy, Debug, PartialEq, Eq)]

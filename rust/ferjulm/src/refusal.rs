@@ -33,23 +33,30 @@ pub enum Lent {
     Table,
 }
 
-/// The conditions of documents 01 and 02 by number from 1; 5, 9, 11 and 13 are shortened.
-const REASONS: [&str; 14] = [
-    "format: slots or blocks outside the limits",
-    "reopen: SSD under a page, or first page no legal label",
-    "a record number out of range, window repeated or not zero past its length",
-    "an image, table or data page of the wrong length",
-    "a metadata page (reopen) or table row (others) breaks its rule, or rows, window and phase don't agree",
-    "wrong phase: step when ready, anything else before",
-    "block number too high",
-    "offer, write back: the block's slot is open; fetch: it is open for writing",
-    "land: block neither open for writing nor dirty; land a fetch: not open for fetch",
-    "fetch: the block is cached and not open, or open for fetch already",
-    "a fetch, or an offer of a block that isn't dirty, while 63 are open",
-    "a slot must be swept for, all are open",
-    "this call would store metadata, and too few stamps are left",
-    "map: the buffer is shorter than 67 × the number of lines",
+/// The conditions of documents 01 and 02 by number; 5, 9, 11 and 13 are shortened.
+const REASONS: [(u32, &str); 15] = [
+    (1, "format: slots or blocks outside the limits"),
+    (2, "reopen: SSD under a page, or first page no legal label"),
+    (3, "a record number out of range, window repeated or not zero past its length"),
+    (4, "an image, table or data page of the wrong length"),
+    (5, "a metadata page (reopen) or table row (others) breaks its rule, or rows, window and phase don't agree"),
+    (6, "wrong phase: step when ready, anything else before"),
+    (7, "block number too high"),
+    (8, "offer, write back: the block's slot is open; fetch: it is open for writing"),
+    (9, "land: block neither open for writing nor dirty; land a fetch: not open for fetch"),
+    (10, "fetch: the block is cached and not open, or open for fetch already"),
+    (11, "a fetch, or an offer of a block that isn't dirty, while 63 are open"),
+    (12, "a slot must be swept for, all are open"),
+    (13, "this call would store metadata, and too few stamps are left"),
+    (14, "map: the buffer is shorter than 67 × the number of lines"),
+    (16, "a list that is empty, over 64, or not as long as the answer list"),
 ];
+
+/// The condition of a number, if it is a refusal's.
+fn reason_of(number: u32) -> Option<&'static str> {
+    let reason = REASONS.iter().find(|reason| reason.0 == number)?;
+    Some(reason.1)
+}
 
 impl Refusal {
     /// The refusal that a result code of [`calls`](crate::calls) stands for; none where it stands for an answer. It has no
@@ -59,19 +66,17 @@ impl Refusal {
             number,
             length: None,
         };
-        (1..=REASONS.len() as u32)
-            .contains(&code)
-            .then(|| refusal(code))
+        reason_of(code).map(|_| refusal(code))
     }
 
-    /// The documents' number, 1 to 14.
+    /// Its number: document 01's, 1 to 13, or document 02's, 14 and 16.
     pub fn number(self) -> u32 {
         self.number
     }
 
     /// The condition, in the documents' words.
     pub fn reason(self) -> &'static str {
-        REASONS[self.number as usize - 1]
+        reason_of(self.number).expect("the number of a refusal")
     }
 
     /// For 4: which length is wrong, and which was expected.

@@ -81,7 +81,7 @@ fn a_refusal_in_words() {
 fn refusals_of_result_codes() {
     for code in (0..200).chain([u32::MAX]) {
         let refusal = Refusal::of_code(code);
-        let number = (1..=14).contains(&code).then_some(code);
+        let number = ((1..=14).contains(&code) || code == 16).then_some(code);
         assert_eq!(refusal.map(Refusal::number), number);
         assert!(refusal.is_none_or(|refusal| !refusal.reason().is_empty()));
     }

@@ -14,6 +14,7 @@ use Rattle.protocol.specs.Reply.{Reply}
 use Rattle.record.specs.Record.{recordOf}
 use Rattle.protocol.specs.declared.Stored.{Stored}
 use Rattle.protocol.specs.Box.{Box, Effect, Image, Store, left}
+use Rattle.protocol.specs.Condition.{wordsOf}
 use Rattle.protocol.specs.Plan.{Call, plan}
 use Rattle.protocol.specs.Recovery.{Recovered, recoverFrom}
 use Rattle.protocol.specs.Perform.{perform}
@@ -37,7 +38,7 @@ scripted l w es bs wanted = record { sizes = l; world = w; events = es; asked = 
 
 -- A case: a script; the bytes of the SSD image after some events; metadata pages, and what a reopening makes of them; a call, and
 -- its effect on a box; its move alone, for which lengths do not matter; the page that it names as stored; the closed slot that
--- it names; whether a refusal's condition holds; a text, and its bytes.
+-- it names; the words of a list of blocks; whether a refusal's condition holds; a text, and its bytes.
 pub data Case : Type 0 where
   script : Script → Case
   bytes : World → List Event → ℕ → Case
@@ -45,6 +46,7 @@ pub data Case : Type 0 where
   effect move : Call → Box → Effect → Case
   names : Call → Box → Stored → Case
   closed : Call → Box → Option Slot → Case
+  words : List ℕ → Box → List ℕ → Case
   condition : Reason → Call → Box → Bool → Case
   written : List ℕ → List ℕ → Case
 
@@ -56,6 +58,7 @@ Holds (effect c x wanted) = effectOf c x ≡ wanted
 Holds (move c x wanted) = perform (plan c x) x ≡ wanted
 Holds (names c x wanted) = left (perform (plan c x) x) (x .images) .stored ≡ wanted
 Holds (closed c x wanted) = slotSaid (perform (plan c x) x .said) ≡ wanted
+Holds (words blocks x wanted) = wordsOf (x .table) blocks ≡ wanted
 Holds (condition r c x wanted) = test r c x ≡ wanted
 Holds (written t wanted) = t ≡ wanted
 

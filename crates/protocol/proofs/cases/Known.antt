@@ -17,9 +17,9 @@ use Rattle.layout.specs.declared.Label.{Label}
 use Rattle.layout.specs.Places.{labelPlace, metaPages, ssdLength, hddLength, tableLength, withinLimits}
 use Rattle.protocol.specs.Reply.{refused}
 use Rattle.protocol.specs.Box.{Images, Box, Image, ssdImage, hddImage, Store, applied, Effect}
-use Rattle.protocol.specs.Condition.{conditionOf, slotFrom}
+use Rattle.protocol.specs.Condition.{conditionOf, slotFrom, closedSlots}
 use Rattle.protocol.specs.Plan.{Call, reopen, view, lowestFrom, plan}
-use Rattle.protocol.specs.Kinds.{kind, aim}
+use Rattle.protocol.specs.Kinds.{kind, aim, highest}
 use Rattle.record.specs.Record.{labelIn, windowIn}
 use Rattle.layout.specs.Window.{arrayOf}
 use Rattle.record.specs.Window.{without, eachSlot, zeroSlots}
@@ -39,7 +39,7 @@ use Rattle.layout.specs.MetaPage.{countOf, decodeEntry, encodeMeta, entryBytes,
 use Rattle.layout.specs.PageRule.{countTest, distinct, entriesFrom, entriesTest, entryTest, inRange, legalFlags, listed, pageTest, pairTest, passes, windowTest, zeroTest}
 use Rattle.protocol.specs.Sweep.{sweepFrom}
 use Rattle.protocol.specs.Recovery.{allOpenIn, blockIn, eachLegal, entryIn, metasOf, newestFrom, noneTwice, offPage, pagesTest, recover, recoverFrom, stampIn, stampsDiffer}
-use Rattle.protocol.specs.Perform.{confirmed, perform}
+use Rattle.protocol.specs.Perform.{confirmed, usedAll, perform}
 
 pub record Sized (l : Label) (im : Images) : Type 0 where
   pub ssd-size : length (im .ssd) ≡ ssdLength l
@@ -225,9 +225,9 @@ unfolding sameLabel within storeWithin testKnown judgedKnown effectKnown reopens
     diskFrom unformatted metaPage labelPage pages pageAt putPage zeroPage padded pagePart leBytes leNumber withinLimits metaPages digits
     labelText encodeLabel after numberFrom number allZero decodeLabel slotsBytes entryBytes rowsBytes encodeMeta stampOf countOf slotAt
     firsts windowOf entryPart decodeEntry rowsFrom countTest zeroTest listed distinct inRange windowTest legalFlags pairTest entryTest
-    entriesFrom entriesTest passes pageTest windowIn arrayOf without slotFrom conditionOf sweepFrom lowestFrom plan metasOf entryIn
-    newestFrom eachLegal stampIn stampsDiffer blockIn noneTwice allOpenIn pagesTest recover recoverFrom offPage confirmed perform
-    labelTest zeroSlots recordTest rowTest eachRow eachSlot rowsTest openRows test firstOf
+    entriesFrom entriesTest passes pageTest windowIn arrayOf without slotFrom conditionOf closedSlots sweepFrom lowestFrom plan highest
+    metasOf entryIn newestFrom eachLegal stampIn stampsDiffer blockIn noneTwice allOpenIn pagesTest recover recoverFrom offPage confirmed
+    usedAll perform labelTest zeroSlots recordTest rowTest eachRow eachSlot rowsTest openRows test firstOf
 known l es bs x =
     let ssd : List ℕ = x .images .ssd in
     let hdd : List ℕ = x .images .hdd in

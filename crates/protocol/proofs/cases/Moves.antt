@@ -12,14 +12,14 @@ use Rattle.protocol.specs.declared.Condition.the-variants.{NotCached, Cl
 use Rattle.record.specs.Record.{recordOf}
 use Rattle.protocol.specs.declared.Stored.the-variants.{Nothing, Ssd, Hdd}
 use Rattle.protocol.specs.Box.{Box, ssdImage, hddImage}
-use Rattle.protocol.specs.Plan.{step, flush, offer, land, fetch, landFetch, lookUp, writeBack}
+use Rattle.protocol.specs.Plan.{step, flush, offer, land, fetch, landFetch, lookUp, writeBack, lookUpList}
 use Rattle.protocol.proofs.cases.Report.{diskOf, filled, metaPage, labelPage, pages}
 use Rattle.protocol.proofs.cases.Known.{known}
 use Rattle.layout.specs.declared.Slot.{Slot}
 use Rattle.record.specs.declared.Phase.{Phase}
 use Rattle.protocol.proofs.cases.Report.{diskOf, filled, metaPage, labelPage, pages}
 use Rattle.protocol.proofs.cases.Known.{known}
-use Rattle.protocol.proofs.cases.Case.{Case, names, closed, AllHold, _first_, usual, two, textOf, imageless, leaving, stores, move}
+use Rattle.protocol.proofs.cases.Case.{Case, names, closed, AllHold, _first_, usual, two, textOf, imageless, leaving, stores, move, words}
 
 -- A box of two slots. The used flag (8) outlives an offer of a clean block,
 -- the landing and the writing back; neither that offer nor the writing back moves the hand, which is on slot 1.
@@ -143,6 +143,18 @@ conditions =
     ∷ closed (lookUp (record { 0 = 4 })) (rowed 1 3 7 5) none
     ∷ []
 
+-- document 02, N6, on the same boxes: a word for each place of the list, a block listed twice in two; the used flags of clean and
+-- dirty alone. Of a block in two rows the lowest slot counts, even if it is open
+abbrev pub listed : List Case
+listed =
+    words (4 ∷ 2 ∷ 1 ∷ 2 ∷ 0 ∷ 3 ∷ []) (rowed 1 3 7 5) (0 ∷ 2 ∷ 1 ∷ 2 ∷ 0 ∷ 0 ∷ [])
+    ∷ move (lookUpList (4 ∷ 2 ∷ 1 ∷ 2 ∷ 0 ∷ 3 ∷ []) 6) (rowed 1 3 7 5) (leaving done none (rowed 9 11 7 5))
+    ∷ words (6 ∷ []) (doubled 7 3 (record { 0 = 1 } ∷ [])) (0 ∷ [])
+    ∷ move (lookUpList (6 ∷ []) 1) (doubled 7 3 (record { 0 = 1 } ∷ [])) (leaving done none (doubled 7 3 (record { 0 = 1 } ∷ [])))
+    ∷ words (6 ∷ []) (doubled 1 3 []) (2 ∷ [])
+    ∷ move (lookUpList (6 ∷ []) 1) (doubled 1 3 []) (leaving done none (doubled 9 3 []))
+    ∷ []
+
 -- the page that a call names is the one that it stores
 abbrev pub named : List Case
 named =
@@ -167,6 +179,10 @@ Conditions : AllHold conditions
 unfolding known
 Conditions = Narrow first (refl, (refl, (refl, (refl, (refl, (refl, (refl, (refl, (refl, (refl, (refl, (refl, tt))))))))))))
 
+Listed : AllHold listed
+unfolding known
+Listed = Conditions first (refl, (refl, (refl, (refl, (refl, (refl, tt))))))
+
 pub Named : AllHold named
 unfolding known
-Named = Conditions first (refl, (refl, (refl, tt)))
+Named = Listed first (refl, (refl, (refl, tt)))

@@ -9,8 +9,8 @@ use Rattle.record.specs.declared.Record.{Record}
 use Rattle.record.specs.declared.Phase.the-variants.{Formatting, Recovering, Ready}
 use Rattle.record.specs.Record.{recordOf}
 use Rattle.protocol.specs.Box.{Box, Effect, refusing}
-use Rattle.protocol.specs.Plan.{Call, format, step, flush, offer, land, fetch, landFetch, lookUp, reopen, writeBack, ask, slotMap}
-use Rattle.protocol.specs.Judge.{windowFull, allOpen, labelFor, lengthsTest, lengthTest, judged, stampsSpent}
+use Rattle.protocol.specs.Plan.{Call, format, step, flush, offer, land, fetch, landFetch, lookUp, reopen, writeBack, lookUpList, ask, slotMap}
+use Rattle.protocol.specs.Judge.{windowFull, allOpen, labelFor, lengthsTest, lengthTest, judged, stampsSpent, badList}
 use Rattle.protocol.specs.Calls.{effectOf}
 use Rattle.protocol.proofs.cases.Report.{diskOf, filled, metaPage, labelPage}
 use Rattle.protocol.proofs.cases.Known.{Sized, known, effectKnown, effect-known}
@@ -61,6 +61,17 @@ windows =
     ∷ condition windowFull (offer (record { 0 = 99 })) (ofRows (openRowsFrom 0 63 ++ (99 ∷ 3 ∷ []))) false
     ∷ condition allOpen (offer (record { 0 = 99 })) (ofRows (openRowsFrom 0 62 ++ (0 ∷ 0 ∷ []))) false
     ∷ condition allOpen (offer (record { 0 = 99 })) (ofRows (openRowsFrom 0 63)) true
+    ∷ []
+
+-- document 02, N6: lists of 0, 1, 64 and 65 blocks, and answer lists that are shorter and longer by one
+abbrev pub lengths : List Case
+lengths =
+    condition badList (lookUpList [] 0) (ofRows []) true
+    ∷ condition badList (lookUpList (0 ∷ []) 1) (ofRows []) false
+    ∷ condition badList (lookUpList (replicate 64 0) 64) (ofRows []) false
+    ∷ condition badList (lookUpList (replicate 65 0) 65) (ofRows []) true
+    ∷ condition badList (lookUpList (replicate 64 0) 63) (ofRows []) true
+    ∷ condition badList (lookUpList (replicate 64 0) 65) (ofRows []) true
     ∷ []
 
 -- 5 of a reopening: pages that break a rule, each but for one thing a legal page of two slots and three blocks
@@ -169,6 +180,15 @@ edge-refusals =
     ∷ refusesBy 6 (ask (slotMap 0)) (boxed (0 ∷ 0 ∷ []) (recordOf one (record { 0 = 0 }) 1 Recovering false (record { 0 = 0 } ∷ [])))
     ∷ []
 
+-- a list (document 02, N6): 16 after 6 and before 7; block 2 of 2 is 7 at any place
+abbrev pub list-refusals : List Case
+list-refusals =
+    refusesBy 6 (lookUpList [] 0) (boxed (0 ∷ 0 ∷ []) (recordOf one (record { 0 = 0 }) 1 Recovering false (record { 0 = 0 } ∷ [])))
+    ∷ refusesBy 16 (lookUpList (2 ∷ []) 2) (boxed (0 ∷ 1 ∷ []) (settledAt 1))
+    ∷ refusesBy 7 (lookUpList (0 ∷ 1 ∷ 2 ∷ []) 3) (boxed (0 ∷ 1 ∷ []) (settledAt 1))
+    ∷ refusesBy 7 (lookUpList (2 ∷ 1 ∷ 0 ∷ []) 3) (boxed (0 ∷ 1 ∷ []) (settledAt 1))
+    ∷ []
+
 Stamps : AllHold stamps
 unfolding known textOf
 Stamps = Same-stamps first (refl, (refl, (refl, (refl, tt))))
@@ -177,9 +197,13 @@ Windows : AllHold windows
 unfolding known openRowsFrom
 Windows = Stamps first (refl, (refl, (refl, (refl, (refl, (refl, (refl, (refl, tt))))))))
 
+Lengths : AllHold lengths
+unfolding known
+Lengths = Windows first (refl, (refl, (refl, (refl, (refl, (refl, tt))))))
+
 Page-refusals : AllHold page-refusals
 unfolding known
-Page-refusals = Windows first (refl, (refl, (refl, (refl, (refl, (refl, (refl, (refl, (refl, (refl, (refl, (refl, (refl, (refl, (refl, tt)))))))))))))))
+Page-refusals = Lengths first (refl, (refl, (refl, (refl, (refl, (refl, (refl, (refl, (refl, (refl, (refl, (refl, (refl, (refl, (refl, tt)))))))))))))))
 
 pub sized-one : Sized one (fresh one (textOf 49 50) .images)
 unfolding known textOf
@@ -234,6 +258,15 @@ Edge-refusals =
     also counted _ _ _ _ refl refl
     also tt
 
+List-refusals : AllHold list-refusals
+unfolding known textOf
+List-refusals =
+    Edge-refusals first counted _ _ _ _ refl refl
+    also counted _ _ _ _ refl refl
+    also counted _ _ _ _ refl refl
+    also counted _ _ _ _ refl refl
+    also tt
+
 pub Refusals : AllHold refusals
 unfolding known textOf effectOf judged lengthTest lengthsTest
-Refusals = Edge-refusals first (refl, (refl, (refl, (refl, (refl, (refl, (refl, (refl, (refl, (refl, tt))))))))))
+Refusals = List-refusals first (refl, (refl, (refl, (refl, (refl, (refl, (refl, (refl, (refl, (refl, tt))))))))))

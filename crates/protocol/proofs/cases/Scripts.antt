@@ -7,7 +7,7 @@ use Rattle.protocol.specs.Reply.{announced, done, refusal, overwrite, lo
 use Rattle.protocol.specs.declared.Condition.the-variants.{NotCached, Clean, Dirty, Writing, Fetching}
 use Rattle.record.specs.Record.{recordOf}
 use Rattle.protocol.specs.Box.{Box}
-use Rattle.protocol.specs.Plan.{step, flush, offer, land, fetch, lookUp, view, landFetch}
+use Rattle.protocol.specs.Plan.{step, flush, offer, land, fetch, lookUp, view, landFetch, lookUpList}
 use Rattle.protocol.specs.Events.{call, startOf, cut, old, new}
 use Rattle.protocol.proofs.cases.Report.{nothing, meta, slot, line, diskOf, lost, start, filled, metaPage, labelPage, pages, rubbish}
 use Rattle.protocol.proofs.cases.Known.{Sized, known}
@@ -181,6 +181,34 @@ edited =
       reads = filled 9 ∷ [];
     })
 
+-- document 02, N6: P9 with a list for the look-up, of block 0 twice, of one that is not cached and of one that is open: only slot 0
+-- is passed by the sweep
+abbrev pub mapped : Script
+mapped =
+    scripted two (start two)
+    (call (fetch (record { 0 = 0 })) ∷ call (landFetch (record { 0 = 0 })) ∷ call (fetch (record { 0 = 1 })) ∷ call
+    (lookUpList (0 ∷ 2 ∷ 1 ∷ 0 ∷ []) 4) ∷ call (landFetch (record { 0 = 1 })) ∷ call (lookUpList [] 0) ∷ call
+    (offer (record { 0 = 2 })) ∷ [])
+    (record { 0 = 0 } ∷ [])
+    (record {
+      lines =
+          line (announced (record { 0 = 0 })) (meta 0) Ready
+          ∷ line done (slot 0) Ready
+          ∷ line (announced (record { 0 = 1 })) (meta 0) Ready
+          ∷ line done nothing Ready
+          ∷ line done (slot 1) Ready
+          ∷ line (refusal 16) nothing Ready
+          ∷ line (announced (record { 0 = 1 })) (meta 0) Ready ∷ [];
+      state = recordOf two (record { 0 = 0 }) 3 Ready false (record { 0 = 1 } ∷ []);
+      table = 0 ∷ 1 ∷ 2 ∷ 7 ∷ [];
+      ssd = pages (
+          labelPage (textOf 50 51)
+          ∷ metaPage (3 ∷ 0 ∷ 0 ∷ 0 ∷ 1 ∷ 0 ∷ []) (1 ∷ 0 ∷ 0 ∷ 0 ∷ []) (0 ∷ 0 ∷ 0 ∷ 0 ∷ 1 ∷ 0 ∷ 0 ∷ 0 ∷ 2 ∷ 0 ∷ 0 ∷ 0 ∷ 7 ∷ 0 ∷ 0 ∷ 0 ∷ [])
+          ∷ filled 64 ∷ filled 65 ∷ []);
+      hdd = diskOf two;
+      reads = filled 64 ∷ [];
+    })
+
 sized-held : Sized two (held (1 ∷ 1 ∷ 0 ∷ 0 ∷ []) 1 false [] .images)
 unfolding known
 sized-held = computed-9 first record { ssd-size = refl; hdd-size = refl }
@@ -209,13 +237,17 @@ computed-edited : Computed edited (fresh two (textOf 50 51))
 unfolding known textOf
 computed-edited = computed-unserved first refl
 
+computed-mapped : Computed mapped (fresh two (textOf 50 51))
+unfolding known textOf
+computed-mapped = computed-edited first refl
+
 computed-cuts : Computed cuts (fresh one (textOf 49 50))
 unfolding known textOf
-computed-cuts = computed-edited first refl
+computed-cuts = computed-mapped first refl
 
 -- All further cases hold.
 pub scripts : List Case
-scripts = script both-open ∷ script panel ∷ script overwritten ∷ script unserved ∷ script edited ∷ script clean-viewed ∷ script cuts ∷ []
+scripts = script both-open ∷ script panel ∷ script overwritten ∷ script unserved ∷ script edited ∷ script mapped ∷ script clean-viewed ∷ script cuts ∷ []
 
 pub all-scripts : AllHold scripts
 unfolding scripts
@@ -225,6 +257,7 @@ all-scripts =
     also shows overwritten (fresh one (textOf 49 50)) start-one sized-one computed-overwritten
     also shows unserved (fresh one (textOf 49 50)) start-one sized-one computed-unserved
     also shows edited (fresh two (textOf 50 51)) start-two sized-two computed-edited
+    also shows mapped (fresh two (textOf 50 51)) start-two sized-two computed-mapped
     also shows clean-viewed (held (1 ∷ 1 ∷ 0 ∷ 0 ∷ []) 1 false []) refl sized-held computed-clean-viewed
     also shows cuts (fresh one (textOf 49 50)) start-one sized-one computed-cuts
     also tt

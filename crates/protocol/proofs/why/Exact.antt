@@ -20,7 +20,7 @@ use Rattle.protocol.specs.Calls.{decided, effectOf, resultOf, boxOf, Vie
 use Rattle.protocol.specs.Why.{Why, FirstWhy, NoneWhy}
 use Rattle.protocol.proofs.Judged.{NoneHold, none-hold, first-none, first-yes, first-no}
 use Rattle.protocol.proofs.why.Basics.{none-same}
-use Rattle.protocol.proofs.why.Same.{Says, end, _▸_, same}
+use Rattle.protocol.proofs.why.Same.{Says, end, asks, same}
 use Rattle.protocol.proofs.why.Answers.{plan-answers}
 
 -- a reason with this number
@@ -31,9 +31,9 @@ Numbered o n = (r : Reason) × (o ≡ some r) × (numberOf r ≡ n)
 first-why : {t : Reason → Bool} {rs : List Reason} {ws : List (ℕ × Type 0)} → Says t rs ws → (n : ℕ)
     → Numbered (firstOf rs t) n ↔ FirstWhy ws n
 first-why {t} end n = (λ h. absurd (Option·none-ne-some (h .0) (unfold firstOf in (h .1))), λ h. absurd h)
-first-why {t} (_▸_ {r = q} {P = P} {rs = rs} {ws = ws} e says) n = go (told (t q)) (first-why says n)
+first-why {t} (asks {r = q} {P = P} {rs = rs} {ws = ws} e says) n = go (told (t q)) (λ h. first-why (says h) n)
   where
-    go : Told (t q) → Numbered (firstOf rs t) n ↔ FirstWhy ws n
+    go : Told (t q) → (t q ≡ false → Numbered (firstOf rs t) n ↔ FirstWhy ws n)
         → Numbered (firstOf (q ∷ rs) t) n ↔ FirstWhy ((numberOf q, P) ∷ ws) n
     go (told-true h) ih = (λ k. inl (given k, e .0 h), taken)
       where
@@ -43,11 +43,11 @@ first-why {t} (_▸_ {r = q} {P = P} {rs = rs} {ws = ws} e says) n = go (told (t
         taken : FirstWhy ((numberOf q, P) ∷ ws) n → Numbered (firstOf (q ∷ rs) t) n
         taken (inl p) = (q, first-yes t q rs h, p .0)
         taken (inr p) = absurd (p .0 (e .0 h))
-    go (told-false h) ih = (λ k. inr (λ w. clash (e .1 w) h, ih .0 (k .0, sym (first-no t q rs h) ∙ k .1, k .2)), passed)
+    go (told-false h) ih = (λ k. inr (λ w. clash (e .1 w) h, ih h .0 (k .0, sym (first-no t q rs h) ∙ k .1, k .2)), passed)
       where
         passed : FirstWhy ((numberOf q, P) ∷ ws) n → Numbered (firstOf (q ∷ rs) t) n
         passed (inl p) = clash (e .1 (p .1)) h
-        passed (inr p) = let k = ih .1 (p .1) in (k .0, first-no t q rs h ∙ k .1, k .2)
+        passed (inr p) = let k = ih h .1 (p .1) in (k .0, first-no t q rs h ∙ k .1, k .2)
 
 judged-same : (c : Call) (x : Box) (n : ℕ) → Numbered (judged c x) n ↔ FirstWhy (Why c x) n
 unfolding judged
@@ -88,9 +88,10 @@ view-refuses ssd hdd table state b n some-number =
 -- and a call that is not refused: none of its conditions holds
 none-why : {t : Reason → Bool} {rs : List Reason} {ws : List (ℕ × Type 0)} → Says t rs ws → NoneHold rs t ↔ NoneWhy ws
 none-why end = (λ h. tt, λ h. tt)
-none-why {t} (_▸_ {r = q} e says) =
-    let i = none-why says in
-    (λ h. (λ w. clash (e .1 w) (h .0), i .0 (h .1)), λ h. (not-true (t q) (none-same e .1 (h .0)), i .1 (h .1)))
+none-why {t} (asks {r = q} e says) = (
+  λ h. (λ w. clash (e .1 w) (h .0), none-why (says (h .0)) .0 (h .1)),
+  λ h. let z = not-true (t q) (none-same e .1 (h .0)) in (z, none-why (says z) .1 (h .1)),
+)
 
 pub accepts : (c : Call) (x : Box) → (refused (resultOf c x .said) ≡ false) ↔ NoneWhy (Why c x)
 unfolding effectOf judged

@@ -1,7 +1,7 @@
 -- Each call's tests, in their order, are its numbers and conditions in document 01's words.
 use Prim.Native.Nat.{ℕ, _*_, _≤_, _<_}
 use mathlib.Core.Path.{_≡_, refl, ap}
-use mathlib.Core.Bool.{Bool, true, not, _&&_, Bool·not-not}
+use mathlib.Core.Bool.{Bool, true, false, not, _&&_, Bool·not-not}
 use mathlib.Core.List.{List, [], _∷_}
 use native.Mathlib.Omega.{arith}
 use lib.Dec.{leb, ltb}
@@ -19,7 +19,7 @@ use Rattle.record.specs.Rule.{recordTest}
 use Rattle.protocol.specs.Rows.{writing, allWriting}
 use Rattle.protocol.specs.Box.{Box}
 use Rattle.protocol.specs.Condition.{conditionOf, isOpen, isCached}
-use Rattle.protocol.specs.Plan.{Call, format, step, flush, reopen, offer, fetch, landFetch, lookUp, view, writeBack, land, ask, slotMap, plan, storesMeta}
+use Rattle.protocol.specs.Plan.{Call, format, step, flush, reopen, offer, fetch, landFetch, lookUp, view, writeBack, land, lookUpList, ask, slotMap, plan, storesMeta}
 use Rattle.protocol.specs.Recovery.{labelAt, metasOf}
 use Rattle.protocol.specs.SlotMap.{mapLines, mapBytes}
 use Rattle.protocol.specs.Judge.{Reason, numberOf, lengthTest, rowsTest, isReady, test, chain}
@@ -30,13 +30,18 @@ use Rattle.protocol.proofs.why.RowsRules.{each-same, rows-same}
 use Rattle.protocol.proofs.why.PagesRules.{pages-same}
 use Rattle.protocol.proofs.why.Slots.{cached-same, open-same, write-same, fetch-same, clean-same, writing-same, other-same}
 use Rattle.protocol.proofs.why.Counted.{count-same}
+use Rattle.protocol.proofs.why.Lists.{bad-list-same, listed-some, any-high-same}
 
--- tests in their order say numbers and conditions in theirs
-infixr 5 _▸_
+-- tests in their order say numbers and conditions in theirs; a later one may rest on those before it, which do not hold where it is asked
 pub data Says (t : Reason → Bool) : List Reason → List (ℕ × Type 0) → Type 1 where
   end : Says t [] []
-  _▸_ : {r : Reason} {P : Type 0} {rs : List Reason} {ws : List (ℕ × Type 0)} → t r ⇔ P → Says t rs ws
+  asks : {r : Reason} {P : Type 0} {rs : List Reason} {ws : List (ℕ × Type 0)} → t r ⇔ P → (t r ≡ false → Says t rs ws)
       → Says t (r ∷ rs) ((numberOf r, P) ∷ ws)
+
+infixr 5 _▸_
+abbrev _▸_ : {t : Reason → Bool} {r : Reason} {P : Type 0} {rs : List Reason} {ws : List (ℕ × Type 0)} → t r ⇔ P → Says t rs ws
+    → Says t (r ∷ rs) ((numberOf r, P) ∷ ws)
+e ▸ says = asks e (λ h. says)
 
 most-same : (m n : ℕ) → leb m n ⇔ (m ≤ n)
 most-same m n = (leb-true m n, le-leb m n)
@@ -118,6 +123,9 @@ same (land b page) x =
     record-asked x ▸ none-same (land-lengths-same page x) ▸ rows-asked x ▸ phase-asked x ▸ high-asked x b
     ▸ none-same (write-same (x .table) b) ▸ end
 same (ask (slotMap n)) x = record-asked x ▸ lengths-asked x ▸ rows-asked x ▸ phase-asked x ▸ sheet-asked x n ▸ end
+same (lookUpList blocks room) x =
+    record-asked x ▸ lengths-asked x ▸ rows-asked x ▸ phase-asked x
+    ▸ asks (bad-list-same blocks room) (λ h. any-high-same blocks (x .state .label .blocks) (listed-some blocks room h) ▸ end)
 
 -- every call's numbers are in the order of judging
 pub in-order : (c : Call) (x : Box) → inTurn turns (Why c x) ≡ true
@@ -134,3 +142,4 @@ in-order (view b) x = refl
 in-order (writeBack b) x = refl
 in-order (land b page) x = refl
 in-order (ask (slotMap n)) x = refl
+in-order (lookUpList blocks room) x = refl

@@ -10,7 +10,7 @@ use Rattle.layout.specs.MetaPage.{encodeMeta, rowsOn}
 use Rattle.protocol.specs.Rows.{rowBlock, setRow}
 use Rattle.record.specs.Record.{labelIn, windowIn}
 use Rattle.protocol.specs.Box.{Box, ssdImage, hddImage, Store}
-use Rattle.protocol.specs.Plan.{Move, stay, uses, opens, lands, copies, confirms, mends, begins, formats, recovers, storesMeta}
+use Rattle.protocol.specs.Plan.{Move, stay, uses, usesAll, opens, lands, copies, confirms, mends, begins, formats, recovers, storesMeta}
 use Rattle.protocol.specs.Perform.{confirmed, joined, mendedAt, formatStore, perform}
 use Rattle.protocol.proofs.cases.Scripts as computed-first
 
@@ -33,6 +33,7 @@ pub stored : (v : Move) (x : Box) → Stored x (storesMeta v) (perform v x .stor
 unfolding perform confirmed
 stored (stay p) x = nothing
 stored (uses s p) x = nothing
+stored (usesAll ss) x = nothing
 stored (opens s b f t h) x = metadata (metaOf s) (windowIn (joined s h (x .state))) (rowsOn (metaOf s) (setRow t s b f))
 stored (lands w s page) x = slotPage s page
 stored (copies s p t h) x = diskPage (blockPlace (labelIn (x .state)) (rowBlock t s))

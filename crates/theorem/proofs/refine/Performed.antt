@@ -23,8 +23,8 @@ use Rattle.record.specs.Record.{windowIn, recordOf, largestStamp}
 use Rattle.record.specs.Window.{without}
 use Rattle.protocol.specs.Box.{Box, left, boxAfter}
 use Rattle.protocol.specs.Recovery.{metasOf, Newest, newestOf, phaseOf, offPage}
-use Rattle.protocol.specs.Plan.{Move, uses, opens, lands, copies, confirms, mends}
-use Rattle.protocol.specs.Perform.{confirmed, landedFlags, landedState, perform}
+use Rattle.protocol.specs.Plan.{Move, uses, usesAll, opens, lands, copies, confirms, mends}
+use Rattle.protocol.specs.Perform.{confirmed, landedFlags, landedState, usedAll, perform}
 use Rattle.protocol.specs.Judge.{isEmpty}
 use Rattle.record.proofs.RecordLaws.{window-in}
 use Rattle.protocol.proofs.model.Base as base
@@ -82,6 +82,10 @@ module _ (l : Label) (k : Core) (S : Shape l k) where
       (tabled k (setFlags (k .table) (record { 0 = s }) (withUsed (rowFlags (k .table) (record { 0 = s })))) (k .hand))
   unfolding perform
   uses-box s said = refl
+
+  pub all-box : (ss : List Slot) → after l k (usesAll ss) ≡ boxOfCore l (tabled k (usedAll ss (k .table)) (k .hand))
+  unfolding perform
+  all-box ss = refl
 
   pub uses-alike : (s : ℕ) → s < l .slots → valid (getD (k .table) (2 * s + 1) 0) ≡ true
       → Alike l (k .table) (setFlags (k .table) (record { 0 = s }) (withUsed (rowFlags (k .table) (record { 0 = s }))))

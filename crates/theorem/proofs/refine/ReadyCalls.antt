@@ -20,9 +20,9 @@ use Rattle.protocol.specs.Reply.{Reply, refused}
 use Rattle.protocol.specs.Rows.{rowFlags, setRow, valid, dirty, writing}
 use Rattle.protocol.specs.Box.{Effect, left, boxAfter}
 use Rattle.protocol.specs.Recovery.{metasOf, newestOf}
-use Rattle.protocol.specs.Plan.{Call, Move, stay, uses, opens, lands, copies, confirms}
+use Rattle.protocol.specs.Plan.{Call, Move, stay, uses, usesAll, opens, lands, copies, confirms}
 use Rattle.protocol.specs.Kinds.{Aim, aService, kind}
-use Rattle.protocol.specs.Perform.{confirmed, perform}
+use Rattle.protocol.specs.Perform.{confirmed, usedAll, perform}
 use Rattle.record.specs.Record.{largestStamp}
 use Rattle.protocol.specs.Judge.{Reason, judged, isReady}
 use Rattle.protocol.specs.Calls.{decided, effectOf}
@@ -37,10 +37,11 @@ use Rattle.theorem.proofs.model.Flushed.{flushed-ready, settled-ready}
 use Rattle.protocol.proofs.refine.Windows.{nums, nums-append, nums-one, distinct-nums}
 use Rattle.protocol.proofs.refine.Flags.{rowOf}
 use Rattle.protocol.proofs.refine.Tables.{rowAt, set-at, at-open, at-block, at-valid, at-dirty}
+use Rattle.protocol.proofs.refine.Sweeps.{Alike}
 use Rattle.protocol.proofs.refine.Conditions.{Held, is-dirty}
 use Rattle.protocol.proofs.Sound.{Sound, writing-is, room}
-use Rattle.protocol.proofs.Does.{Absent, Opening, Copying, Quiet, Does, does-nothing, does-use, does-open, does-copy, does-land, does-fetch, does-rest, does-confirm, opening-sound}
-use Rattle.theorem.proofs.refine.Performed.{after, tabled-abs, tabled-shape, uses-box, uses-alike, storedCore, stored-shape, stored-abs, opens-box, confirms-box, landedCore, lands-box, lands-shape, lands-abs, copiedCore, copies-box, copies-shape, copies-abs}
+use Rattle.protocol.proofs.Does.{Absent, Opening, Copying, Quiet, Does, does-nothing, does-use, does-use-all, does-open, does-copy, does-land, does-fetch, does-rest, does-confirm, opening-sound}
+use Rattle.theorem.proofs.refine.Performed.{after, tabled-abs, tabled-shape, uses-box, all-box, uses-alike, storedCore, stored-shape, stored-abs, opens-box, confirms-box, landedCore, lands-box, lands-shape, lands-abs, copiedCore, copies-box, copies-shape, copies-abs}
 use Rattle.protocol.proofs.refine.Abstract.{Core, boxOfCore, abs, Shape, ready-sound, Agrees, is-ready, Inv}
 
 -- a call that did this
@@ -118,6 +119,13 @@ module _ (l : Label) (k : Core) (S : Shape l k) (d : Disk) (p : Plain) (A : Agre
     uses-next z {b} {s} said n H =
         let T = uses-alike l k S (s .0) (H .low) (H .held) in
         next (uses s said) _ p n (uses-box l k S (s .0) said) (tabled-shape l k S _ (k .hand) T (S .hand-ok)) (quiet z)
+        (rw (tabled-abs l k S _ (k .hand) T) R)
+
+    all-used : Quiet a → (ss : List Slot) → Alike l (k .table) (usedAll ss (k .table))
+        → Inv l (calledAs c (perform (usesAll ss) (boxOfCore l k)) (worldOf l k d))
+    unfolding perform
+    all-used z ss T =
+        next (usesAll ss) _ p refl (all-box l k S ss) (tabled-shape l k S _ (k .hand) T (S .hand-ok)) (quiet z)
         (rw (tabled-abs l k S _ (k .hand) T) R)
 
     -- a slot is opened
@@ -271,6 +279,7 @@ module _ (l : Label) (k : Core) (S : Shape l k) (d : Disk) (p : Plain) (A : Agre
       → Inv l (calledAs c (perform v (boxOfCore l k)) (worldOf l k d))
   service-next c K (does-nothing {said = said} z n) = stays c K said p n (quiet c K z) R
   service-next c K (does-use {said = said} z n H) = uses-next c K z said n H
+  service-next c K (does-use-all {ss = ss} z T) = all-used c K z ss T
   service-next c K (does-open z O) = opens-next c K z O
   service-next c K (does-copy {said = said} z n C) = copies-next c K z C said n
   service-next c K (does-land {b = b} {s = s} {page = page} H bl y size) =

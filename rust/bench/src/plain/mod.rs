@@ -3,6 +3,7 @@
 mod calls;
 mod judge;
 mod map;
+mod list;
 mod moves;
 pub mod record;
 mod reopen;
@@ -27,6 +28,7 @@ impl Side for Plain {
             Call::Land(block, page) => calls::land(w, block, page),
             Call::LandFetch(block) => calls::land_fetch(w, block),
             Call::LookUp(block) => calls::look_up(w, block),
+            Call::LookUpList(blocks, room) => list::look_up_list(w, blocks, room),
             Call::View(block) => calls::view(w, block),
             Call::Map(room) => map::map(w, room),
             Call::WriteBack(block) => calls::write_back(w, block),

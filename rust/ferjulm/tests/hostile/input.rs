@@ -17,6 +17,8 @@ pub struct Input {
     pub slots: u32,
     pub blocks: u32,
     pub block: u32,
+    pub list: Vec<u32>,
+    pub room: usize,
 }
 
 impl Input {
@@ -31,7 +33,21 @@ impl Input {
             slots: geometry.slots,
             blocks: geometry.blocks,
             block: 0,
+            list: vec![0],
+            room: 1,
         }
+    }
+
+    /// Another list: mostly of blocks from 0 to 7, and with room for as many words.
+    pub fn list_anew(&mut self, random: &mut Random) {
+        let high = random.once_in(4);
+        let n = random.of(&[0, 1, 2, 3, 63, 64, 65]);
+        let any = |_| match high {
+            true => random.of(&[0, 1, 4, 8, 66, u32::MAX]),
+            false => random.below(4),
+        };
+        self.list = (0..n).map(any).collect();
+        self.room = if random.once_in(4) { n + 1 } else { n };
     }
 
     /// Spoils one thing.

@@ -25,7 +25,7 @@ const fn kind(
 const ALL: &[&str] = &["ssd", "hdd", "table", "record", "slot", "place"];
 const LANDING: &[&str] = &["ssd", "table", "record", "place"];
 
-pub const KINDS: [Kind; 13] = [
+pub const KINDS: [Kind; 14] = [
     kind("format", &[1, 3, 4], &[0], &["table", "record"]),
     kind("step", &[3, 4, 5, 6, 13], &[0], &["ssd", "record", "place"]),
     kind("reopen", &[2, 3, 4, 5], &[0], &["table", "record"]),
@@ -48,6 +48,12 @@ pub const KINDS: [Kind; 13] = [
         &[3, 4, 5, 6, 7],
         &[107, 108, 109, 110, 111],
         &["table", "slot"],
+    ),
+    kind(
+        "look up a list",
+        &[3, 4, 5, 6, 16, 7],
+        &[0],
+        &["table", "words"],
     ),
     kind("view", &[3, 4, 5, 6, 7], &[0], &["place"]),
     kind(

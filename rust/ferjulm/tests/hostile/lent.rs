@@ -40,6 +40,8 @@ pub struct Lent {
     pub slot: Guarded<u32>,
     pub image: Guarded<u32>,
     pub offset: Guarded<u64>,
+    list: Guarded<u32>,
+    pub words: Guarded<u32>,
     pub slots: Guarded<u32>,
     pub blocks: Guarded<u32>,
 }
@@ -59,6 +61,8 @@ impl Lent {
             slot: Guarded::new(&[UNSET], 0xc3c3_c3c3),
             image: Guarded::new(&[UNSET], 0xc3c3_c3c3),
             offset: Guarded::new(&[UNSET as u64], 0xc3c3_c3c3),
+            list: Guarded::new(&input.list, 0xc3c3_c3c3),
+            words: Guarded::new(&vec![UNSET; input.room], 0xc3c3_c3c3),
             slots: Guarded::new(&[UNSET], 0xc3c3_c3c3),
             blocks: Guarded::new(&[UNSET], 0xc3c3_c3c3),
         }
@@ -76,6 +80,8 @@ impl Lent {
             (&self.record, &other.record),
             (&self.slot, &other.slot),
             (&self.image, &other.image),
+            (&self.list, &other.list),
+            (&self.words, &other.words),
             (&self.slots, &other.slots),
             (&self.blocks, &other.blocks),
         ];
@@ -94,6 +100,8 @@ impl Lent {
             ("table", self.table == other.table),
             ("record", self.record == other.record),
             ("slot", self.slot == other.slot),
+            ("list", self.list == other.list),
+            ("words", self.words == other.words),
             (
                 "place",
                 self.image == other.image && self.offset == other.offset,
@@ -140,6 +148,10 @@ impl Lent {
             "fetch" => calls::fetch(ssd, hdd, table, record, block, slot, image, offset),
             "land a fetch" => calls::land_fetch(ssd, hdd, table, record, block, image, offset),
             "look up" => calls::look_up(ssd, hdd, table, record, block, slot),
+            "look up a list" => {
+                let (list, words) = (self.list.lent(), self.words.lent());
+                calls::look_up_list(ssd, hdd, table, record, list, words)
+            }
             "view" => calls::view(ssd, hdd, table, record, block, image, offset),
             "write back" => calls::write_back(ssd, hdd, table, record, block, image, offset),
             "map" => calls::map(ssd, hdd, table, record, self.sheet.lent()),

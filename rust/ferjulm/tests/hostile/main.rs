@@ -46,11 +46,11 @@ fn check(kind: &Kind, input: &Input) -> u32 {
     check_slot(name, result, &mut lent);
     check_place(kind, result, &mut lent, &before, input);
     check_fits(kind, &mut lent, input);
-    if name == "look up" {
-        check_condition(result, &mut lent, input);
-    }
-    if name == "map" {
-        check_sheet(&mut lent, input);
+    match name {
+        "look up" => check_condition(result, &mut lent, input),
+        "look up a list" => check_list(&mut lent, input),
+        "map" => check_sheet(&mut lent, input),
+        _ => {}
     }
     result
 }
@@ -81,6 +81,14 @@ fn check_fits(kind: &Kind, lent: &mut Lent, input: &Input) {
         "format" | "reopen" => {}
         "step" => assert!(input.record[4] < 2, "a step when ready"),
         _ => assert_eq!(input.record[4], 2, "{name} when not ready"),
+    }
+    if name == "look up a list" {
+        let fits = (1..=64).contains(&input.list.len()) && input.list.len() == input.room;
+        assert!(
+            fits && input.list.iter().all(|block| *block < blocks),
+            "{name}"
+        );
+        return;
     }
     assert!(
         !kind.refusals.contains(&7) || input.block < blocks,
@@ -122,6 +130,20 @@ fn check_sheet(lent: &mut Lent, input: &Input) {
     let rest = &input.sheet[text.len()..];
     let sheet = [text.as_bytes(), rest].concat();
     assert!(lent.sheet.lent() == sheet, "a map: {text}");
+}
+
+/// A list look-up that is done: a word for each place by its block's lowest row, and the used flags of closed slots alone.
+fn check_list(lent: &mut Lent, input: &Input) {
+    let mut table = input.table.clone();
+    let words = input.list.iter().map(|block| {
+        let slot = condition(&table, Block(*block)).closed();
+        slot.map_or(0, |slot| {
+            table[2 * slot.0 as usize + 1] |= 8;
+            slot.0 + 1
+        })
+    });
+    let words: Vec<u32> = words.collect();
+    assert!(lent.words.lent() == words && lent.table.lent() == table);
 }
 
 /// The page that a call names lies in its image, and no other was changed; it names one exactly where its answer says so, and
@@ -177,6 +199,7 @@ fn any_input_is_refused_or_served_within() {
             input.spoil(&mut random);
         }
         input.block = random.of(&[0, 1, 2, 3, 4, 7, 8, 65, 66, u32::MAX]);
+        input.list_anew(&mut random);
         if random.once_in(4) {
             input.slots = random.of(&[0, 1, 4, 5, 240, 57_600, 57_601, u32::MAX]);
             input.blocks = random.of(&[0, 1, 8, 16_777_216, 16_777_217, u32::MAX]);
@@ -199,19 +222,19 @@ fn any_input_is_refused_or_served_within() {
 #[test]
 fn nothing_lent() {
     type Empty = fn(&mut Input);
-    const FOUR: [u32; 13] = [4, 4, 4, 4, 4, 4, 4, 4, 4, 4, 4, 4, 0];
-    let empties: [(Empty, [u32; 13]); 5] = [
+    const FOUR: [u32; 14] = [4, 4, 4, 4, 4, 4, 4, 4, 4, 4, 4, 4, 4, 0];
+    let empties: [(Empty, [u32; 14]); 5] = [
         (
             |input| input.record.clear(),
-            [3, 3, 3, 3, 3, 3, 3, 3, 3, 3, 3, 3, 0],
+            [3, 3, 3, 3, 3, 3, 3, 3, 3, 3, 3, 3, 3, 0],
         ),
         (
             |input| input.ssd.clear(),
-            [4, 4, 2, 4, 4, 4, 4, 4, 4, 4, 4, 4, 2],
+            [4, 4, 2, 4, 4, 4, 4, 4, 4, 4, 4, 4, 4, 2],
         ),
         (|input| input.hdd.clear(), FOUR),
         (|input| input.table.clear(), FOUR),
-        (clear_all, [3, 3, 2, 3, 3, 3, 3, 3, 3, 3, 3, 3, 2]),
+        (clear_all, [3, 3, 2, 3, 3, 3, 3, 3, 3, 3, 3, 3, 3, 2]),
     ];
     for (empty, numbers) in empties {
         let mut input = Input::of(Rig::formatted(SMALL), SMALL);
@@ -247,6 +270,7 @@ fn a_block_in_two_rows() {
     {
         let mut input = Input::of(Rig::formatted(SMALL), SMALL);
         input.block = 6;
+        (input.list, input.room) = (vec![6, 0, 6], 3);
         input.table[2..6].copy_from_slice(&[6, low, 6, high]);
         let open = [(1, low), (2, high)]
             .into_iter()

@@ -36,6 +36,8 @@ pub struct Counts {
     pub fetched_again: [u32; 3],
     /// How often several open blocks were landed in two orders.
     pub landed_twice: u32,
+    /// Lists that were looked up.
+    pub looked_up_lists: u32,
     /// Look-ups of a block that was not cached, clean, dirty, open for writing, open for fetch.
     pub looked_up: [u32; 5],
     /// Slot maps that were not refused.
@@ -142,6 +144,7 @@ impl<'a> List<'a> {
             1 => Call::Land(self.open_block(), self.new_page()),
             2 => Call::Fetch(self.block()),
             3 => Call::LandFetch(self.open_block()),
+            4 if self.random.once_in(3) => self.list(),
             4 => Call::LookUp(self.block()),
             5 if self.random.once_in(3) => {
                 Call::Map(self.b.geometry.map_bytes() + self.random.below(3) as usize)
@@ -153,11 +156,22 @@ impl<'a> List<'a> {
         }
     }
 
+    /// A list look-up of a few blocks, or of 64: a block may come twice.
+    fn list(&mut self) -> Call {
+        let n = self.random.of(&[1, 2, 5, 64]);
+        Call::list((0..n).map(|_| self.block()).collect::<Vec<_>>().into_iter())
+    }
+
     /// A call that a ready box refuses.
     fn refused_call(&mut self) -> Call {
         let Geometry { slots, blocks } = self.b.geometry;
         let high = Block(blocks + self.random.below(3));
-        match self.random.below(7) {
+        match self.random.below(9) {
+            6 => Call::list([self.block(), high].into_iter()),
+            7 => Call::LookUpList(
+                vec![high; self.random.of(&[0, 2, 65])],
+                65 - 64 * self.random.below(2) as usize,
+            ),
             0 => Call::Offer(high),
             1 => Call::View(high),
             2 => Call::Land(self.open_block(), vec![0; PAGE - 1]),
@@ -201,6 +215,7 @@ impl<'a> List<'a> {
             Ok(Answer::CopiedOut) => self.counts.copied_out += 1,
             Ok(_) if matches!(call, Call::Map(_)) => self.counts.mapped += 1,
             Ok(Answer::Looked(condition)) => self.counts.looked_up[kind_of(condition)] += 1,
+            Ok(_) if matches!(call, Call::LookUpList(..)) => self.counts.looked_up_lists += 1,
             Ok(_) => {}
             Err(refusal) => *self.counts.refused.entry(refusal.number()).or_default() += 1,
         }

@@ -1,8 +1,26 @@
-use Rattle.protocol.specs.Calls.{boxOf}
+use lib.ListN.{length}
+use mathlib.Core.Path.{_≡_}
+use Rattle.protocol.specs.Box.{Box, Result}
+use Rattle.protocol.specs.Plan.{Call}
+use Rattle.protocol.specs.Calls.{resultOf, boxOf}
+use Rattle.protocol.specs.ReferenceDisk.{Disk}
+use Rattle.dispatch.specs.declared.Request.{Request}
+use Rattle.dispatch.specs.Dispatch.{callOf, madeOf, madeBy}
 use Rattle.dispatch.proofs.DispatchLaws.{made}
 use borrow.Author.Needs.{needs}
 use Rattle.dispatch.proofs.dispatch.dispatch.Statement.{statement}
 use Rattle.dispatch.proofs.dispatch.dispatch.Tie as tie
+
+-- the box that is lent, and the call that a request is with what stands beside it
+abbrev box : tie.Start → Box
+box s = let a = s .args in boxOf (a .ssd .now) (a .hdd .now) (a .table .now) (a .state)
+
+abbrev call : tie.Start → Request → Call
+call s q = let a = s .args in callOf q (a .page .now) (a .blocks .now) (length (a .words .now))
+
+as-call : (s : tie.Start) {v : Request} {r : Result} → s .args .request ≡ v → r ≡ resultOf (call s v) (box s) → (disk : Disk)
+    → madeOf (call s (s .args .request)) r disk ≡ madeBy (call s (s .args .request)) (record { box = box s; disk = disk })
+as-call s e f = let a = s .args in made (a .request) _ (a .page .now) (a .blocks .now) (length (a .words .now)) (box s) _ e f
 
 enum-known-request : tie.Need-enum-known-request
 enum-known-request c = search needs
@@ -46,20 +64,26 @@ enum-known-request-6 c = search needs
 look-up-requires : tie.Need-look-up-requires
 look-up-requires c κs = search needs
 
+enum-told-2 : tie.Need-enum-told-2
+enum-told-2 c = search needs
+
+look-up-list-requires : tie.Need-look-up-list-requires
+look-up-list-requires c κs = search needs
+
 enum-known-request-7 : tie.Need-enum-known-request-7
 enum-known-request-7 c = search needs
 
 write-back-requires : tie.Need-write-back-requires
 write-back-requires c κs = search needs
 
-enum-told-2 : tie.Need-enum-told-2
-enum-told-2 c = search needs
+enum-told-3 : tie.Need-enum-told-3
+enum-told-3 c = search needs
 
 flush-requires : tie.Need-flush-requires
 flush-requires c κs = search needs
 
-enum-told-3 : tie.Need-enum-told-3
-enum-told-3 c = search needs
+enum-told-4 : tie.Need-enum-told-4
+enum-told-4 c = search needs
 
 reopen-requires : tie.Need-reopen-requires
 reopen-requires c κs = search needs
@@ -75,9 +99,9 @@ same-length-3 c = search needs
 
 returns : tie.Need-returns
 returns c =
-    let a = c .before .before .before .before .before .before .before .before .before .before .before .before .before .args in
-    made (a .request) _ (a .page .now) (boxOf (a .ssd .now) (a .hdd .now) (a .table .now) (a .state)) _
-    (c .before .before .before .before .before .before .before .request .given .1) (c .before .before .format .ensures)
+    let k = c .before .before in
+    let r = k .before .before .before .before .before in
+    as-call (r .before .before .before .before .before .before .before .before) (r .request .given .1) (k .format .ensures)
 
 same-length-4 : tie.Need-same-length-4
 same-length-4 c = search needs
@@ -90,9 +114,9 @@ same-length-6 c = search needs
 
 returns-2 : tie.Need-returns-2
 returns-2 c =
-    let a = c .before .before .before .before .before .before .before .before .before .before .before .before .args in
-    made (a .request) _ (a .page .now) (boxOf (a .ssd .now) (a .hdd .now) (a .table .now) (a .state)) _
-    (c .before .before .before .before .before .before .enum-told .given .1) (c .before .before .step .ensures)
+    let k = c .before .before in
+    let r = k .before .before .before .before in
+    as-call (r .before .before .before .before .before .before .before .before) (r .enum-told .given .1) (k .step .ensures)
 
 same-length-7 : tie.Need-same-length-7
 same-length-7 c = search needs
@@ -105,11 +129,9 @@ same-length-9 c = search needs
 
 returns-3 : tie.Need-returns-3
 returns-3 c =
-    let mid = c .before .before .before .before .before .before .before .before .before in
-    let a = mid .before .before .before .before .before .before .before .before .args in
-    made (a .request) _ (a .page .now) (boxOf (a .ssd .now) (a .hdd .now) (a .table .now) (a .state)) _
-    (c .before .before .before .before .before .before .before .before .before .before .before .request2 .given .1)
-    (c .before .before .before .before .before .before .offer .ensures)
+    let k = c .before .before .before .before .before .before in
+    let r = k .before .before .before .before .before in
+    as-call (r .before .before .before .before .before .before .before .before) (r .request2 .given .1) (k .offer .ensures)
 
 same-length-10 : tie.Need-same-length-10
 same-length-10 c = search needs
@@ -122,11 +144,9 @@ same-length-12 c = search needs
 
 returns-4 : tie.Need-returns-4
 returns-4 c =
-    let mid = c .before .before .before .before .before .before .before .before .before in
-    let a = mid .before .before .before .before .before .before .args in
-    made (a .request) _ (a .page .now) (boxOf (a .ssd .now) (a .hdd .now) (a .table .now) (a .state)) _
-    (c .before .before .before .before .before .before .before .before .before .request3 .given .1)
-    (c .before .before .before .before .land .ensures)
+    let k = c .before .before .before .before in
+    let r = k .before .before .before .before .before in
+    as-call (r .before .before .before .before .before .before .before .before) (r .request3 .given .1) (k .land .ensures)
 
 same-length-13 : tie.Need-same-length-13
 same-length-13 c = search needs
@@ -139,11 +159,9 @@ same-length-15 c = search needs
 
 returns-5 : tie.Need-returns-5
 returns-5 c =
-    let mid = c .before .before .before .before .before .before .before .before .before in
-    let a = mid .before .before .before .before .before .before .before .before .args in
-    made (a .request) _ (a .page .now) (boxOf (a .ssd .now) (a .hdd .now) (a .table .now) (a .state)) _
-    (c .before .before .before .before .before .before .before .before .before .before .before .request4 .given .1)
-    (c .before .before .before .before .before .before .fetch .ensures)
+    let k = c .before .before .before .before .before .before in
+    let r = k .before .before .before .before .before in
+    as-call (r .before .before .before .before .before .before .before .before) (r .request4 .given .1) (k .fetch .ensures)
 
 same-length-16 : tie.Need-same-length-16
 same-length-16 c = search needs
@@ -156,11 +174,9 @@ same-length-18 c = search needs
 
 returns-6 : tie.Need-returns-6
 returns-6 c =
-    let mid = c .before .before .before .before .before .before .before .before .before in
-    let a = mid .before .before .before .before .before .before .args in
-    made (a .request) _ (a .page .now) (boxOf (a .ssd .now) (a .hdd .now) (a .table .now) (a .state)) _
-    (c .before .before .before .before .before .before .before .before .before .request5 .given .1)
-    (c .before .before .before .before .land-fetch .ensures)
+    let k = c .before .before .before .before in
+    let r = k .before .before .before .before .before in
+    as-call (r .before .before .before .before .before .before .before .before) (r .request5 .given .1) (k .land-fetch .ensures)
 
 same-length-19 : tie.Need-same-length-19
 same-length-19 c = search needs
@@ -173,9 +189,9 @@ same-length-21 c = search needs
 
 returns-7 : tie.Need-returns-7
 returns-7 c =
-    let a = c .before .before .before .before .before .before .before .before .before .before .before .before .before .args in
-    made (a .request) _ (a .page .now) (boxOf (a .ssd .now) (a .hdd .now) (a .table .now) (a .state)) _
-    (c .before .before .before .before .before .before .before .request6 .given .1) (c .before .before .look-up .ensures)
+    let k = c .before .before in
+    let r = k .before .before .before .before .before in
+    as-call (r .before .before .before .before .before .before .before .before) (r .request6 .given .1) (k .look-up .ensures)
 
 same-length-22 : tie.Need-same-length-22
 same-length-22 c = search needs
@@ -186,16 +202,14 @@ same-length-23 c = search needs
 same-length-24 : tie.Need-same-length-24
 same-length-24 c = search needs
 
-returns-8 : tie.Need-returns-8
-returns-8 c =
-    let mid = c .before .before .before .before .before .before .before .before .before in
-    let a = mid .before .before .before .before .before .before .args in
-    made (a .request) _ (a .page .now) (boxOf (a .ssd .now) (a .hdd .now) (a .table .now) (a .state)) _
-    (c .before .before .before .before .before .before .before .before .before .request7 .given .1)
-    (c .before .before .before .before .write-back .ensures)
-
 same-length-25 : tie.Need-same-length-25
 same-length-25 c = search needs
+
+returns-8 : tie.Need-returns-8
+returns-8 c =
+    let k = c .before .before .before .before in
+    let r = k .before .before .before .before .before in
+    as-call (r .before .before .before .before .before .before .before .before) (r .enum-told2 .given .1) (k .look-up-list .ensures .0)
 
 same-length-26 : tie.Need-same-length-26
 same-length-26 c = search needs
@@ -203,14 +217,14 @@ same-length-26 c = search needs
 same-length-27 : tie.Need-same-length-27
 same-length-27 c = search needs
 
-returns-9 : tie.Need-returns-9
-returns-9 c =
-    let a = c .before .before .before .before .before .before .before .before .before .before .before .before .args in
-    made (a .request) _ (a .page .now) (boxOf (a .ssd .now) (a .hdd .now) (a .table .now) (a .state)) _
-    (c .before .before .before .before .before .before .enum-told2 .given .1) (c .before .before .flush .ensures)
-
 same-length-28 : tie.Need-same-length-28
 same-length-28 c = search needs
+
+returns-9 : tie.Need-returns-9
+returns-9 c =
+    let k = c .before .before .before .before in
+    let r = k .before .before .before .before .before in
+    as-call (r .before .before .before .before .before .before .before .before) (r .request7 .given .1) (k .write-back .ensures)
 
 same-length-29 : tie.Need-same-length-29
 same-length-29 c = search needs
@@ -218,11 +232,29 @@ same-length-29 c = search needs
 same-length-30 : tie.Need-same-length-30
 same-length-30 c = search needs
 
+same-length-31 : tie.Need-same-length-31
+same-length-31 c = search needs
+
 returns-10 : tie.Need-returns-10
 returns-10 c =
-    let a = c .before .before .before .before .before .before .before .before .before .before .before .before .args in
-    made (a .request) _ (a .page .now) (boxOf (a .ssd .now) (a .hdd .now) (a .table .now) (a .state)) _
-    (c .before .before .before .before .before .before .enum-told3 .given .1) (c .before .before .reopen .ensures)
+    let k = c .before .before in
+    let r = k .before .before .before .before in
+    as-call (r .before .before .before .before .before .before .before .before) (r .enum-told3 .given .1) (k .flush .ensures)
+
+same-length-32 : tie.Need-same-length-32
+same-length-32 c = search needs
+
+same-length-33 : tie.Need-same-length-33
+same-length-33 c = search needs
+
+same-length-34 : tie.Need-same-length-34
+same-length-34 c = search needs
+
+returns-11 : tie.Need-returns-11
+returns-11 c =
+    let k = c .before .before in
+    let r = k .before .before .before .before in
+    as-call (r .before .before .before .before .before .before .before .before) (r .enum-told4 .given .1) (k .reopen .ensures)
 
 pub dispatch-spec : {M : Type 1} → statement M
 dispatch-spec =
@@ -242,11 +274,13 @@ dispatch-spec =
     land-fetch-requires
     enum-known-request-6
     look-up-requires
+    enum-told-2
+    look-up-list-requires
     enum-known-request-7
     write-back-requires
-    enum-told-2
-    flush-requires
     enum-told-3
+    flush-requires
+    enum-told-4
     reopen-requires
     same-length
     same-length-2
@@ -279,12 +313,17 @@ dispatch-spec =
     same-length-22
     same-length-23
     same-length-24
-    returns-8
     same-length-25
+    returns-8
     same-length-26
     same-length-27
-    returns-9
     same-length-28
+    returns-9
     same-length-29
     same-length-30
-    returns-10)
+    same-length-31
+    returns-10
+    same-length-32
+    same-length-33
+    same-length-34
+    returns-11)

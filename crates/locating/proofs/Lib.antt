@@ -1,0 +1,4 @@
+pub mod WordLaws
+pub mod PassLaws
+pub mod PlaceLaws
+pub mod ListLaws
