@@ -23,7 +23,7 @@ int main(void)
     made(ferjulm_format(BOX, 4, 8));
     while (record[FERJULM_PHASE] != FERJULM_READY)
         made(ferjulm_step(BOX, &image, &offset));
-    made(ferjulm_offer(BOX, 5, &slot, &image, &offset));
+    made(ferjulm_offer(BOX, 5, FERJULM_PEOPLE, &slot, &image, &offset));
     made(ferjulm_land(BOX, 5, page, sizeof page, &image, &offset));
     made(ferjulm_flush(BOX, &image, &offset));
     if (ferjulm_view(BOX, 5, &image, &offset) == FERJULM_DONE)

@@ -31,12 +31,12 @@ int main(void)
     ferjulm_format(BOX, 5, 8);
     while (record[FERJULM_PHASE] != FERJULM_READY)
         ferjulm_step(BOX, &image, &offset);
-    ferjulm_fetch(BOX, 1, &slot, &image, &offset);
+    ferjulm_fetch(BOX, 1, FERJULM_PEOPLE, &slot, &image, &offset);
     ferjulm_land_fetch(BOX, 1, &image, &offset);
-    ferjulm_offer(BOX, 2, &slot, &image, &offset);
+    ferjulm_offer(BOX, 2, FERJULM_PEOPLE, &slot, &image, &offset);
     ferjulm_land(BOX, 2, page, sizeof page, &image, &offset);
-    ferjulm_offer(BOX, 3, &slot, &image, &offset);
-    ferjulm_fetch(BOX, 4, &slot, &image, &offset);
+    ferjulm_offer(BOX, 3, FERJULM_PEOPLE, &slot, &image, &offset);
+    ferjulm_fetch(BOX, 4, FERJULM_PEOPLE, &slot, &image, &offset);
     for (uint32_t block = 0; block < 5; block++)
         printf("block %u: %s\n", (unsigned)block, panel(ferjulm_look_up(BOX, block, &slot)));
     if (ferjulm_map(BOX, sheet, sizeof sheet) == FERJULM_DONE)

@@ -42,7 +42,7 @@ extern "C" {
 #endif
 
 #define FERJULM_PAGE 4096
-#define FERJULM_RECORD_WORDS 71
+#define FERJULM_RECORD_WORDS 134
 
 /* Limits of a format. */
 #define FERJULM_MAX_SLOTS 57600
@@ -51,7 +51,8 @@ extern "C" {
 /* The most blocks of a list that is looked up. */
 #define FERJULM_LIST_MOST 64
 
-/* The words of a record by index; the window's slots, 63 of them, begin at FERJULM_WINDOW and are zero past the count. */
+/* The words of a record by index; the window's slots, 63 of them, begin at FERJULM_WINDOW and are zero past the count. The callers of
+ * its places, 63 of them too, begin at FERJULM_CALLERS: FERJULM_PEOPLE past the count, and everywhere while recovering. */
 enum {
     FERJULM_SLOTS = 0,
     FERJULM_BLOCKS = 1,
@@ -61,7 +62,14 @@ enum {
     FERJULM_STEPS = 5,       /* steps done while formatting, else 0 */
     FERJULM_UNCONFIRMED = 6, /* 1 if an open slot was landed with no metadata store after it (document 01: unsettled), else 0 */
     FERJULM_COUNT = 7,       /* how many slots the window has */
-    FERJULM_WINDOW = 8
+    FERJULM_WINDOW = 8,
+    FERJULM_CALLERS = 71
+};
+
+/* Who offers or fetches: the import may have at most 8 slots open. Anyone may land. */
+enum {
+    FERJULM_PEOPLE = 0,
+    FERJULM_IMPORT = 1
 };
 
 /* The phases. */
@@ -71,7 +79,7 @@ enum {
     FERJULM_READY = 2
 };
 
-/* What a call returns: one of these, or a refusal's number: 1 to 14, or 16. Where no slot is set here, *slot stays as it was. */
+/* What a call returns: one of these, or a refusal's number: 1 to 14, or 16 to 18. Where no slot is set here, *slot stays as it was. */
 enum {
     FERJULM_DONE = 0,
     FERJULM_ANNOUNCED = 101, /* the slot is open; *slot is set */
@@ -93,12 +101,14 @@ enum {
     FERJULM_HDD = 2
 };
 
-/* Why a call says no; the least number whose condition holds, but for 10 before 8, and 14 and 16 between 6 and 7.
+/* Why a call says no; the least number whose condition holds, but for 10 before 8, for 14, 16 and 18 between 6
+ * and 7, and for 17 before 11.
  *
  *   1  format: slots or blocks outside the limits
  *   2  reopen, label: SSD under a page, or first page no legal label
- *   3  a record number out of range, window repeated or not zero past its length; a record of other than 71 words, a phase
- *      above 2, steps outside formatting, unconfirmed above 1
+ *   3  a record number out of range, window repeated or not zero past its length; a record of other than 134 words, a phase
+ *      above 2, steps outside formatting, unconfirmed above 1, a caller above 1, one that is not 0 past the count or while
+ *      recovering
  *   4  an image, table or data page of the wrong length
  *   5  a metadata page (reopen) or table row (others) breaks its rule, or rows, window and phase don't agree; a block in two
  *      rows is judged at reopen only, elsewhere its lowest slot counts
@@ -112,6 +122,8 @@ enum {
  *  13  the call would store metadata, and too few stamps are left
  *  14  map: the buffer is shorter than 67 bytes for each line
  *  16  look up a list: it is empty, over 64, or not as long as the answer list
+ *  17  what 11 names, by the import with 8 or more slots open
+ *  18  offer, fetch: a caller that is neither 0 nor 1
  *
  * Every call but format, reopen and label may refuse with 3, 4, 5 and 6; each function names those that it may give besides.
  */
@@ -150,7 +162,7 @@ static inline size_t ferjulm_map_bytes(uint32_t slots)
 /* Begins a format: zeroes the table and makes a record with no step done. It stores nothing; the steps that follow, as many
  * as there are metadata pages and two more, store the SSD's label and metadata pages. The HDD is untouched, so blocks read
  * as it has them. The record handed in and the table's contents are not judged. May refuse with 1, 3 (a record of other
- * than 71 words) and 4, and with no other number.
+ * than 134 words) and 4, and with no other number.
  */
 uint32_t ferjulm_format(const uint8_t *ssd, size_t ssd_len, const uint8_t *hdd, size_t hdd_len, uint32_t *table,
                         size_t table_len, uint32_t *record, size_t record_len, uint32_t slots, uint32_t blocks);
@@ -165,7 +177,7 @@ uint32_t ferjulm_step(uint8_t *ssd, size_t ssd_len, const uint8_t *hdd, size_t h
 
 /* Reopens a box from its images after a cut, or at any other time: fills table and record. Phase ready, or recovering, to
  * be ended by steps, at most 63. It stores nothing. The record handed in and the table's contents are not judged. May refuse
- * with 2, 3 (a record of other than 71 words), 4 and 5, and with no other number.
+ * with 2, 3 (a record of other than 134 words), 4 and 5, and with no other number.
  */
 uint32_t ferjulm_reopen(const uint8_t *ssd, size_t ssd_len, const uint8_t *hdd, size_t hdd_len, uint32_t *table,
                         size_t table_len, uint32_t *record, size_t record_len);
@@ -176,12 +188,13 @@ uint32_t ferjulm_reopen(const uint8_t *ssd, size_t ssd_len, const uint8_t *hdd, 
  */
 uint32_t ferjulm_label(const uint8_t *ssd, size_t ssd_len, uint32_t *slots, uint32_t *blocks);
 
-/* Offers a write of a block. FERJULM_ANNOUNCED: its slot is open and the slot's metadata page was stored, land the bytes next.
+/* Offers a write of a block, for a caller. FERJULM_ANNOUNCED: its slot is open and the slot's metadata page was stored, land the bytes next.
  * FERJULM_OVERWRITE: the block is dirty and not open, nothing was stored, land the bytes. FERJULM_COPIED_OUT: a dirty page was
- * copied to the HDD to make room, offer again; this is never the answer twice running. May refuse with 7, 8, 11, 12 and 13.
+ * copied to the HDD to make room, offer again; this is never the answer twice running. May refuse with 18, 7, 8, 17, 11, 12
+ * and 13.
  */
 uint32_t ferjulm_offer(uint8_t *ssd, size_t ssd_len, uint8_t *hdd, size_t hdd_len, uint32_t *table, size_t table_len,
-                       uint32_t *record, size_t record_len, uint32_t block, uint32_t *slot, uint32_t *image,
+                       uint32_t *record, size_t record_len, uint32_t block, uint32_t caller, uint32_t *slot, uint32_t *image,
                        uint64_t *offset);
 
 /* Lands a page for a block that is open for writing, or dirty and not open: stores it in the block's slot, sets the slot's used
@@ -192,11 +205,12 @@ uint32_t ferjulm_land(uint8_t *ssd, size_t ssd_len, const uint8_t *hdd, size_t h
                       uint32_t *record, size_t record_len, uint32_t block, const uint8_t *page, size_t page_len,
                       uint32_t *image, uint64_t *offset);
 
-/* Fetches a block that is not cached: finds and opens a slot for it. FERJULM_ANNOUNCED: the slot's metadata page was stored, land
- * the fetch next. FERJULM_COPIED_OUT: a dirty page was copied to the HDD, fetch again. May refuse with 7, 8, 10, 11, 12 and 13.
+/* Fetches a block that is not cached, for a caller: finds and opens a slot for it. FERJULM_ANNOUNCED: the slot's metadata page was stored, land
+ * the fetch next. FERJULM_COPIED_OUT: a dirty page was copied to the HDD, fetch again. May refuse with 18, 7, 10, 8, 17, 11,
+ * 12 and 13.
  */
 uint32_t ferjulm_fetch(uint8_t *ssd, size_t ssd_len, uint8_t *hdd, size_t hdd_len, uint32_t *table, size_t table_len,
-                       uint32_t *record, size_t record_len, uint32_t block, uint32_t *slot, uint32_t *image,
+                       uint32_t *record, size_t record_len, uint32_t block, uint32_t caller, uint32_t *slot, uint32_t *image,
                        uint64_t *offset);
 
 /* Lands a fetch: copies the block's HDD page into its slot, and closes it; sets no used flag. May refuse with 7 and 9. */

@@ -98,7 +98,7 @@ static inline uint32_t box_write(struct box *b, uint32_t block, const uint8_t *p
 {
     uint32_t answer = FERJULM_COPIED_OUT;
     while (answer == FERJULM_COPIED_OUT)
-        answer = box_stored(b, ferjulm_offer(LENT(b), block, &b->slot, PLACE(b)));
+        answer = box_stored(b, ferjulm_offer(LENT(b), block, FERJULM_PEOPLE, &b->slot, PLACE(b)));
     int lands = answer == FERJULM_ANNOUNCED || answer == FERJULM_OVERWRITE;
     return lands ? box_stored(b, ferjulm_land(LENT(b), block, page, FERJULM_PAGE, PLACE(b))) : answer;
 }

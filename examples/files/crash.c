@@ -177,7 +177,7 @@ static uint32_t fetch_block(void)
 {
     uint32_t answer = FERJULM_COPIED_OUT;
     while (answer == FERJULM_COPIED_OUT)
-        answer = box_stored(&box, ferjulm_fetch(LENT(&box), block, &box.slot, PLACE(&box)));
+        answer = box_stored(&box, ferjulm_fetch(LENT(&box), block, FERJULM_PEOPLE, &box.slot, PLACE(&box)));
     if (answer == 10)
         return FERJULM_DONE; /* it is cached */
     return answer == FERJULM_ANNOUNCED ? box_stored(&box, ferjulm_land_fetch(LENT(&box), block, PLACE(&box))) : answer;

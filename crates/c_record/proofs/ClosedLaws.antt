@@ -34,7 +34,7 @@ pub answered-place : (said : Reply) (stored : Stored) (before : Place) → refus
 answered-place (refusal n) stored before h = clash refl h
 answered-place (answer n s) stored before h = refl
 
--- words that are a record are 71
-pub record-length : (words : List ℕ) → isRecord words ≡ true → length words ≡ 71
+-- words that are a record are 134
+pub record-length : (words : List ℕ) → isRecord words ≡ true → length words ≡ 134
 unfolding isRecord
-record-length words h = eqb-true _ _ (and-parts (eqb (length words) 71) _ h .0)
+record-length words h = eqb-true _ _ (and-parts (eqb (length words) 134) _ h .0)

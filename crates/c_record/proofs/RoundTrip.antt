@@ -2,11 +2,11 @@
 use Prim.Native.Nat.{ℕ, zero, suc, _≤_}
 use mathlib.Core.Path.{_≡_, refl, sym, ap, _∙_}
 use mathlib.Core.Bool.{Bool, true, false, cond}
-use mathlib.Core.List.{List, [], _∷_}
+use mathlib.Core.List.{List, [], _∷_, _++_}
 use mathlib.Core.Option.{some, none}
 use native.Mathlib.Omega.{arith}
-use lib.ListN.{length, getD, drop}
-use lib.Seq.{drop-cons}
+use lib.ListN.{length, getD, take, drop, length-append, take-append-drop}
+use lib.Seq.{drop-cons, drop-drop, take-at, drop-at}
 use lib.Dec.{eqb, leb}
 use borrow.Author.Tests.{eq-eqb, ne-eqb, lt-leb, eqb-true}
 use Rattle.layout.specs.declared.Slot.{Slot}
@@ -46,20 +46,33 @@ flag-back : (b : Bool) → eqb (flagWord b) 1 ≡ b
 flag-back true = refl
 flag-back false = refl
 
--- a record with a window of 63 slots is packed as words that are that record
-pub packed-is : (r : Record) → length (r .window) ≡ 63 → isRecord (wordsOf r) ≡ true
+-- a record with a window of 63 slots and 63 callers is packed as words that are that record
+pub record Whole (r : Record) : Type 0 where
+  pub slots : length (r .window) ≡ 63
+  pub callers : length (r .callers) ≡ 63
+
+pub packed-is : (r : Record) → Whole r → isRecord (wordsOf r) ≡ true
 unfolding isRecord wordsOf
-packed-is r all =
+packed-is r W =
     let n = numbers-length (r .window) in
-    let e : eqb (length (wordsOf r)) 71 ≡ true = eq-eqb (length (wordsOf r)) 71 (omega arith) in
+    let m = length-append (numbersOf (r .window)) (r .callers) in
+    let e : eqb (length (wordsOf r)) 134 ≡ true = eq-eqb (length (wordsOf r)) 134 (omega (arith, W .slots, W .callers)) in
     rw (e, phase-words (r .phase)) (flag-word (r .unconfirmed))
 
-pub unpacked-is : (r : Record) → unpacked (wordsOf r) ≡ r
+pub unpacked-is : (r : Record) → Whole r → unpacked (wordsOf r) ≡ r
 unfolding unpacked wordsOf
-unpacked-is r = rw (phase-back (r .phase), flag-back (r .unconfirmed), slots-back (r .window))
+unpacked-is r W =
+    let n : length (numbersOf (r .window)) ≡ 63 = numbers-length (r .window) ∙ W .slots in
+    rw (
+      phase-back (r .phase),
+      flag-back (r .unconfirmed),
+      take-at (numbersOf (r .window)) (r .callers) 63 n,
+      drop-at (numbersOf (r .window)) (r .callers) 63 n,
+      slots-back (r .window),
+    )
 
-pub packed-unpacked : (r : Record) → length (r .window) ≡ 63 → recordIn (wordsOf r) ≡ some r
-packed-unpacked r all = rw (packed-is r all, unpacked-is r)
+pub packed-unpacked : (r : Record) → Whole r → recordIn (wordsOf r) ≡ some r
+packed-unpacked r W = rw (packed-is r W, unpacked-is r W)
 
 -- two words that are a phase are that phase's words
 no-phase : (n steps : ℕ) → isPhase (suc (suc (suc n))) steps ≡ false
@@ -99,16 +112,20 @@ eight l h =
 pub words-kept : (words : List ℕ) → isRecord words ≡ true → wordsOf (unpacked words) ≡ words
 unfolding isRecord wordsOf unpacked
 words-kept words h =
-    let all : length words ≡ 71 = eqb-true _ _ (and-parts (eqb (length words) 71) _ h .0) in
-    let rest = and-parts (eqb (length words) 71) _ h .1 in
+    let all : length words ≡ 134 = eqb-true _ _ (and-parts (eqb (length words) 134) _ h .0) in
+    let rest = and-parts (eqb (length words) 134) _ h .1 in
     let p = and-parts (isPhase (getD words 4 0) (getD words 5 0)) _ rest .0 in
     let u = and-parts (isPhase (getD words 4 0) (getD words 5 0)) _ rest .1 in
     rw (
       phase-kept (getD words 4 0) (getD words 5 0) p,
       steps-kept (getD words 4 0) (getD words 5 0) p,
       flag-kept (getD words 6 0) u,
-      numbers-back (drop 8 words),
+      numbers-back (take 63 (drop 8 words)),
+      rejoined words,
     ) (eight words (omega arith))
+  where
+    rejoined : (l : List ℕ) → take 63 (drop 8 l) ++ drop 71 l ≡ drop 8 l
+    rejoined l = ap (λ (t : List ℕ). take 63 (drop 8 l) ++ t) (sym (drop-drop 63 8 l)) ∙ take-append-drop 63 (drop 8 l)
 
 -- words that are a record are its words
 pub unpacked-packed : (words : List ℕ) (r : Record) → recordIn words ≡ some r → wordsOf r ≡ words

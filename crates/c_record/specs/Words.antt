@@ -1,19 +1,21 @@
--- The record as 71 words: slots, blocks, hand, newest, phase, steps done, unsettled, count, then 63 window slots.
+-- The record as 134 words: slots, blocks, hand, newest, phase, steps done, unsettled, count, then 63 window slots, then the callers of
+-- those 63 places (document 02, N7).
 use Prim.Native.Nat.{ℕ}
 use mathlib.Core.Bool.{Bool, cond, _&&_, _||_}
-use mathlib.Core.List.{List, _∷_, map}
+use mathlib.Core.List.{List, _∷_, _++_, map}
 use mathlib.Core.Option.{Option, some, none}
-use lib.ListN.{length, getD, drop}
+use lib.ListN.{length, getD, take, drop}
 use lib.Dec.{eqb, leb}
 use Rattle.layout.specs.declared.Slot.{Slot}
 use Rattle.layout.specs.Places.{labelOf}
+use Rattle.layout.specs.Window.{windowMost}
 use Rattle.record.specs.declared.Record.{Record}
 use Rattle.record.specs.declared.Phase.{Phase}
 use Rattle.record.specs.declared.Phase.the-variants.{Formatting, Recovering, Ready}
 
 -- the number of the record's words
 abbrev pub recordWords : ℕ
-recordWords = 71
+recordWords = 134
 
 -- a phase's word: 0 formatting, 1 mending, 2 ready
 abbrev pub phaseWord : Phase → ℕ
@@ -49,7 +51,7 @@ wordsOf r =
     ∷ stepsWord (r .phase)
     ∷ flagWord (r .unconfirmed)
     ∷ r .count
-    ∷ numbersOf (r .window)
+    ∷ (numbersOf (r .window) ++ r .callers)
 
 -- the phase of two words
 abbrev pub phaseIn : ℕ → ℕ → Phase
@@ -63,15 +65,16 @@ unpacked words = record {
   newest = getD words 3 0;
   phase = phaseIn (getD words 4 0) (getD words 5 0);
   unconfirmed = eqb (getD words 6 0) 1;
-  window = slotsOf (drop 8 words);
+  window = slotsOf (take windowMost (drop 8 words));
   count = getD words 7 0;
+  callers = drop 71 words;
 }
 
 -- two words that are a phase: no steps outside formatting
 abbrev pub isPhase : ℕ → ℕ → Bool
 isPhase phase steps = eqb phase 0 || (leb phase 2 && eqb steps 0)
 
--- words that are a record: 71 of them, a phase, unsettled 0 or 1
+-- words that are a record: 134 of them, a phase, unsettled 0 or 1 (whether the callers are 0 or 1 is the record's rule, as the hand is)
 unfoldable pub isRecord : List ℕ → Bool
 isRecord words = eqb (length words) recordWords && (isPhase (getD words 4 0) (getD words 5 0) && leb (getD words 6 0) 1)
 

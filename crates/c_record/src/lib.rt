@@ -10,4 +10,4 @@ pub struct Place {
 }
 
 // The number of the record's words.
-pub const RECORD_WORDS: usize = 71;
+pub const RECORD_WORDS: usize = 134;

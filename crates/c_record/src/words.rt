@@ -1,4 +1,4 @@
-// The record as 71 words: slots, blocks, hand, newest, phase, steps done, unsettled, count, then 63 window slots.
+// The record as 134 words: slots, blocks, hand, newest, phase, steps done, unsettled, count, then 63 window slots, then their callers.
 use crate::RECORD_WORDS;
 use layout::Slot;
 use layout::WINDOW;
@@ -9,6 +9,7 @@ ghost use mathlib.Core.Path.{_≡_};
 ghost use Prim.Native.Nat.{_+_, _<_};
 ghost use mathlib.Core.List.{_++_};
 ghost use lib.ListN.{length, take, drop};
+ghost use Rattle.layout.specs.Window.{windowMost};
 ghost use Rattle.c_record.specs.Words.{recordWords, phaseWord, stepsWord, flagWord, phaseIn, slotsOf, numbersOf, wordsOf, unpacked, isPhase, isRecord};
 
 // Whether two words are a phase.
@@ -53,7 +54,7 @@ fn phase_in(phase: u32, steps: u32) -> Phase
 // The window's array.
 fn window_in(words: &[u32]) -> [Slot; WINDOW]
     requires { ⌜ length (now words) ≡ recordWords ⌝ }
-    ensures { λ r. ⌜ r ≡ slotsOf (drop 8 (now (words .entry))) ⌝ }
+    ensures { λ r. ⌜ r ≡ slotsOf (take windowMost (drop 8 (now (words .entry)))) ⌝ }
 {
     let mut window = [Slot(0); WINDOW];
     let mut i: usize = 0;
@@ -64,12 +65,27 @@ fn window_in(words: &[u32]) -> [Slot; WINDOW]
     window
 }
 
-// The record that 71 words hold.
+// The callers of its places.
+fn callers_in(words: &[u32]) -> [u32; WINDOW]
+    requires { ⌜ length (now words) ≡ recordWords ⌝ }
+    ensures { λ r. ⌜ r ≡ drop 71 (now (words .entry)) ⌝ }
+{
+    let mut callers = [0u32; WINDOW];
+    let mut i: usize = 0;
+    while i < WINDOW {
+        callers[i] = words[71 + i];
+        i += 1;
+    }
+    callers
+}
+
+// The record that 134 words hold.
 pub fn unpack(words: &[u32]) -> Record
     requires { ⌜ length (now words) ≡ recordWords ⌝ }
     ensures { λ r. ⌜ r ≡ unpacked (now (words .entry)) ⌝ }
 {
     let window = window_in(words);
+    let callers = callers_in(words);
     let phase = phase_in(words[4], words[5]);
     let l = places::label(words[0], words[1]);
     Record {
@@ -80,6 +96,7 @@ pub fn unpack(words: &[u32]) -> Record
         unconfirmed: words[6] == 1,
         window,
         count: words[7],
+        callers,
     }
 }
 
@@ -118,7 +135,7 @@ fn flag_word(unconfirmed: bool) -> u32
 // Writes the window's slots, from word 8 on.
 fn pack_window(words: &mut [u32], window: [Slot; WINDOW])
     requires { ⌜ length (now words) ≡ recordWords ⌝ }
-    ensures { λ _. ⌜ now (words .exit) ≡ take 8 (now (words .entry)) ++ numbersOf window ⌝ }
+    ensures { λ _. ⌜ now (words .exit) ≡ (take 8 (now (words .entry)) ++ numbersOf window) ++ drop 71 (now (words .entry)) ⌝ }
 {
     let mut i: usize = 0;
     while i < WINDOW {
@@ -128,7 +145,19 @@ fn pack_window(words: &mut [u32], window: [Slot; WINDOW])
     }
 }
 
-// Writes a record over 71 words.
+// Writes their callers, from word 71 on.
+fn pack_callers(words: &mut [u32], callers: [u32; WINDOW])
+    requires { ⌜ length (now words) ≡ recordWords ⌝ }
+    ensures { λ _. ⌜ now (words .exit) ≡ take 71 (now (words .entry)) ++ callers ⌝ }
+{
+    let mut i: usize = 0;
+    while i < WINDOW {
+        words[71 + i] = callers[i];
+        i += 1;
+    }
+}
+
+// Writes a record over 134 words.
 pub fn pack(words: &mut [u32], r: Record)
     requires { ⌜ length (now words) ≡ recordWords ⌝ }
     ensures { λ _. ⌜ now (words .exit) ≡ wordsOf r ⌝ }
@@ -137,6 +166,7 @@ pub fn pack(words: &mut [u32], r: Record)
     let hand = r.hand;
     let phase = r.phase;
     let window = r.window;
+    let callers = r.callers;
     let phase_at = phase_word(phase);
     let steps = steps_word(phase);
     let unconfirmed = flag_word(r.unconfirmed);
@@ -149,4 +179,5 @@ pub fn pack(words: &mut [u32], r: Record)
     words[6] = unconfirmed;
     words[7] = r.count;
     pack_window(words, window);
+    pack_callers(words, callers);
 }

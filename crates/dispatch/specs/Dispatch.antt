@@ -14,9 +14,9 @@ use Rattle.dispatch.specs.declared.Request.the-variants.{Format, Step, O
 abbrev pub callOf : Request → List ℕ → List ℕ → ℕ → Call
 callOf (Format slots blocks) page list room = format slots blocks
 callOf Step page list room = step
-callOf (Offer b) page list room = offer b
+callOf (Offer b caller) page list room = offer b caller
 callOf (Land b) page list room = land b page
-callOf (Fetch b) page list room = fetch b
+callOf (Fetch b caller) page list room = fetch b caller
 callOf (LandFetch b) page list room = landFetch b
 callOf (LookUp b) page list room = lookUp b
 callOf LookUpList page list room = lookUpList list room

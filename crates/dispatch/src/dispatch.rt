@@ -34,9 +34,9 @@ pub fn dispatch(
     match request {
         Request::Format(slots, blocks) => format::format(ssd, hdd, table, state, slots, blocks),
         Request::Step => step::step(ssd, hdd, table, state),
-        Request::Offer(block) => offer::offer(ssd, hdd, table, state, block),
+        Request::Offer(block, caller) => offer::offer(ssd, hdd, table, state, block, caller),
         Request::Land(block) => land::land(ssd, hdd, table, state, block, page),
-        Request::Fetch(block) => fetch::fetch(ssd, hdd, table, state, block),
+        Request::Fetch(block, caller) => fetch::fetch(ssd, hdd, table, state, block, caller),
         Request::LandFetch(block) => land_fetch::land_fetch(ssd, hdd, table, state, block),
         Request::LookUp(block) => look_up::look_up(ssd, hdd, table, state, block),
         Request::LookUpList => look_up_list::look_up_list(ssd, hdd, table, state, blocks, words),

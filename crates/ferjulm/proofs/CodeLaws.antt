@@ -129,23 +129,23 @@ module _ (c : Call) (ssd hdd table words : List ℕ) where
           ∙ ap (λ (q : Record). placeAfter (R q .said) (R q .stored) before) unpack);
     }
 
-    -- by any 71 words
-    pub on-words : {after : List ℕ} {code : ℕ} → Closes after code → (n : ℕ) → length words ≡ 71
+    -- by any 134 words
+    pub on-words : {after : List ℕ} {code : ℕ} → Closes after code → (n : ℕ) → length words ≡ 134
         → record { code = code; words = after; table = table′; ssd = ssd′; hdd = hdd′ } ≡ cFresh n c ssd hdd table words
     unfolding cFresh
-    on-words close n h = rw (eq-eqb (length words) 71 h) (called close)
+    on-words close n h = rw (eq-eqb (length words) 134 h) (called close)
 
-  -- a result that is in hand, by any 71 words
-  pub fresh-words : (n : ℕ) (said : Reply) (stored : Stored) (state : Record) {table′ ssd′ hdd′ after : List ℕ} {code : ℕ} → length words ≡ 71
+  -- a result that is in hand, by any 134 words
+  pub fresh-words : (n : ℕ) (said : Reply) (stored : Stored) (state : Record) {table′ ssd′ hdd′ after : List ℕ} {code : ℕ} → length words ≡ 134
       → record { said = said; stored = stored; state = state; table = table′; ssd = ssd′; hdd = hdd′ }
       ≡ resultOf c (boxOf ssd hdd table (unpacked words))
       → record { code = code; words = after } ≡ closedBy said state words
       → record { code = code; words = after; table = table′; ssd = ssd′; hdd = hdd′ } ≡ cFresh n c ssd hdd table words
   unfolding cFresh
   fresh-words n said stored state {table′} {ssd′} {hdd′} {after} {code} h p q =
-      rw (eq-eqb (length words) 71 h) (left-is (resultOf c (boxOf ssd hdd table (unpacked words))) said stored state table′ ssd′ hdd′ words after code p q)
+      rw (eq-eqb (length words) 134 h) (left-is (resultOf c (boxOf ssd hdd table (unpacked words))) said stored state table′ ssd′ hdd′ words after code p q)
 
   -- words of another number
-  pub other-length : (n code : ℕ) → (length words ≡ 71 → ⊥) → code ≡ n → kept code ssd hdd table words ≡ cFresh n c ssd hdd table words
+  pub other-length : (n code : ℕ) → (length words ≡ 134 → ⊥) → code ≡ n → kept code ssd hdd table words ≡ cFresh n c ssd hdd table words
   unfolding cFresh
-  other-length n code h e = rw (ne-eqb (length words) 71 h, e)
+  other-length n code h e = rw (ne-eqb (length words) 134 h, e)

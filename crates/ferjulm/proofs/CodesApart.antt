@@ -15,7 +15,7 @@ use Rattle.protocol.specs.declared.Stored.{Stored}
 use Rattle.protocol.specs.Reply.{Reply, refusal, answer, replyOf, refused}
 use Rattle.protocol.specs.Box.{Box, left}
 use Rattle.protocol.specs.Plan.{Call}
-use Rattle.protocol.specs.Judge.{Reason, badLimits, noLabel, badRecord, wrongLength, badRows, wrongPhase, blockTooHigh, slotOpen, wrongState, hasSlot, windowFull, allOpen, stampsSpent, badList, sheetShort, numberOf, judged}
+use Rattle.protocol.specs.Judge.{Reason, badLimits, noLabel, badRecord, wrongLength, badRows, wrongPhase, blockTooHigh, slotOpen, wrongState, hasSlot, windowFull, allOpen, stampsSpent, sheetShort, badList, importFull, unknownCaller, numberOf, judged}
 use Rattle.protocol.specs.Calls.{decided, effectOf, resultOf, boxOf}
 use Rattle.layout.proofs.Booleans.{clash}
 use Rattle.protocol.proofs.why.Answers.{plan-answers}
@@ -43,6 +43,8 @@ number-refuses allOpen = omega arith
 number-refuses stampsSpent = omega arith
 number-refuses sheetShort = omega arith
 number-refuses badList = omega arith
+number-refuses importFull = omega arith
+number-refuses unknownCaller = omega arith
 
 -- a call that is refused has a code from 1 to 99
 pub refusal-code : (c : Call) (x : Box) → refused (resultOf c x .said) ≡ true → IsRefusal (codeOf (resultOf c x .said))

@@ -1,13 +1,13 @@
 -- A list of C calls leaves what demand 3's `run` makes of the unpacked box.
-use Prim.Native.Nat.{ℕ, _+_, _≤_}
+use Prim.Native.Nat.{ℕ, _+_, _≤_, _<_}
 use mathlib.Core.Path.{_≡_, refl, sym, ap, _∙_}
 use mathlib.Core.Bool.{Bool, true, false, cond}
 use mathlib.Core.List.{List, [], _∷_, _++_, map}
 use mathlib.Core.Option.{Option, some, none}
 use native.Mathlib.Omega.{arith}
-use lib.ListN.{length, take, drop, length-take, length-drop, length-append}
+use lib.ListN.{length, length-take, length-append, length-replicate}
 use lib.Dec.{eqb, leb}
-use borrow.Author.Tests.{eq-eqb, not-false}
+use borrow.Author.Tests.{eq-eqb, eqb-true, not-false}
 use Rattle.layout.specs.declared.Slot.{Slot}
 use Rattle.layout.specs.declared.Block.{Block}
 use Rattle.layout.specs.declared.Label.{Label}
@@ -17,9 +17,10 @@ use Rattle.layout.proofs.Booleans.{Told, told, told-true, told-false, clash}
 use Rattle.record.specs.declared.Record.{Record}
 use Rattle.record.specs.declared.Phase.{Phase}
 use Rattle.record.specs.declared.Phase.the-variants.{Formatting, Recovering, Ready}
-use Rattle.record.specs.Record.{windowIn, withHand, withPhase, withStamp}
-use Rattle.record.specs.Window.{without}
-use Rattle.record.proofs.WindowLaws.{length-array}
+use Rattle.record.specs.Record.{windowIn, callersIn, withHand, withPhase, withStamp}
+use Rattle.record.proofs.WindowLaws.{length-array, length-without}
+use Rattle.record.proofs.LeaveLaws.{beside-few}
+use Rattle.record.proofs.CallerLaws.{length-callers}
 use Rattle.protocol.specs.Reply.{Reply, refusal, answer, refused}
 use Rattle.protocol.specs.Rows.{rowFlags, writing}
 use Rattle.protocol.specs.Box.{Box, left, Result, boxAfter}
@@ -44,22 +45,13 @@ use Rattle.stored.proofs.StoredLaws.{found, newest-bounded}
 use Rattle.stored.proofs.RuleLaws.{passed}
 use Rattle.c_record.specs.Words.{recordWords, wordsOf, unpacked, isRecord, recordIn}
 use Rattle.c_record.specs.Codes.{wordsAfter}
-use Rattle.c_record.proofs.WordLaws.{slots-length}
+use Rattle.c_record.proofs.WordLaws.{window-length, callers-length}
 use Rattle.c_record.proofs.ClosedLaws.{record-length}
-use Rattle.c_record.proofs.RoundTrip.{packed-is, unpacked-is, unpacked-packed}
+use Rattle.c_record.proofs.RoundTrip.{Whole, packed-is, unpacked-is, unpacked-packed}
 use Rattle.ferjulm.specs.Calls.{Left, kept, leftBy, resultBy, leftIn, cCall, cFresh}
 use Rattle.ferjulm.specs.Lists.{cServed, cMade, cRun, reaches, withIf, reached, boxIn, ranFrom, RunsAlike}
 
--- The window keeps its 63 places.
-without-few : (s : Slot) (w : List Slot) → length (without s w) ≤ length w
-unfolding without
-without-few s [] = omega arith
-without-few s (t ∷ w) = go (eqb (t .0) (s .0)) (without-few s w)
-  where
-    go : (b : Bool) → length (without s w) ≤ length w → length {A = Slot} (elim b [ true ↦ w | false ↦ t ∷ without s w ]) ≤ length (t ∷ w)
-    go true h = omega arith
-    go false h = omega arith
-
+-- The window keeps its 63 places, and their callers.
 off-few : (p : ℕ) (w : List Slot) → length (offPage p w) ≤ length w
 unfolding offPage
 off-few p [] = omega arith
@@ -70,17 +62,28 @@ off-few p (t ∷ w) = go (eqb (metaOf t) p) (off-few p w)
     go true h = omega arith
     go false h = omega arith
 
--- a box whose window has 63 places
-abbrev Whole : Record → Type 0
-Whole r = length (r .window) ≡ 63
-
 in-few : (r : Record) → Whole r → length (windowIn r) ≤ 63
 unfolding windowIn
-in-few r h = omega (arith, length-take (r .count) (r .window))
+in-few r W = omega (arith, length-take (r .count) (r .window), W .slots)
+
+callers-few : (r : Record) → Whole r → length (callersIn r) ≤ 63
+unfolding callersIn
+callers-few r W = omega (arith, length-take (r .count) (r .callers), W .callers)
+
+-- where the window has room, so have its callers
+callers-room : (r : Record) → Whole r → length (windowIn r) < 63 → length (callersIn r) < 63
+unfolding windowIn callersIn
+callers-room r W h = omega (arith, length-take (r .count) (r .window), length-take (r .count) (r .callers), W .slots, W .callers)
 
 module _ (x : Box) (whole : Whole (x .state)) where
   landed-whole : (o : Bool) (s : Slot) → Whole (landedState o s (x .state))
-  landed-whole true s = length-array _ (omega (arith, without-few s (windowIn (x .state)), in-few (x .state) whole))
+  landed-whole true s =
+      let w = windowIn (x .state) in
+      let cs = callersIn (x .state) in
+      record {
+        slots = length-array _ (omega (arith, length-without s w, in-few (x .state) whole));
+        callers = length-callers _ (omega (arith, beside-few s w cs, callers-few (x .state) whole));
+      }
   landed-whole false s = whole
 
   steps-whole : (p : Phase) → Whole (perform (stepping (x .state) p) x .state)
@@ -92,10 +95,12 @@ module _ (x : Box) (whole : Whole (x .state)) where
             | true ↦ withPhase (withHand (withStamp (x .state) 0) (record { 0 = 0 })) Ready
             | false ↦ withPhase (x .state) (Formatting (d + 1))
           ])
-      go true = whole
-      go false = whole
-  steps-whole Recovering =
-      length-array _ (omega (arith, off-few (lowestPage (windowIn (x .state))) (windowIn (x .state)), in-few (x .state) whole))
+      go true = record { slots = whole .slots; callers = whole .callers }
+      go false = record { slots = whole .slots; callers = whole .callers }
+  steps-whole Recovering = record {
+    slots = length-array _ (omega (arith, off-few (lowestPage (windowIn (x .state))) (windowIn (x .state)), in-few (x .state) whole));
+    callers = whole .callers;
+  }
   steps-whole Ready = whole
 
   does-whole : {a : Aim} {m : Move} → Sound (x .state .label) (x .table) (windowIn (x .state)) → Does x a m → Whole (perform m x .state)
@@ -103,13 +108,18 @@ module _ (x : Box) (whole : Whole (x .state)) where
   does-whole S (does-nothing z n) = whole
   does-whole S (does-use z n H) = whole
   does-whole S (does-use-all z A) = whole
-  does-whole S (does-open {s = s} z O) =
-      length-array _ (omega (arith, length-append (windowIn (x .state)) (s ∷ []), room S (O .few), length-nums (windowIn (x .state))))
-  does-whole S (does-copy z n C) = whole
+  does-whole S (does-open {s = s} {c = c} z O) =
+      let few : length (windowIn (x .state)) < 63 = omega (arith, room S (O .few), length-nums (windowIn (x .state))) in
+      record {
+        slots = length-array _ (omega (arith, length-append (windowIn (x .state)) (s ∷ []), few));
+        callers = length-callers _
+            (omega (arith, length-append (callersIn (x .state)) (c ∷ []), callers-room (x .state) whole few));
+      }
+  does-whole S (does-copy z n C) = record { slots = whole .slots; callers = whole .callers }
   does-whole S (does-land {s = s} H bl y size) = landed-whole (writing (rowFlags (x .table) s)) s
   does-whole S (does-fetch {s = s} z H bl w) = landed-whole (writing (rowFlags (x .table) s)) s
   does-whole S (does-rest n u) = whole
-  does-whole S (does-confirm u n) = whole
+  does-whole S (does-confirm u n) = record { slots = whole .slots; callers = whole .callers }
 
   recovers-whole : judged reopen x ≡ none → let l = labelAt (x .images .ssd) in Whole (recover l (metasOf l (x .images .ssd)) .state)
   unfolding recover test
@@ -120,22 +130,23 @@ module _ (x : Box) (whole : Whole (x .state)) where
       let f = found pages (numberedOf pages) refl in
       let few : length (newestOf pages .window) ≤ 63 =
       rw (f .newest-is) at (newest-bounded l pages _ (P .legal) (f .on-page) .most) in
-      length-array _ few
+      record { slots = length-array _ few; callers = length-replicate {A = ℕ} 63 0 }
 
   plan-whole : (c : Call) → judged c x ≡ none → Whole (perform (plan c x) x .state)
   plan-whole c = go (sorted c)
     where
       go : {c : Call} → Sorted c → judged c x ≡ none → Whole (perform (plan c x) x .state)
-      go (is-format slots blocks) e = unfold plan perform in (length-array [] (omega arith))
+      go (is-format slots blocks) e = unfold plan perform in
+          (record { slots = length-array [] (omega arith); callers = length-replicate {A = ℕ} 63 0 })
       go is-reopen e = unfold plan perform in (recovers-whole e)
       go is-step e = unfold plan in (steps-whole (x .state .phase))
       go {c} (is-service K does) e =
           does-whole (legal-sound x (service-legal c x K e) (service-ready c x K e)) (does x e)
 
--- words that are a record have a window of 63 places
-words-whole : (words : List ℕ) → isRecord words ≡ true → Whole (unpacked words)
+-- so many words have a window of 63 places, and their callers
+words-whole : (words : List ℕ) → length words ≡ 134 → Whole (unpacked words)
 unfolding unpacked
-words-whole words h = let n = record-length words h in slots-length (drop 8 words) ∙ length-drop 8 words ∙ omega arith
+words-whole words n = record { slots = window-length words n; callers = callers-length words n }
 
 -- What a call's answer leaves of the words, unpacked, is its record; and words that are a record stay one.
 module _ (c : Call) (k : Left) where
@@ -145,22 +156,23 @@ module _ (c : Call) (k : Left) where
   abbrev by : Left
   by = leftBy R (k .words)
 
-  after-unpacked : (said : Reply) (r : Record) → refused said ≡ false → unpacked (wordsAfter said r (k .words)) ≡ r
-  after-unpacked (refusal n) r h = clash refl h
-  after-unpacked (answer n s) r h = unpacked-is r
+  after-unpacked : (said : Reply) (r : Record) → refused said ≡ false → Whole r → unpacked (wordsAfter said r (k .words)) ≡ r
+  after-unpacked (refusal n) r h w = clash refl h
+  after-unpacked (answer n s) r h w = unpacked-is r w
 
   after-record : (said : Reply) (r : Record) → refused said ≡ false → Whole r → isRecord (wordsAfter said r (k .words)) ≡ true
   after-record (refusal n) r h w = clash refl h
   after-record (answer n s) r h w = packed-is r w
 
-  left-box : boxIn by ≡ boxAfter R
+  left-box : length (k .words) ≡ 134 → boxIn by ≡ boxAfter R
   unfolding effectOf
-  left-box = by-reason (judged c (boxIn k)) refl
+  left-box size = by-reason (judged c (boxIn k)) refl
     where
       by-reason : (o : Option Reason) → judged c (boxIn k) ≡ o
           → let Q = left (decided o c (boxIn k)) (boxIn k .images) in boxIn (leftBy Q (k .words)) ≡ boxAfter Q
       by-reason (some r) e = refl
-      by-reason none e = rw (after-unpacked _ _ (plan-answers c (boxIn k) e))
+      by-reason none e =
+          rw (after-unpacked _ _ (plan-answers c (boxIn k) e) (plan-whole (boxIn k) (words-whole (k .words) size) c e))
 
   left-record : isRecord (k .words) ≡ true → isRecord (by .words) ≡ true
   unfolding effectOf
@@ -171,7 +183,7 @@ module _ (c : Call) (k : Left) where
       by-reason (some r) e = h
       by-reason none e =
           let q = perform (plan c (boxIn k)) (boxIn k) in
-          after-record (q .said) (q .state) (plan-answers c (boxIn k) e) (plan-whole (boxIn k) (words-whole (k .words) h) c e)
+          after-record (q .said) (q .state) (plan-answers c (boxIn k) e) (plan-whole (boxIn k) (words-whole (k .words) (record-length (k .words) h)) c e)
 
 -- One call: past the words it is the box's call, else nothing changes.
 record Once (c : Call) (k : Left) : Type 0 where
@@ -189,13 +201,13 @@ module _ (c : Call) (k : Left) where
 
   served-once : cMade c k ≡ cServed c k → reaches c (k .words) ≡ isRecord (k .words) → Once c k
   served-once m r = record {
-    made = λ h. ap boxIn (m ∙ served-as true (sym r ∙ h)) ∙ left-box c k;
+    made = λ h. ap boxIn (m ∙ served-as true (sym r ∙ h)) ∙ left-box c k (record-length (k .words) (sym r ∙ h));
     stays = λ h. ap boxIn (m ∙ served-as false (sym r ∙ h));
     reach = λ h. r ∙ h;
     stay-record = λ h. ap (λ (q : Left). isRecord (q .words)) (m ∙ served-as true h) ∙ left-record c k h;
   }
 
-  -- by any 71 words
+  -- by any 134 words
   fresh-as : (n : ℕ) (b : Bool) → eqb (length (k .words)) recordWords ≡ b
       → cFresh n c (k .ssd) (k .hdd) (k .table) (k .words) ≡ cond b (by c k) (kept n (k .ssd) (k .hdd) (k .table) (k .words))
   unfolding cFresh
@@ -204,7 +216,7 @@ module _ (c : Call) (k : Left) where
   fresh-once : (n : ℕ) → cMade c k ≡ cFresh n c (k .ssd) (k .hdd) (k .table) (k .words)
       → reaches c (k .words) ≡ eqb (length (k .words)) recordWords → Once c k
   fresh-once n m r = record {
-    made = λ h. ap boxIn (m ∙ fresh-as n true (sym r ∙ h)) ∙ left-box c k;
+    made = λ h. ap boxIn (m ∙ fresh-as n true (sym r ∙ h)) ∙ left-box c k (eqb-true _ _ (sym r ∙ h));
     stays = λ h. ap boxIn (m ∙ fresh-as n false (sym r ∙ h));
     reach = λ h. r ∙ long h;
     stay-record = λ h. ap (λ (q : Left). isRecord (q .words)) (m ∙ fresh-as n true (long h)) ∙ left-record c k h;
@@ -227,8 +239,8 @@ once (format slots blocks) k = fresh-once (format slots blocks) k _ refl refl
 once step k = served-once step k refl refl
 once flush k = served-once flush k refl refl
 once reopen k = fresh-once reopen k _ refl refl
-once (offer b) k = served-once (offer b) k refl refl
-once (fetch b) k = served-once (fetch b) k refl refl
+once (offer b caller) k = served-once (offer b caller) k refl refl
+once (fetch b caller) k = served-once (fetch b caller) k refl refl
 once (landFetch b) k = served-once (landFetch b) k refl refl
 once (lookUp b) k = served-once (lookUp b) k refl refl
 once (view b) k = record { made = λ h. view-box b (boxIn k); stays = λ h. refl; reach = λ h. h; stay-record = λ h. h }

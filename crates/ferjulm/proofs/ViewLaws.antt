@@ -31,7 +31,7 @@ use Rattle.ferjulm.proofs.CodesApart.{number-refuses}
 
 module _ (ssd hdd table : List ℕ) (state : Record) (b : Block) (before : Place) where
   abbrev Found : Judged → Type 0
-  Found j = j ≡ judgedBy (servesThen (length ssd) (length hdd) 4096 table state b 0) table b
+  Found j = j ≡ judgedBy (servesThen (length ssd) (length hdd) 4096 table state b 0 0) table b
 
   abbrev there : Place
   there = placeFor (labelIn state) b (conditionOf table b)

@@ -64,7 +64,7 @@ cSlot c ssd hdd table words before = slotIn (resultBy (recordIn words) c ssd hdd
 unfoldable pub cPlace : Call → List ℕ → List ℕ → List ℕ → List ℕ → Place → Place
 cPlace c ssd hdd table words before = placeIn (resultBy (recordIn words) c ssd hdd table) before
 
--- a call that does not judge the record handed in: any 71 words will do, and another length is refused by a number
+-- a call that does not judge the record handed in: any 134 words will do, and another length is refused by a number
 unfoldable pub cFresh : ℕ → Call → List ℕ → List ℕ → List ℕ → List ℕ → Left
 cFresh n c ssd hdd table words =
     cond (eqb (length words) recordWords)

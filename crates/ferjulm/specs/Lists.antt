@@ -38,8 +38,8 @@ cMade (format slots blocks) k = cFormat slots blocks (k .ssd) (k .hdd) (k .table
 cMade step k = cServed step k
 cMade flush k = cServed flush k
 cMade reopen k = cReopen (k .ssd) (k .hdd) (k .table) (k .words)
-cMade (offer b) k = cServed (offer b) k
-cMade (fetch b) k = cServed (fetch b) k
+cMade (offer b caller) k = cServed (offer b caller) k
+cMade (fetch b caller) k = cServed (fetch b caller) k
 cMade (landFetch b) k = cServed (landFetch b) k
 cMade (lookUp b) k = cServed (lookUp b) k
 cMade (view b) k = cViewed b k
@@ -52,7 +52,7 @@ unfoldable pub cRun : List Call → Left → Left
 cRun [] k = k
 cRun (c ∷ cs) k = cRun cs (cMade c k)
 
--- the calls that get past the words: a format or a reopening with any 71, any other call with words that are a record
+-- the calls that get past the words: a format or a reopening with any 134, any other call with words that are a record
 abbrev pub reachesBy : Kind → List ℕ → Bool
 reachesBy (aFormat l) words = eqb (length words) recordWords
 reachesBy aReopening words = eqb (length words) recordWords

@@ -42,7 +42,7 @@ pub extern "C" fn ferjulm_format(
     0
 }
 
-// Offers a block.
+// Offers a block, for a caller.
 #[no_mangle]
 pub extern "C" fn ferjulm_offer(
     ssd: &mut [u8],
@@ -50,17 +50,18 @@ pub extern "C" fn ferjulm_offer(
     table: &mut [u32],
     words: &mut [u32],
     block: u32,
+    caller: u32,
     slot: &mut u32,
     image: &mut u32,
     offset: &mut u64,
 ) -> u32
-    ensures { λ r. ⌜ (record { code = r; words = now (words .exit); table = now (table .exit); ssd = now (ssd .exit); hdd = now (hdd .exit) } ≡ cCall (offer (record { 0 = block })) (now (ssd .entry)) (now (hdd .entry)) (now (table .entry)) (now (words .entry))) × (now (slot .exit) ≡ cSlot (offer (record { 0 = block })) (now (ssd .entry)) (now (hdd .entry)) (now (table .entry)) (now (words .entry)) (now (slot .entry))) × (record { image = now (image .exit); offset = now (offset .exit) } ≡ cPlace (offer (record { 0 = block })) (now (ssd .entry)) (now (hdd .entry)) (now (table .entry)) (now (words .entry)) (record { image = now (image .entry); offset = now (offset .entry) })) ⌝ }
+    ensures { λ r. ⌜ (record { code = r; words = now (words .exit); table = now (table .exit); ssd = now (ssd .exit); hdd = now (hdd .exit) } ≡ cCall (offer (record { 0 = block }) caller) (now (ssd .entry)) (now (hdd .entry)) (now (table .entry)) (now (words .entry))) × (now (slot .exit) ≡ cSlot (offer (record { 0 = block }) caller) (now (ssd .entry)) (now (hdd .entry)) (now (table .entry)) (now (words .entry)) (now (slot .entry))) × (record { image = now (image .exit); offset = now (offset .exit) } ≡ cPlace (offer (record { 0 = block }) caller) (now (ssd .entry)) (now (hdd .entry)) (now (table .entry)) (now (words .entry)) (record { image = now (image .entry); offset = now (offset .entry) })) ⌝ }
 {
     if !words::is_record(words) {
         return 3;
     }
     let state = words::unpack(words);
-    let outcome = write_path::offer::offer(ssd, hdd, table, state, Block(block));
+    let outcome = write_path::offer::offer(ssd, hdd, table, state, Block(block), caller);
     let answer = outcome.answer;
     *slot = answers::slot_of(answer, *slot);
     let stored = outcome.stored;
@@ -93,7 +94,7 @@ pub extern "C" fn ferjulm_land(
     closing::closed(words, outcome)
 }
 
-// Fetches a block.
+// Fetches a block, for a caller.
 #[no_mangle]
 pub extern "C" fn ferjulm_fetch(
     ssd: &mut [u8],
@@ -101,17 +102,18 @@ pub extern "C" fn ferjulm_fetch(
     table: &mut [u32],
     words: &mut [u32],
     block: u32,
+    caller: u32,
     slot: &mut u32,
     image: &mut u32,
     offset: &mut u64,
 ) -> u32
-    ensures { λ r. ⌜ (record { code = r; words = now (words .exit); table = now (table .exit); ssd = now (ssd .exit); hdd = now (hdd .exit) } ≡ cCall (fetch (record { 0 = block })) (now (ssd .entry)) (now (hdd .entry)) (now (table .entry)) (now (words .entry))) × (now (slot .exit) ≡ cSlot (fetch (record { 0 = block })) (now (ssd .entry)) (now (hdd .entry)) (now (table .entry)) (now (words .entry)) (now (slot .entry))) × (record { image = now (image .exit); offset = now (offset .exit) } ≡ cPlace (fetch (record { 0 = block })) (now (ssd .entry)) (now (hdd .entry)) (now (table .entry)) (now (words .entry)) (record { image = now (image .entry); offset = now (offset .entry) })) ⌝ }
+    ensures { λ r. ⌜ (record { code = r; words = now (words .exit); table = now (table .exit); ssd = now (ssd .exit); hdd = now (hdd .exit) } ≡ cCall (fetch (record { 0 = block }) caller) (now (ssd .entry)) (now (hdd .entry)) (now (table .entry)) (now (words .entry))) × (now (slot .exit) ≡ cSlot (fetch (record { 0 = block }) caller) (now (ssd .entry)) (now (hdd .entry)) (now (table .entry)) (now (words .entry)) (now (slot .entry))) × (record { image = now (image .exit); offset = now (offset .exit) } ≡ cPlace (fetch (record { 0 = block }) caller) (now (ssd .entry)) (now (hdd .entry)) (now (table .entry)) (now (words .entry)) (record { image = now (image .entry); offset = now (offset .entry) })) ⌝ }
 {
     if !words::is_record(words) {
         return 3;
     }
     let state = words::unpack(words);
-    let outcome = read_path::fetch::fetch(ssd, hdd, table, state, Block(block));
+    let outcome = read_path::fetch::fetch(ssd, hdd, table, state, Block(block), caller);
     let answer = outcome.answer;
     *slot = answers::slot_of(answer, *slot);
     let stored = outcome.stored;

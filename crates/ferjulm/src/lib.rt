@@ -1,4 +1,4 @@
-// The calls for C. Each takes the record as 71 words and returns a result code, as crate `c_record` has them. A refusal changes
+// The calls for C. Each takes the record as 134 words and returns a result code, as crate `c_record` has them. A refusal changes
 // nothing that was lent.
 pub mod calls;
 pub mod label;

@@ -61,7 +61,7 @@ pub extern "C" fn ferjulm_view(
         return 3;
     }
     let state = words::unpack(words);
-    let judged = judging::judge_block(ssd.len(), hdd.len(), 4096, table, state, Block(block));
+    let judged = judging::judge_block(ssd.len(), hdd.len(), 4096, table, state, Block(block), 0);
     let number = judged.number;
     if number != 0 {
         return number;

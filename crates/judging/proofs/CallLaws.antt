@@ -29,7 +29,7 @@ module _ (ssd hdd t : List ℕ) (r : Record) (b : Block) (k : Condition) (e : co
   abbrev x : Box
   x = boxOf ssd hdd t r
 
-  module _ (z : servesThen (length ssd) (length hdd) 4096 t r b 0 ≡ 0) where
+  module _ (z : servesThen (length ssd) (length hdd) 4096 t r b 0 0 ≡ 0) where
     pub look-up-is : left (perform (lookingUp k) x) (x .images) ≡ lookUpOf ssd hdd t r b
     unfolding plan
     look-up-is = performs (lookUp b) x (lookingUp k) (judged-on (lookUp b) x _ [] (look-up-judges ssd hdd t r b) z ∙ end _) (ap lookingUp e)
@@ -58,7 +58,7 @@ module _ (ssd hdd t : List ℕ) (r : Record) (b : Block) (k : Condition) (e : co
         ∙ first-no _ wrongState [] (ap not (ap takesFetch e ∙ o)) ∙ end _)
         (ap (landingFetch x b) e)
 
-  module _ (page : List ℕ) (z : servesThen (length ssd) (length hdd) (length page) t r b 0 ≡ 0) where
+  module _ (page : List ℕ) (z : servesThen (length ssd) (length hdd) (length page) t r b 0 0 ≡ 0) where
     pub land-wrong : takesWrite k ≡ false → left (refusing 9 x) (x .images) ≡ landOf ssd hdd t r b page
     unfolding test
     land-wrong o = refused-as (land b page) x wrongState
@@ -141,7 +141,7 @@ module _ (S H : Part) (t : List ℕ) (r : Record) (b : Block) where
   abbrev v : Box
   v = boxOf (S .bytes) (H .bytes) t r
 
-  pub view-refused : (m : ℕ) → m ≡ servesThen (length (S .bytes)) (length (H .bytes)) 4096 t r b 0 → m ≢ 0
+  pub view-refused : (m : ℕ) → m ≡ servesThen (length (S .bytes)) (length (H .bytes)) 4096 t r b 0 0 → m ≢ 0
       → record { number = m; handed = record { bytes = []; place = S .place } } ≡ viewOf S H t r b
   unfolding viewOf
   view-refused m e z =
@@ -149,7 +149,7 @@ module _ (S H : Part) (t : List ℕ) (r : Record) (b : Block) where
       ap (λ (n : ℕ). record { number = n; handed = record { bytes = []; place = S .place } }) (e ∙ sym (f .2))
       ∙ ap (λ (o : Option Reason). viewed o S H (labelIn r) b (conditionOf t b)) (sym (f .1))
 
-  pub view-is : (k : Condition) → conditionOf t b ≡ k → servesThen (length (S .bytes)) (length (H .bytes)) 4096 t r b 0 ≡ 0
+  pub view-is : (k : Condition) → conditionOf t b ≡ k → servesThen (length (S .bytes)) (length (H .bytes)) 4096 t r b 0 0 ≡ 0
       → record { number = 0; handed = viewPart S H (labelIn r) b k } ≡ viewOf S H t r b
   unfolding viewOf
   view-is k e z =

@@ -6,7 +6,7 @@ use mathlib.Core.Bool.{Bool, true, false, not, _&&_}
 use mathlib.Core.List.{List}
 use native.Mathlib.Omega.{arith}
 use lib.ListN.{length}
-use lib.Dec.{eqb, leb}
+use lib.Dec.{eqb, ltb, leb}
 use borrow.Author.Tests.{eq-eqb, ne-eqb, eqb-true}
 use Rattle.layout.proofs.Booleans.{and-parts}
 use Rattle.layout.specs.declared.Block.{Block}
@@ -102,8 +102,8 @@ module _ (ssd hdd page : ℕ) (t : List ℕ) (r : Record) where
   pub ready-asks : Asks (readyThen ssd hdd page t r)
   ready-asks = then-asks sound-asks (refuse-asks (not (isReady (r .phase))) 5)
 
-  pub serves-asks : (b : Block) → Asks (servesThen ssd hdd page t r b)
-  serves-asks b = then-asks ready-asks (refuse-asks (leb (r .label .blocks) (b .0)) 6)
+  pub serves-asks : (b : Block) (caller : ℕ) → Asks (servesThen ssd hdd page t r b caller)
+  serves-asks b caller = then-asks ready-asks (then-asks (refuse-asks (ltb 1 caller) 17) (refuse-asks (leb (r .label .blocks) (b .0)) 6))
 
 -- what is found of a number is that number
 pub number-is : (n : ℕ) (t : List ℕ) (b : Block) → judgedBy n t b .number ≡ n

@@ -6,7 +6,7 @@ use mathlib.Core.List.{List}
 use native.Mathlib.Omega.{arith}
 use native.Mathlib.Nat.{zero-add}
 use lib.ListN.{length, take}
-use lib.Dec.{eqb, leb}
+use lib.Dec.{eqb, ltb, leb}
 use borrow.Author.Tests.{eqb-true, leb-false, not-false}
 use Rattle.layout.specs.declared.Slot.{Slot}
 use Rattle.layout.specs.declared.Block.{Block}
@@ -89,13 +89,15 @@ module _ (ssd hdd : List ℕ) (page : ℕ) (t : List ℕ) (r : Record) where
         phase-is = ready-only (r .phase) (not-false _ (pass (not (isReady (r .phase))) 5 0 (sym (e _) ∙ z) .0));
       }
 
-  -- a block that passes 7 besides
-  pub serves : (b : Block) → servesThen (length ssd) (length hdd) page t r b 0 ≡ 0 → ReadyBox ssd hdd page t r × (b .0 < r .label .blocks)
-  serves b z = go (ready-asks (length ssd) (length hdd) page t r)
+  -- a block that passes 7 besides, and a caller that passes 18
+  pub serves : (b : Block) (caller : ℕ) → servesThen (length ssd) (length hdd) page t r b caller 0 ≡ 0 → ReadyBox ssd hdd page t r × (b .0 < r .label .blocks)
+  serves b caller z = go (ready-asks (length ssd) (length hdd) page t r)
     where
       go : Asks (readyThen (length ssd) (length hdd) page t r) → ReadyBox ssd hdd page t r × (b .0 < r .label .blocks)
       go (stopped n e) = absurd (never n (sym (e _) ∙ z))
-      go (passed e) = (ready (e 0), leb-false _ _ (pass (leb (r .label .blocks) (b .0)) 6 0 (sym (e _) ∙ z) .0))
+      go (passed e) =
+          let p = pass (ltb 1 caller) 17 (refuseIf (leb (r .label .blocks) (b .0)) 7 0) (sym (e _) ∙ z) in
+          (ready (e 0), leb-false _ _ (pass (leb (r .label .blocks) (b .0)) 6 0 (p .1) .0))
 
 module _ (ssd hdd : List ℕ) (page : ℕ) (t : List ℕ) (r : Record) (B : ReadyBox ssd hdd page t r) where
   agree : agreeTest Ready t (windowIn r) ≡ true

@@ -13,7 +13,7 @@ use Rattle.layout.specs.declared.Block.{Block}
 use Rattle.record.specs.declared.Record.{Record}
 use Rattle.protocol.specs.Box.{Box, refusing, left}
 use Rattle.protocol.specs.Plan.{Call, flush, offer, fetch, landFetch, lookUp, view, writeBack, land, lookUpList, ask, slotMap}
-use Rattle.protocol.specs.Judge.{lengthsTest, Reason, badRecord, wrongLength, badRows, wrongPhase, blockTooHigh, slotOpen, wrongState, hasSlot, windowFull, allOpen, stampsSpent, badList, sheetShort, numberOf, lengthTest, test, chain, firstOf, judged}
+use Rattle.protocol.specs.Judge.{lengthsTest, Reason, badRecord, wrongLength, badRows, wrongPhase, blockTooHigh, slotOpen, wrongState, hasSlot, windowFull, allOpen, stampsSpent, importFull, unknownCaller, badList, sheetShort, numberOf, lengthTest, test, chain, firstOf, judged}
 use Rattle.protocol.specs.Calls.{resultOf, boxOf}
 use Rattle.layout.proofs.Booleans.{Told, told, told-true, told-false, clash}
 use Rattle.protocol.proofs.Judged.{first-yes, first-no, refused-as}
@@ -108,6 +108,10 @@ ready-reasons = badRecord ∷ wrongLength ∷ badRows ∷ wrongPhase ∷ []
 abbrev serves-reasons : List Reason
 serves-reasons = badRecord ∷ wrongLength ∷ badRows ∷ wrongPhase ∷ blockTooHigh ∷ []
 
+-- with 18 before 7
+abbrev calls-reasons : List Reason
+calls-reasons = badRecord ∷ wrongLength ∷ badRows ∷ wrongPhase ∷ unknownCaller ∷ blockTooHigh ∷ []
+
 module _ (ssd hdd t : List ℕ) (r : Record) where
   pub flush-judges : Judges flush (boxOf ssd hdd t r) (readyThen (length ssd) (length hdd) 4096 t r 0) (stampsSpent ∷ [])
   unfolding numbers test soundThen lengthTest lengthsTest
@@ -130,33 +134,35 @@ module _ (ssd hdd t : List ℕ) (r : Record) (blocks : List ℕ) (room : ℕ) wh
   list-judges = record { begins = ready-reasons ++ (badList ∷ blockTooHigh ∷ []); chain-is = refl; number-is = refl }
 
 module _ (ssd hdd t : List ℕ) (r : Record) (b : Block) where
-  pub look-up-judges : Judges (lookUp b) (boxOf ssd hdd t r) (servesThen (length ssd) (length hdd) 4096 t r b 0) []
+  pub look-up-judges : Judges (lookUp b) (boxOf ssd hdd t r) (servesThen (length ssd) (length hdd) 4096 t r b 0 0) []
   unfolding numbers test soundThen lengthTest lengthsTest
   look-up-judges = record { begins = serves-reasons; chain-is = refl; number-is = refl }
 
-  pub view-judges : Judges (view b) (boxOf ssd hdd t r) (servesThen (length ssd) (length hdd) 4096 t r b 0) []
+  pub view-judges : Judges (view b) (boxOf ssd hdd t r) (servesThen (length ssd) (length hdd) 4096 t r b 0 0) []
   unfolding numbers test soundThen lengthTest lengthsTest
   view-judges = record { begins = serves-reasons; chain-is = refl; number-is = refl }
 
-  pub write-back-judges : Judges (writeBack b) (boxOf ssd hdd t r) (servesThen (length ssd) (length hdd) 4096 t r b 0) (slotOpen ∷ [])
+  pub write-back-judges : Judges (writeBack b) (boxOf ssd hdd t r) (servesThen (length ssd) (length hdd) 4096 t r b 0 0) (slotOpen ∷ [])
   unfolding numbers test soundThen lengthTest lengthsTest
   write-back-judges = record { begins = serves-reasons; chain-is = refl; number-is = refl }
 
-  pub land-fetch-judges : Judges (landFetch b) (boxOf ssd hdd t r) (servesThen (length ssd) (length hdd) 4096 t r b 0) (wrongState ∷ [])
+  pub land-fetch-judges : Judges (landFetch b) (boxOf ssd hdd t r) (servesThen (length ssd) (length hdd) 4096 t r b 0 0) (wrongState ∷ [])
   unfolding numbers test soundThen lengthTest lengthsTest
   land-fetch-judges = record { begins = serves-reasons; chain-is = refl; number-is = refl }
 
   pub land-judges : (page : List ℕ)
-      → Judges (land b page) (boxOf ssd hdd t r) (servesThen (length ssd) (length hdd) (length page) t r b 0) (wrongState ∷ [])
+      → Judges (land b page) (boxOf ssd hdd t r) (servesThen (length ssd) (length hdd) (length page) t r b 0 0) (wrongState ∷ [])
   unfolding numbers test soundThen lengthTest lengthsTest
   land-judges page = record { begins = serves-reasons; chain-is = refl; number-is = refl }
 
-  pub offer-judges : Judges (offer b) (boxOf ssd hdd t r) (servesThen (length ssd) (length hdd) 4096 t r b 0)
-      (slotOpen ∷ windowFull ∷ allOpen ∷ stampsSpent ∷ [])
-  unfolding numbers test soundThen lengthTest lengthsTest
-  offer-judges = record { begins = serves-reasons; chain-is = refl; number-is = refl }
+  -- with a caller
+  module _ (caller : ℕ) where
+    pub offer-judges : Judges (offer b caller) (boxOf ssd hdd t r) (servesThen (length ssd) (length hdd) 4096 t r b caller 0)
+        (slotOpen ∷ importFull ∷ windowFull ∷ allOpen ∷ stampsSpent ∷ [])
+    unfolding numbers test soundThen lengthTest lengthsTest
+    offer-judges = record { begins = calls-reasons; chain-is = refl; number-is = refl }
 
-  pub fetch-judges : Judges (fetch b) (boxOf ssd hdd t r) (servesThen (length ssd) (length hdd) 4096 t r b 0)
-      (hasSlot ∷ slotOpen ∷ windowFull ∷ allOpen ∷ stampsSpent ∷ [])
-  unfolding numbers test soundThen lengthTest lengthsTest
-  fetch-judges = record { begins = serves-reasons; chain-is = refl; number-is = refl }
+    pub fetch-judges : Judges (fetch b caller) (boxOf ssd hdd t r) (servesThen (length ssd) (length hdd) 4096 t r b caller 0)
+        (hasSlot ∷ slotOpen ∷ importFull ∷ windowFull ∷ allOpen ∷ stampsSpent ∷ [])
+    unfolding numbers test soundThen lengthTest lengthsTest
+    fetch-judges = record { begins = calls-reasons; chain-is = refl; number-is = refl }

@@ -3,10 +3,11 @@ use Prim.Native.Nat.{ℕ, zero, suc}
 use mathlib.Core.Bool.{Bool, true, false, not, _&&_}
 use mathlib.Core.List.{List}
 use lib.ListN.{length}
-use lib.Dec.{eqb, leb}
+use lib.Dec.{eqb, ltb, leb}
 use Rattle.layout.specs.declared.Block.{Block}
 use Rattle.record.specs.declared.Record.{Record}
 use Rattle.protocol.specs.declared.Condition.the-variants.{NotCached}
+use Rattle.record.specs.Callers.{importCaller}
 use Rattle.record.specs.Record.{labelIn}
 use Rattle.protocol.specs.Rows.{openRows}
 use Rattle.protocol.specs.Condition.{conditionOf}
@@ -31,9 +32,10 @@ soundThen ssd hdd page table state rest =
 abbrev pub readyThen : ℕ → ℕ → ℕ → List ℕ → Record → ℕ → ℕ
 readyThen ssd hdd page table state rest = soundThen ssd hdd page table state (refuseIf (not (isReady (state .phase))) 6 rest)
 
--- and 7
-abbrev pub servesThen : ℕ → ℕ → ℕ → List ℕ → Record → Block → ℕ → ℕ
-servesThen ssd hdd page table state b rest = readyThen ssd hdd page table state (refuseIf (leb (state .label .blocks) (b .0)) 7 rest)
+-- and 18, of a caller (0 where the call names none), and 7
+abbrev pub servesThen : ℕ → ℕ → ℕ → List ℕ → Record → Block → ℕ → ℕ → ℕ
+servesThen ssd hdd page table state b caller rest =
+    readyThen ssd hdd page table state (refuseIf (ltb importCaller caller) 18 (refuseIf (leb (state .label .blocks) (b .0)) 7 rest))
 
 -- of a list, 16 and 7 (document 02, N6): by how many words are lent for the answer, and by how many blocks there are
 abbrev pub listThen : List ℕ → ℕ → ℕ → ℕ → ℕ

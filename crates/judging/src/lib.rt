@@ -1,8 +1,9 @@
-// Judging what a call is lent: document 01's numbers 3 to 7, least first.
+// Judging what a call is lent: document 01's numbers 3 to 7, least first, and document 02's 18 between 6 and 7.
 use layout::Block;
 use layout::Label;
 use layout::places;
 use protocol::Condition;
+use record::IMPORT;
 use record::Phase;
 use record::Record;
 use record::rule;
@@ -128,7 +129,7 @@ pub fn judge_ready(
     judged
 }
 
-// Numbers 3 to 7.
+// Numbers 3 to 6, 18 and 7; `caller` is 0 where the call names none.
 pub fn judge_block(
     ssd: usize,
     hdd: usize,
@@ -136,12 +137,16 @@ pub fn judge_block(
     table: &[u32],
     state: Record,
     b: Block,
+    caller: u32,
 ) -> Judged
-    ensures { λ r. ⌜ r ≡ judgedBy (servesThen ssd hdd page (now (table .entry)) state b 0) (now (table .entry)) b ⌝ }
+    ensures { λ r. ⌜ r ≡ judgedBy (servesThen ssd hdd page (now (table .entry)) state b caller 0) (now (table .entry)) b ⌝ }
 {
     let judged = judge_ready(ssd, hdd, page, table, state, b);
     if judged.number != 0 {
         return judged;
+    }
+    if IMPORT < caller {
+        return refused(18);
     }
     if state.label.blocks <= b.0 {
         return refused(7);

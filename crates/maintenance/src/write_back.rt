@@ -17,7 +17,7 @@ pub fn write_back(
 ) -> Outcome
     ensures { λ q. ⌜ leaves q (now (ssd .entry)) (now (hdd .exit)) (now (table .exit)) ≡ writeBackOf (now (ssd .entry)) (now (hdd .entry)) (now (table .entry)) state block ⌝ }
 {
-    let seen = judging::judge_block(ssd.len(), hdd.len(), 4096, table, state, block);
+    let seen = judging::judge_block(ssd.len(), hdd.len(), 4096, table, state, block, 0);
     let number = seen.number;
     if number != 0 {
         return answers::refused(number, state);

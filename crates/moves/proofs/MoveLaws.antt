@@ -66,10 +66,10 @@ pub block-holds : (hdd : List ℕ) (l : Label) (b : Block) (place : ℕ) → len
 block-holds hdd l b place size h e = omega arith
 
 -- a row is set and its slot joins the window: the lengths still fit
-pub joined-fits : (ssd : ℕ) (table after : List ℕ) (state next : Record) (s hand : Slot) (b : Block) (flags : ℕ)
+pub joined-fits : (ssd : ℕ) (table after : List ℕ) (state next : Record) (s hand : Slot) (b : Block) (caller flags : ℕ)
     → FitsRecord ssd (length table) state → recordTest state ≡ true → state .count < 63 → after ≡ setRow table s b flags
-    → next ≡ joined s hand state → FitsRecord ssd (length after) next
-joined-fits ssd table after state next s hand b flags F t h e f =
+    → next ≡ joined s caller hand state → FitsRecord ssd (length after) next
+joined-fits ssd table after state next s hand b caller flags F t h e f =
     let n : length (windowIn state) ≡ state .count = window-length state (parts state t) in
     rw (f, e) (record {
       ssd-size = F .ssd-size;

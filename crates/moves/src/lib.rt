@@ -20,8 +20,8 @@ ghost use Rattle.layout.specs.MetaPage.{encodeMeta, rowsOn};
 ghost use Rattle.layout.specs.PageRule.{listed};
 ghost use Rattle.protocol.specs.Rows.{rowBlock, rowFlags, setFlags, setRow, dirty, withUsed, withoutWriting, withoutDirty};
 ghost use Rattle.layout.specs.Window.{windowMost};
-ghost use Rattle.record.specs.Record.{largestStamp, labelIn, windowIn, withStamp, withWindow};
-ghost use Rattle.record.specs.Window.{without};
+ghost use Rattle.record.specs.Record.{largestStamp, labelIn, windowIn, callersIn, withStamp, withWindow, withCallers};
+ghost use Rattle.record.specs.Window.{without, beside};
 ghost use Rattle.record.specs.Rule.{recordTest};
 ghost use Rattle.protocol.specs.Perform.{joined, landedFlags};
 ghost use Rattle.protocol.specs.declared.Answer.the-variants.{Announced};
@@ -79,23 +79,24 @@ fn set_row(table: &mut [u32], s: Slot, b: Block, flags: u32)
     table[k + 1] = flags;
 }
 
-// A slot joins the window, and the hand moves.
-fn join(state: Record, s: Slot, hand: Slot) -> Record
+// A slot joins the window, with its caller, and the hand moves.
+fn join(state: Record, s: Slot, caller: u32, hand: Slot) -> Record
     requires { ⌜ recordTest state ≡ true ⌝ }
     requires { ⌜ state .count < windowMost ⌝ }
-    ensures { λ q. ⌜ q ≡ joined s hand state ⌝ }
+    ensures { λ q. ⌜ q ≡ joined s caller hand state ⌝ }
 {
-    let next = state::joined(state, s);
+    let next = state::joined(state, s, caller);
     state::with_hand(next, hand)
 }
 
-// Opens a slot for a block: its row, the window, and then the metadata page. It is announced.
+// Opens a slot for a block and a caller: its row, the window, and then the metadata page. It is announced.
 pub fn open_slot(
     ssd: &mut [u8],
     table: &mut [u32],
     state: Record,
     s: Slot,
     b: Block,
+    caller: u32,
     flags: u32,
     hand: Slot,
 ) -> Outcome
@@ -104,10 +105,10 @@ pub fn open_slot(
     requires { ⌜ state .count < windowMost ⌝ }
     requires { ⌜ state .newest < largestStamp ⌝ }
     requires { ⌜ s .0 < state .label .slots ⌝ }
-    ensures { λ q. ⌜ (q ≡ record { answer = Announced s; state = withStamp (joined s hand state) (state .newest + 1); stored = Ssd (metaPlace (labelIn state) (metaOf s)) }) × (now (table .exit) ≡ setRow (now (table .entry)) s b flags) × (now (ssd .exit) ≡ putPage (now (ssd .entry)) (metaPlace (labelIn state) (metaOf s)) (encodeMeta (state .newest + 1) (windowIn (joined s hand state)) (rowsOn (metaOf s) (setRow (now (table .entry)) s b flags)))) ⌝ }
+    ensures { λ q. ⌜ (q ≡ record { answer = Announced s; state = withStamp (joined s caller hand state) (state .newest + 1); stored = Ssd (metaPlace (labelIn state) (metaOf s)) }) × (now (table .exit) ≡ setRow (now (table .entry)) s b flags) × (now (ssd .exit) ≡ putPage (now (ssd .entry)) (metaPlace (labelIn state) (metaOf s)) (encodeMeta (state .newest + 1) (windowIn (joined s caller hand state)) (rowsOn (metaOf s) (setRow (now (table .entry)) s b flags)))) ⌝ }
 {
     set_row(table, s, b, flags);
-    let next = join(state, s, hand);
+    let next = join(state, s, caller, hand);
     confirm(ssd, table, next, places::meta_of(s), Answer::Announced(s))
 }
 
@@ -161,7 +162,7 @@ pub fn close_slot(table: &mut [u32], state: Record, s: Slot, write: bool) -> Rec
     requires { ⌜ listed s (windowIn state) ≡ true ⌝ }
     requires { ⌜ 2 * s .0 + 1 < length (now table) ⌝ }
     requires { ⌜ rowFlags (now table) s < 16 ⌝ }
-    ensures { λ q. ⌜ (q ≡ withWindow state true (without s (windowIn state))) × (now (table .exit) ≡ setFlags (now (table .entry)) s (landedFlags write (rowFlags (now (table .entry)) s))) ⌝ }
+    ensures { λ q. ⌜ (q ≡ withCallers (withWindow state true (without s (windowIn state))) (beside s (windowIn state) (callersIn state))) × (now (table .exit) ≡ setFlags (now (table .entry)) s (landedFlags write (rowFlags (now (table .entry)) s))) ⌝ }
 {
     land_row(table, s, write);
     state::left(state, s)

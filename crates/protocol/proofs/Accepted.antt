@@ -1,11 +1,12 @@
 -- A box that passes 3, 4 and 5, whatever it is: what its record and its table are.
-use Prim.Native.Nat.{_≤_, _<_}
+use Prim.Native.Nat.{ℕ, _≤_, _<_}
 use mathlib.Core.Path.{_≡_, refl, sym, ap, subst, _∙_}
 use mathlib.Core.Bool.{Bool, true, false, not, _&&_}
 use mathlib.Core.List.{List}
 use mathlib.Core.Option.{none}
 use native.Mathlib.Omega.{arith}
-use lib.ListN.{length, drop}
+use lib.ListN.{length, drop, length-take}
+use lib.Dec.{leb}
 use borrow.Author.Tests.{ltb-true, eqb-true, not-false, lt-ltb, le-leb, eq-eqb}
 use Rattle.layout.specs.declared.Slot.{Slot}
 use Rattle.layout.specs.Places.{Limits, ssdLength, hddLength, tableLength}
@@ -13,7 +14,7 @@ use Rattle.layout.proofs.PlaceLaws.{within}
 use Rattle.layout.proofs.Booleans.{clash, and-parts}
 use Rattle.record.specs.declared.Phase.{Phase}
 use Rattle.record.specs.declared.Phase.the-variants.{Formatting, Recovering, Ready}
-use Rattle.record.specs.Record.{labelIn, windowIn}
+use Rattle.record.specs.Record.{labelIn, windowIn, callersIn}
 use Rattle.layout.specs.Window.{arrayOf}
 use Rattle.protocol.specs.Rows.{eachRow}
 use Rattle.protocol.specs.Box.{Box}
@@ -21,6 +22,8 @@ use Rattle.protocol.specs.Plan.{Call, step}
 use Rattle.protocol.specs.Kinds.{Aim, aService, kind}
 use Rattle.protocol.specs.Judge.{badRecord, wrongLength, badRows, wrongPhase, lengthsTest, lengthTest, rowTest, agreeTest, rowsTest, isReady, pageLengthTest, test, askedFirst, judged}
 use Rattle.record.specs.Window.{zeroSlots}
+use Rattle.record.specs.Callers.{eachCaller, namedPlaces, callersTest}
+use Rattle.record.proofs.CallerLaws.{Named, named-of}
 use Rattle.record.specs.Rule.{stepsTest, recordTest}
 use Rattle.record.proofs.WindowLaws.{length-array, zero-past}
 use Rattle.record.proofs.RecordLaws.{parts, window-length, window-array}
@@ -37,6 +40,7 @@ pub record Legal (x : Box) : Type 0 where
   pub steps : stepsTest (labelIn (x .state)) (x .state .phase) ≡ true
   pub count-is : x .state .count ≡ length (windowIn (x .state))
   pub array-is : x .state .window ≡ arrayOf (windowIn (x .state))
+  pub named : callersTest (namedPlaces (x .state .phase) (x .state .count)) (x .state .callers) ≡ true
   pub window-rule : Window (x .state .label .slots) (nums (windowIn (x .state)))
   pub ssd-size : length (x .images .ssd) ≡ ssdLength (labelIn (x .state))
   pub hdd-size : length (x .images .hdd) ≡ hddLength (labelIn (x .state))
@@ -59,6 +63,7 @@ legal x e f g =
       steps = P .steps;
       count-is = sym (window-length (x .state) P);
       array-is = window-array (x .state) P;
+      named = P .named;
       window-rule = window-of (labelIn (x .state)) (windowIn (x .state)) (rw (window-length (x .state) P) (P .most))
           (P .apart) (P .ranged);
       ssd-size = eqb-true _ _ (q1 .0);
@@ -102,23 +107,43 @@ legal-sound x L on =
     (agree-same Ready (x .table) (windowIn (x .state)) .0
     (subst (λ (p : Phase). agreeTest p (x .table) (windowIn (x .state)) ≡ true) on (L .agree)))
 
+-- its callers: as many as its window has slots, each known
+module _ (x : Box) (L : Legal x) where
+  pub few : length (windowIn (x .state)) ≤ 63
+  few = omega (arith, L .window-rule .fits, length-nums (windowIn (x .state)))
+
+  named-callers : Named (x .state .count) (x .state .callers)
+  named-callers = named-of (x .state .phase) (x .state .count) (x .state .callers) (L .named)
+
+  pub callers-size : length (callersIn (x .state)) ≡ length (windowIn (x .state))
+  unfolding callersIn
+  callers-size = omega (arith, length-take (x .state .count) (x .state .callers), named-callers .size, L .count-is, few)
+
+  pub callers-known : eachCaller (λ c. leb c 1) (callersIn (x .state)) ≡ true
+  unfolding callersIn
+  callers-known = named-callers .known
+
 -- and a legal box passes them
 module _ (x : Box) (L : Legal x) where
   pub legal-record : recordTest (x .state) ≡ true
   unfolding recordTest
   legal-record =
       let w : List Slot = windowIn (x .state) in
-      let few : length w ≤ 63 = omega (arith, L .window-rule .fits, length-nums w) in
       rw (
         within (labelIn (x .state)) .1 (L .limits),
         lt-ltb _ _ (L .hand-low),
         L .steps,
-        le-leb (x .state .count) 63 (omega (arith, L .count-is, few)),
-        eq-eqb _ _ (ap length (L .array-is) ∙ length-array w few),
+        le-leb (x .state .count) 63 (omega (arith, L .count-is, few x L)),
+        eq-eqb _ _ (ap length (L .array-is) ∙ length-array w (few x L)),
         sym (below-nums (labelIn (x .state)) w) ∙ L .window-rule .in-slots,
         sym (distinct-nums w) ∙ L .window-rule .apart,
-        L .count-is,
-      ) (ap (λ (v : List Slot). zeroSlots (drop (length w) v)) (L .array-is) ∙ zero-past w)
+        past,
+      ) (L .named)
+    where
+      past : zeroSlots (drop (x .state .count) (x .state .window)) ≡ true
+      past =
+          ap (λ (n : ℕ). zeroSlots (drop n (x .state .window))) (L .count-is)
+          ∙ ap (λ (v : List Slot). zeroSlots (drop (length (windowIn (x .state))) v)) (L .array-is) ∙ zero-past (windowIn (x .state))
 
   pub legal-lengths : lengthTest (labelIn (x .state)) (x .images) (x .table) ≡ true
   unfolding lengthTest lengthsTest

@@ -11,8 +11,10 @@ use Rattle.layout.specs.Places.{dataPlace}
 use Rattle.layout.specs.Window.{arrayOf}
 use Rattle.record.specs.declared.Phase.{Phase}
 use Rattle.record.specs.declared.Phase.the-variants.{Ready}
-use Rattle.record.specs.Record.{labelIn, windowIn}
-use Rattle.record.specs.Window.{without}
+use Rattle.record.specs.Callers.{callerArray, namedPlaces, callersTest}
+use Rattle.record.specs.Record.{labelIn, windowIn, callersIn}
+use Rattle.record.specs.Window.{without, beside}
+use Rattle.record.proofs.CallerLaws.{leaves-test}
 use Rattle.record.proofs.WindowLaws.{take-array}
 use Rattle.protocol.specs.Rows.{rowFlags, setFlags, valid, writing}
 use Rattle.protocol.specs.Box.{Box, ssdImage, storedOn, left, boxAfter}
@@ -22,7 +24,7 @@ use Rattle.protocol.specs.Judge.{agreeTest}
 use Rattle.protocol.proofs.model.Base.{Window}
 use Rattle.protocol.proofs.refine.Windows.{nums}
 use Rattle.protocol.proofs.Sound.{Sound, sound-closes, sound-agree}
-use Rattle.protocol.proofs.Accepted.{Legal, legal-sound}
+use Rattle.protocol.proofs.Accepted.{Legal, few, callers-size, callers-known, legal-sound}
 use Rattle.protocol.proofs.why.RowsRules.{agree-same}
 
 -- the box after it
@@ -61,6 +63,8 @@ module _ (x : Box) (L : Legal x) (on : x .state .phase ≡ Ready) (write : Bool)
     steps = L .steps;
     count-is = sym (ap length closed-window);
     array-is = sym (ap arrayOf closed-window);
+    named = subst (λ (p : Phase). callersTest (namedPlaces p (length w)) (callerArray (beside s (windowIn (x .state)) (callersIn (x .state)))) ≡ true)
+        (sym on) (leaves-test (windowIn (x .state)) (callersIn (x .state)) (callers-size x L) (callers-known x L) s (few x L));
     window-rule = subst (λ (z : List Slot). Window (x .state .label .slots) (nums z)) (sym closed-window) (closed-sound .rule);
     ssd-size = length-put (x .images .ssd) page (dataPlace (labelIn (x .state)) s) (omega (arith, L .ssd-size, low)) size ∙ L .ssd-size;
     hdd-size = L .hdd-size;

@@ -1,13 +1,14 @@
 -- What a service that no reason refuses does, and what is known of the box as it does it: all that is shown of services rests on this.
-use Prim.Native.Nat.{ℕ, _+_, _-_, _*_, _%_, _<_}
+use Prim.Native.Nat.{ℕ, _+_, _-_, _*_, _%_, _≤_, _<_}
 use mathlib.Core.Path.{_≡_, refl, sym, ap, subst, _∙_}
 use mathlib.Core.Logic.{_≢_, _⊎_, inl, inr}
 use mathlib.Core.Bool.{Bool, true, false, not, _&&_}
 use mathlib.Core.List.{List, [], _∷_, _++_}
 use mathlib.Core.Option.{Option, none}
 use lib.ListN.{length, getD}
-use lib.Dec.{leb}
-use borrow.Author.Tests.{leb-false, eqb-true, not-false}
+use native.Mathlib.Omega.{arith}
+use lib.Dec.{eqb, ltb, leb}
+use borrow.Author.Tests.{leb-false, ltb-false, eqb-true, not-false}
 use Rattle.pages.specs.Pages.{pageAt}
 use Rattle.layout.specs.declared.Slot.{Slot}
 use Rattle.layout.specs.declared.Block.{Block}
@@ -16,16 +17,18 @@ use Rattle.layout.specs.Places.{blockPlace}
 use Rattle.protocol.specs.declared.Condition.{Condition}
 use Rattle.protocol.specs.Reply.{Reply, refused}
 use Rattle.protocol.specs.Rows.{rowFlags, setFlags, setRow, valid, dirty, writing, withWriting, openRows}
-use Rattle.record.specs.Record.{labelIn, windowIn, largestStamp}
+use Rattle.record.specs.Callers.{openBy}
+use Rattle.record.specs.Record.{labelIn, windowIn, callersIn, largestStamp}
+use Rattle.record.proofs.CallerLaws.{by-more}
 use Rattle.protocol.specs.Box.{Box}
 use Rattle.protocol.specs.Condition.{conditionOf, closedSlots, isOpen, takesWrite, takesFetch}
 use Rattle.protocol.specs.Sweep.{Victim, sweep}
 use Rattle.protocol.specs.Plan.{flush, offer, fetch, landFetch, lookUp, view, writeBack, land, lookUpList, ask, Ask, slotMap, Move, stay, uses, usesAll, opens, lands, copies, confirms, takesAs, takes, offering, fetching, landing, landingFetch, lookingUp, writingBack, flushing, plan, storesMeta}
 use Rattle.protocol.specs.Perform.{confirmed, landedFlags, landedState, usedAll, perform}
-use Rattle.protocol.specs.Kinds.{toServe, toSettle, toWrite, toFetch, toLandFetch, toLand, Aim, aims, aimsAll, askAim, noBlock}
-use Rattle.protocol.specs.Judge.{wrongLength, blockTooHigh, slotOpen, wrongState, windowFull, stampsSpent, lengthTest, test, judged}
+use Rattle.protocol.specs.Kinds.{toServe, toSettle, toWrite, toFetch, toLandFetch, toLand, Aim, aims, aimsBy, aimsAll, askAim, noBlock}
+use Rattle.protocol.specs.Judge.{wrongLength, blockTooHigh, slotOpen, wrongState, windowFull, stampsSpent, importFull, unknownCaller, importOpen, lengthTest, test, judged}
 use Rattle.protocol.specs.ReferenceDisk.{Disk, fedCall}
-use Rattle.layout.proofs.Booleans.{clash, and-parts}
+use Rattle.layout.proofs.Booleans.{Told, told, told-true, told-false, clash, and-parts}
 use Rattle.protocol.proofs.model.Model.{dirtyRow, openRow, blockOf}
 use Rattle.protocol.proofs.refine.Flags.{rowOf, Flags, f5, f7, LegalRow, changed-open, changed-row}
 use Rattle.protocol.proofs.refine.Tables.{rowAt, at-open, at-dirty}
@@ -43,7 +46,7 @@ Absent l t b = (s : ℕ) → s < l .slots → valid (getD t (2 * s + 1) 0) ≡ t
 
 -- a slot is opened for a block with these flags, in the table v that a sweep left: it is closed and clean, and holds the block if any
 -- slot does
-pub record Opening (x : Box) (s : Slot) (b : Block) (f : ℕ) (v : List ℕ) (hand : Slot) : Type 0 where
+pub record Opening (x : Box) (s : Slot) (b : Block) (caller f : ℕ) (v : List ℕ) (hand : Slot) : Type 0 where
   pub low : s .0 < x .state .label .slots
   pub alike : Alike (labelIn (x .state)) (x .table) v
   pub hand-low : hand .0 < x .state .label .slots
@@ -56,6 +59,8 @@ pub record Opening (x : Box) (s : Slot) (b : Block) (f : ℕ) (v : List ℕ) (ha
   pub fresh : Absent (labelIn (x .state)) (x .table) (b .0) ⊎ Held (labelIn (x .state)) (x .table) (b .0) (s .0)
   pub few : openRows (x .table) < 63
   pub stamps : x .state .newest < largestStamp - 63
+  pub known : caller ≤ 1
+  pub import-few : openBy 1 (callersIn (x .state)) ≤ 8 → openBy 1 (callersIn (x .state) ++ (caller ∷ [])) ≤ 8
 
 -- a closed, dirty slot is copied out, in such a table
 pub record Copying (x : Box) (s : Slot) (v : List ℕ) (hand : Slot) : Type 0 where
@@ -74,8 +79,8 @@ pub data Does (x : Box) : Aim → Move → Type 0 where
   does-use : {a : Aim} {b : ℕ} {s : Slot} {said : Reply} → Quiet a → refused said ≡ false → Held (labelIn (x .state)) (x .table) b (s .0)
       → Does x a (uses s said)
   does-use-all : {a : Aim} {ss : List Slot} → Quiet a → Alike (labelIn (x .state)) (x .table) (usedAll ss (x .table)) → Does x a (usesAll ss)
-  does-open : {a : Aim} {s : Slot} {b : Block} {f : ℕ} {v : List ℕ} {hand : Slot} → Quiet a → Opening x s b f v hand
-      → Does x a (opens s b f v hand)
+  does-open : {a : Aim} {s : Slot} {b : Block} {c f : ℕ} {v : List ℕ} {hand : Slot} → Quiet a → Opening x s b c f v hand
+      → Does x a (opens s b c f v hand)
   does-copy : {a : Aim} {s : Slot} {said : Reply} {v : List ℕ} {hand : Slot} → Quiet a → refused said ≡ false → Copying x s v hand
       → Does x a (copies s said v hand)
   -- a write lands in its block's slot, open or dirty; a fetch in one that is open
@@ -101,7 +106,7 @@ does-said (does-rest n u) = n
 does-said (does-confirm u n) = refl
 
 -- and table and window stay sound, of any box
-pub opening-sound : {x : Box} {s : Slot} {b : Block} {f : ℕ} {v : List ℕ} {hand : Slot} → Opening x s b f v hand
+pub opening-sound : {x : Box} {s : Slot} {b : Block} {c f : ℕ} {v : List ℕ} {hand : Slot} → Opening x s b c f v hand
     → {w : List Slot} → Sound (labelIn (x .state)) (x .table) w → Sound (labelIn (x .state)) (setRow v s b f) (w ++ (s ∷ []))
 opening-sound {s = s} {b = b} {f = f} O S =
     sound-opens (sound-alike S (O .alike)) (s .0) (b .0) f (O .low) (O .row) (O .is-open) (ap openRow (O .alike .row (s .0)) ∙ O .was-shut)
@@ -147,16 +152,32 @@ module _ (x : Box) (L : Legal x) where
   row-of : (b : ℕ) {f : ℕ} → Flags f → valid f ≡ true → b < x .state .label .blocks → LegalRow lab b f
   row-of b k v h = record { flags = k; low = λ _. h; free = λ e. clash v e }
 
+  -- a caller that neither 18 nor 17 refuses
+  record Calls (caller : ℕ) : Type 0 where
+    known : caller ≤ 1
+    room : openBy 1 (callersIn (x .state)) ≤ 8 → openBy 1 (callersIn (x .state) ++ (caller ∷ [])) ≤ 8
+
+  calls : (caller : ℕ) → ltb 1 caller ≡ false → importOpen caller (x .state) ≡ false → Calls caller
+  unfolding openBy
+  calls caller u f = record { known = ltb-false 1 caller u; room = λ h. rw by-more (few (told (eqb caller 1)) h) }
+    where
+      one : {b : Bool} → eqb caller 1 ≡ b → openBy 1 (caller ∷ []) ≡ elim b [ true ↦ 1 | false ↦ 0 ]
+      one e = ap (λ (o : Bool). elim o [ true ↦ 1 | false ↦ 0 ]) e
+
+      few : Told (eqb caller 1) → openBy 1 (callersIn (x .state)) ≤ 8 → openBy 1 (callersIn (x .state)) + openBy 1 (caller ∷ []) ≤ 8
+      few (told-true e) h = omega (arith, one e, leb-false 8 (openBy 1 (callersIn (x .state))) (rw e at f))
+      few (told-false e) h = omega (arith, one e)
+
   -- a slot is swept for
-  sweeping : {a : Aim} → Quiet a → (b : Block) (f : ℕ) → b .0 < x .state .label .blocks → Flags f → valid f ≡ true
+  sweeping : {a : Aim} → Quiet a → (b : Block) {c : ℕ} (f : ℕ) → Calls c → b .0 < x .state .label .blocks → Flags f → valid f ≡ true
       → openRow (rowOf (b .0) (f % 8)) ≡ true → blockOf (rowOf (b .0) (f % 8)) ≡ b .0 → Absent lab (x .table) (b .0) → openRows (x .table) < 63
       → {o : Option Victim} → Swept lab (x .table) o
-      → (storesMeta (takes lab b f o) && leb (largestStamp - 63) (x .state .newest)) ≡ false → Does x a (takes lab b f o)
-  sweeping z b f bl k v o-row b-row none-holds few stuck = λ spent. does-nothing z refl
-  sweeping {a} z b f bl k v o-row b-row none-holds few (took u low shut unused A) = by (dirty (rowFlags (u .table) (u .slot))) refl
+      → (storesMeta (takes lab b c f o) && leb (largestStamp - 63) (x .state .newest)) ≡ false → Does x a (takes lab b c f o)
+  sweeping z b f C bl k v o-row b-row none-holds few stuck = λ spent. does-nothing z refl
+  sweeping {a} z b {c} f C bl k v o-row b-row none-holds few (took u low shut unused A) = by (dirty (rowFlags (u .table) (u .slot))) refl
     where
       by : (d : Bool) → dirty (rowFlags (u .table) (u .slot)) ≡ d
-          → (storesMeta (takesAs d lab b f u) && leb (largestStamp - 63) (x .state .newest)) ≡ false → Does x a (takesAs d lab b f u)
+          → (storesMeta (takesAs d lab b c f u) && leb (largestStamp - 63) (x .state .newest)) ≡ false → Does x a (takesAs d lab b c f u)
       by true e spent = does-copy z refl (record { low = low; alike = A; hand-low = low; is-shut = shut; is-dirty = e })
       by false e spent = does-open z (record {
         low = low;
@@ -171,17 +192,21 @@ module _ (x : Box) (L : Legal x) where
         fresh = inl none-holds;
         few = few;
         stamps = leb-false _ _ spent;
+        known = C .known;
+        import-few = C .room;
       })
 
   sweep-here : Swept lab (x .table) (sweep lab (x .table) (x .state .hand))
   sweep-here = swept (2 * x .state .label .slots) lab (x .table) (x .table) same (x .state .hand) (L .hand-low)
 
-  offers : (b : Block) → b .0 < x .state .label .blocks → {z : Condition} → Stands lab (x .table) (b .0) z → isOpen z ≡ false
+  offers : (b : Block) (c : ℕ) → ltb 1 c ≡ false → b .0 < x .state .label .blocks → {z : Condition} → Stands lab (x .table) (b .0) z
+      → isOpen z ≡ false → (not (takesWrite z) && importOpen c (x .state)) ≡ false
       → (not (takesWrite z) && leb 63 (openRows (x .table))) ≡ false
-      → (storesMeta (offering x b z) && leb (largestStamp - 63) (x .state .newest)) ≡ false → Does x (aims b toWrite) (offering x b z)
+      → (storesMeta (offering x b c z) && leb (largestStamp - 63) (x .state .newest)) ≡ false → Does x (aimsBy b toWrite c) (offering x b c z)
   unfolding rowOf
-  offers b bl (absent h) o full spent = sweeping (λ d. refl) b 7 bl f7 refl refl refl h (leb-false _ _ full) sweep-here spent
-  offers b bl (is-clean s H w d) o full spent =
+  offers b c u bl (absent h) o by full spent =
+      sweeping (λ d. refl) b 7 (calls c u by) bl f7 refl refl refl h (leb-false _ _ full) sweep-here spent
+  offers b c u bl (is-clean s H w d) o by full spent =
       let C = changed-open (L .rows s (H .low) .flags) (getD (x .table) (2 * s) 0) (H .held) w d in
       let flags : ℕ = withWriting (getD (x .table) (2 * s + 1) 0) in
       does-open (λ d. refl) (record {
@@ -197,20 +222,23 @@ module _ (x : Box) (L : Legal x) where
         fresh = inr H;
         few = leb-false _ _ full;
         stamps = leb-false _ _ spent;
+        known = calls c u by .known;
+        import-few = calls c u by .room;
       })
-  offers b bl (is-dirty s H w d) o full spent = does-nothing (λ d. refl) refl
-  offers b bl (is-writing s H w d) o full spent = clash {b = true} refl o
-  offers b bl (is-fetching s H w d) o full spent = clash {b = true} refl o
+  offers b c u bl (is-dirty s H w d) o by full spent = does-nothing (λ d. refl) refl
+  offers b c u bl (is-writing s H w d) o by full spent = clash {b = true} refl o
+  offers b c u bl (is-fetching s H w d) o by full spent = clash {b = true} refl o
 
-  fetches : (b : Block) → b .0 < x .state .label .blocks → {z : Condition} → Stands lab (x .table) (b .0) z
-      → leb 63 (openRows (x .table)) ≡ false
-      → (storesMeta (fetching x b z) && leb (largestStamp - 63) (x .state .newest)) ≡ false → Does x (aims b toFetch) (fetching x b z)
+  fetches : (b : Block) (c : ℕ) → ltb 1 c ≡ false → b .0 < x .state .label .blocks → {z : Condition} → Stands lab (x .table) (b .0) z
+      → importOpen c (x .state) ≡ false → leb 63 (openRows (x .table)) ≡ false
+      → (storesMeta (fetching x b c z) && leb (largestStamp - 63) (x .state .newest)) ≡ false → Does x (aimsBy b toFetch c) (fetching x b c z)
   unfolding rowOf
-  fetches b bl (absent h) full spent = sweeping (λ d. refl) b 5 bl f5 refl refl refl h (leb-false _ _ full) sweep-here spent
-  fetches b bl (is-clean s H w d) full spent = does-nothing (λ d. refl) refl
-  fetches b bl (is-dirty s H w d) full spent = does-nothing (λ d. refl) refl
-  fetches b bl (is-writing s H w d) full spent = does-nothing (λ d. refl) refl
-  fetches b bl (is-fetching s H w d) full spent = does-nothing (λ d. refl) refl
+  fetches b c u bl (absent h) by full spent =
+      sweeping (λ d. refl) b 5 (calls c u by) bl f5 refl refl refl h (leb-false _ _ full) sweep-here spent
+  fetches b c u bl (is-clean s H w d) by full spent = does-nothing (λ d. refl) refl
+  fetches b c u bl (is-dirty s H w d) by full spent = does-nothing (λ d. refl) refl
+  fetches b c u bl (is-writing s H w d) by full spent = does-nothing (λ d. refl) refl
+  fetches b c u bl (is-fetching s H w d) by full spent = does-nothing (λ d. refl) refl
 
   landings : (b : Block) (page : List ℕ) → b .0 < x .state .label .blocks → length page ≡ 4096 → {z : Condition}
       → Stands lab (x .table) (b .0) z → takesWrite z ≡ true → Does x (aims b (toLand page)) (landing page z)
@@ -268,19 +296,21 @@ module _ (x : Box) where
   lookUpList-does blocks room e = looksUpAll x (service-legal (lookUpList blocks room) x refl e) blocks room
 
   module _ (b : Block) where
-    pub offer-does : judged (offer b) x ≡ none → Does x (aims b toWrite) (plan (offer b) x)
+    pub offer-does : (c : ℕ) → judged (offer b c) x ≡ none → Does x (aimsBy b toWrite c) (plan (offer b c) x)
     unfolding test plan
-    offer-does e =
-        let L = service-legal (offer b) x refl e in
-        let q = passed (offer b) x e in
-        offers x L b (leb-false _ _ (q blockTooHigh refl)) (here x L b) (q slotOpen refl) (q windowFull refl) (q stampsSpent refl)
+    offer-does c e =
+        let L = service-legal (offer b c) x refl e in
+        let q = passed (offer b c) x e in
+        offers x L b c (q unknownCaller refl) (leb-false _ _ (q blockTooHigh refl)) (here x L b) (q slotOpen refl) (q importFull refl)
+        (q windowFull refl) (q stampsSpent refl)
 
-    pub fetch-does : judged (fetch b) x ≡ none → Does x (aims b toFetch) (plan (fetch b) x)
+    pub fetch-does : (c : ℕ) → judged (fetch b c) x ≡ none → Does x (aimsBy b toFetch c) (plan (fetch b c) x)
     unfolding test plan
-    fetch-does e =
-        let L = service-legal (fetch b) x refl e in
-        let q = passed (fetch b) x e in
-        fetches x L b (leb-false _ _ (q blockTooHigh refl)) (here x L b) (q windowFull refl) (q stampsSpent refl)
+    fetch-does c e =
+        let L = service-legal (fetch b c) x refl e in
+        let q = passed (fetch b c) x e in
+        fetches x L b c (q unknownCaller refl) (leb-false _ _ (q blockTooHigh refl)) (here x L b) (q importFull refl)
+        (q windowFull refl) (q stampsSpent refl)
 
     pub landFetch-does : judged (landFetch b) x ≡ none → Does x (aims b toLandFetch) (plan (landFetch b) x)
     unfolding test plan

@@ -78,6 +78,7 @@ module _ (x : Box) (L : Legal x) (on : x .state .phase ≡ Ready) (v : List ℕ)
         steps = L .steps;
         count-is = L .count-is;
         array-is = L .array-is;
+        named = L .named;
         window-rule = L .window-rule;
         ssd-size = L .ssd-size;
         hdd-size = L .hdd-size;

@@ -10,5 +10,6 @@ pub mod TwoPages
 pub mod Refusals
 pub mod Cases
 pub mod Scripts
+pub mod Flooded
 pub mod Rejected
 pub mod Disk

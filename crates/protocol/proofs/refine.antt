@@ -7,4 +7,5 @@ pub mod Metas
 pub mod Counting
 pub mod Sweeps
 pub mod Abstract
+pub mod Callers
 pub mod Entries

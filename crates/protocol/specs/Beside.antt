@@ -21,7 +21,8 @@ use Rattle.protocol.specs.declared.Condition.the-variants.{Clean, Dirty,
 use Rattle.protocol.specs.declared.Stored.the-variants.{Nothing, Ssd, Hdd}
 use Rattle.protocol.specs.Reply.{Reply, refusal, refused, announced, overwrite, copiedOut, done}
 use Rattle.protocol.specs.Rows.{rowBlock, rowFlags, valid, dirty, writing}
-use Rattle.record.specs.Record.{labelIn, windowIn}
+use Rattle.record.specs.Callers.{openBy}
+use Rattle.record.specs.Record.{labelIn, windowIn, callersIn}
 use Rattle.protocol.specs.Box.{Images, Box, ssdImage, Store, Effect, refusing, boxAfter}
 use Rattle.protocol.specs.Condition.{conditionOf, isOpen}
 use Rattle.protocol.specs.Plan.{Ask, slotMap, Call, format, step, reopen, offer, fetch, land, landFetch, lookUp, lookUpList, ask}
@@ -105,8 +106,9 @@ StoresLegally c x =
     → MetaStored (labelIn (x .state)) p (s .bytes) (x .state .phase) (resultOf c x .state) (resultOf c x .table)
 
 -- "An offer repeated with nothing in between is never "copied out" a second time running"
-abbrev pub CopiesOnce : Block → Box → Type 0
-CopiesOnce b x = resultOf (offer b) x .said ≡ copiedOut → resultOf (offer b) (boxAfter (resultOf (offer b) x)) .said ≢ copiedOut
+abbrev pub CopiesOnce : Block → ℕ → Box → Type 0
+CopiesOnce b caller x =
+    resultOf (offer b caller) x .said ≡ copiedOut → resultOf (offer b caller) (boxAfter (resultOf (offer b caller) x)) .said ≢ copiedOut
 
 -- an accepted offer answers "announced", "overwrite" or "copied out", an accepted fetch "announced" or "copied out"
 pub data OfferAnswer : Reply → Type 0 where
@@ -118,9 +120,9 @@ pub data FetchAnswer : Reply → Type 0 where
   fetch-announced : (s : Slot) → FetchAnswer (announced s)
   fetch-copied : FetchAnswer copiedOut
 
-pub record Answers (b : Block) (x : Box) : Type 0 where
-  pub of-offer : refused (resultOf (offer b) x .said) ≡ false → OfferAnswer (resultOf (offer b) x .said)
-  pub of-fetch : refused (resultOf (fetch b) x .said) ≡ false → FetchAnswer (resultOf (fetch b) x .said)
+pub record Answers (b : Block) (caller : ℕ) (x : Box) : Type 0 where
+  pub of-offer : refused (resultOf (offer b caller) x .said) ≡ false → OfferAnswer (resultOf (offer b caller) x .said)
+  pub of-fetch : refused (resultOf (fetch b caller) x .said) ≡ false → FetchAnswer (resultOf (fetch b caller) x .said)
 
 -- "Mending takes at most 63 steps": a box that is still mending after k steps, none of them refused, has made fewer than 63
 abbrev pub MendsSoon : Box → Type 0
@@ -330,3 +332,19 @@ UpdateBeforeData =
     → (es : List Event)
     → AllFit (labelOf slots blocks) es (startOf (labelOf slots blocks) (formatted slots blocks x))
     → UpdateFirst (labelOf slots blocks) (run es (startOf (labelOf slots blocks) (formatted slots blocks x)))
+
+-- Document 02, N7: "Caller 1 may have at most 8 slots open, all together at most 63"; "Each window place in the record names its caller":
+-- there are as many callers as slots.
+pub record Bounded (r : Record) : Type 0 where
+  pub import-few : openBy 1 (callersIn r) ≤ 8
+  pub all-few : length (windowIn r) ≤ 63
+  pub one-each : length (callersIn r) ≡ length (windowIn r)
+
+-- in every list of demand 3
+abbrev pub ImportBounded : Type 0
+ImportBounded =
+    (slots blocks : ℕ) (x : Box)
+    → refused (resultOf (format slots blocks) x .said) ≡ false
+    → (es : List Event)
+    → AllFit (labelOf slots blocks) es (startOf (labelOf slots blocks) (formatted slots blocks x))
+    → Bounded (run es (startOf (labelOf slots blocks) (formatted slots blocks x)) .box .state)

@@ -54,14 +54,14 @@ formatOf ssd hdd table state slots blocks = resultOf (format slots blocks) (boxO
 abbrev pub stepOf : List ℕ → List ℕ → List ℕ → Record → Result
 stepOf ssd hdd table state = resultOf step (boxOf ssd hdd table state)
 
-abbrev pub offerOf : List ℕ → List ℕ → List ℕ → Record → Block → Result
-offerOf ssd hdd table state b = resultOf (offer b) (boxOf ssd hdd table state)
+abbrev pub offerOf : List ℕ → List ℕ → List ℕ → Record → Block → ℕ → Result
+offerOf ssd hdd table state b caller = resultOf (offer b caller) (boxOf ssd hdd table state)
 
 abbrev pub landOf : List ℕ → List ℕ → List ℕ → Record → Block → List ℕ → Result
 landOf ssd hdd table state b page = resultOf (land b page) (boxOf ssd hdd table state)
 
-abbrev pub fetchOf : List ℕ → List ℕ → List ℕ → Record → Block → Result
-fetchOf ssd hdd table state b = resultOf (fetch b) (boxOf ssd hdd table state)
+abbrev pub fetchOf : List ℕ → List ℕ → List ℕ → Record → Block → ℕ → Result
+fetchOf ssd hdd table state b caller = resultOf (fetch b caller) (boxOf ssd hdd table state)
 
 abbrev pub landFetchOf : List ℕ → List ℕ → List ℕ → Record → Block → Result
 landFetchOf ssd hdd table state b = resultOf (landFetch b) (boxOf ssd hdd table state)

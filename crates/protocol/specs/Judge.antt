@@ -1,5 +1,6 @@
 -- Why a call says no: one test for each number of document 01's table and document 02's, and each call's chain of them, "Least number
--- first", but for a fetch's 10, which comes before 8 (document 02, N9), and for 14 (N1) and 16 (N6), which come between 6 and 7.
+-- first", but for a fetch's 10, which comes before 8 (document 02, N9), for 14 (N1), 16 (N6) and 18 (N7), which come between 6 and 7, and
+-- for 17, which comes before 11 (N7).
 use Prim.Native.Nat.{ℕ, _-_, _%_}
 use mathlib.Core.Bool.{Bool, true, false, not, _&&_, _||_}
 use mathlib.Core.List.{List, [], _∷_, _++_}
@@ -21,7 +22,8 @@ use Rattle.record.specs.declared.Phase.the-variants.{Formatting, Recovering, Re
 use Rattle.protocol.specs.declared.Condition.{Condition}
 use Rattle.protocol.specs.Rows.{rowBlock, rowFlags, valid, writing, used, eachRow, openRows, allWriting}
 use Rattle.record.specs.Window.{eachSlot}
-use Rattle.record.specs.Record.{largestStamp, labelIn, windowIn}
+use Rattle.record.specs.Callers.{importCaller, importMost, openBy}
+use Rattle.record.specs.Record.{largestStamp, labelIn, windowIn, callersIn}
 use Rattle.record.specs.Rule.{recordTest}
 use Rattle.protocol.specs.Box.{Images, Box}
 use Rattle.protocol.specs.Condition.{conditionOf, isOpen, isCached, isWriting, hasOther, takesWrite, takesFetch}
@@ -37,6 +39,8 @@ pub data Reason : Type 0 where
   sheetShort : Reason
   -- document 02, N6
   badList : Reason
+  -- document 02, N7
+  importFull unknownCaller : Reason
 
 abbrev pub numberOf : Reason → ℕ
 numberOf badLimits = 1
@@ -54,6 +58,8 @@ numberOf allOpen = 12
 numberOf stampsSpent = 13
 numberOf sheetShort = 14
 numberOf badList = 16
+numberOf importFull = 17
+numberOf unknownCaller = 18
 
 -- the label by which a call judges lengths: format by its arguments, reopen by the label page, others by the record
 abbrev pub labelFor : Kind → Box → Label
@@ -154,6 +160,10 @@ opensAnother toFetch k = true
 opensAnother toLandFetch k = false
 opensAnother (toLand page) k = false
 
+-- 17: "the calls that 11 names, from caller 1 with 8 or more open" (document 02, N7)
+abbrev pub importOpen : ℕ → Record → Bool
+importOpen caller r = eqb caller importCaller && leb importMost (openBy importCaller (callersIn r))
+
 -- 13: "the newest stamp is 4,294,967,295, or for an offer or fetch 4,294,967,232 or more"
 abbrev pub stampBound : Purpose → ℕ
 stampBound toServe = largestStamp
@@ -188,6 +198,8 @@ test stampsSpent c x = storesMeta (plan c x) && leb (stampBound (aim c .purpose)
 -- document 02, N1: "if the buffer is shorter than 67 × the number of lines"
 test sheetShort c x = ltb (aim c .room) (mapBytes (labelIn (x .state)))
 test badList c x = not (listTest (length (aim c .list)) (aim c .room))
+test importFull c x = opensAnother (aim c .purpose) (conditionOf (x .table) (aim c .block)) && importOpen (aim c .caller) (x .state)
+test unknownCaller c x = ltb importCaller (aim c .caller)
 
 -- the numbers that belong to each call, in the order of judging: first those of its kind ("Format and reopen judge neither that
 -- record nor the table's contents"), then its own
@@ -202,8 +214,8 @@ askedThen (format slots blocks) = []
 askedThen reopen = []
 askedThen step = stampsSpent ∷ []
 askedThen flush = stampsSpent ∷ []
-askedThen (offer b) = blockTooHigh ∷ slotOpen ∷ windowFull ∷ allOpen ∷ stampsSpent ∷ []
-askedThen (fetch b) = blockTooHigh ∷ hasSlot ∷ slotOpen ∷ windowFull ∷ allOpen ∷ stampsSpent ∷ []
+askedThen (offer b caller) = unknownCaller ∷ blockTooHigh ∷ slotOpen ∷ importFull ∷ windowFull ∷ allOpen ∷ stampsSpent ∷ []
+askedThen (fetch b caller) = unknownCaller ∷ blockTooHigh ∷ hasSlot ∷ slotOpen ∷ importFull ∷ windowFull ∷ allOpen ∷ stampsSpent ∷ []
 askedThen (landFetch b) = blockTooHigh ∷ wrongState ∷ []
 askedThen (lookUp b) = blockTooHigh ∷ []
 askedThen (view b) = blockTooHigh ∷ []

@@ -13,16 +13,20 @@ pub data Purpose : Type 0 where
   -- that these bytes land
   toLand : List ℕ → Purpose
 
--- the block that a call names (0 where it names none: no such call asks for it), and what it is for; the blocks that it lists, and how
--- many places are lent for the answer, bytes of a sheet or words of a list (0 where none are)
+-- the block that a call names (0 where it names none: no such call asks for it), and what it is for; its caller (0 where it names none);
+-- the blocks that it lists, and how many places are lent for the answer, bytes of a sheet or words of a list (0 where none are)
 pub record Aim : Type 0 where
   pub block : Block
   pub purpose : Purpose
+  pub caller : ℕ
   pub list : List ℕ
   pub room : ℕ
 
+abbrev pub aimsBy : Block → Purpose → ℕ → Aim
+aimsBy b p caller = record { block = b; purpose = p; caller = caller; list = []; room = 0 }
+
 abbrev pub aims : Block → Purpose → Aim
-aims b p = record { block = b; purpose = p; list = []; room = 0 }
+aims b p = aimsBy b p 0
 
 -- the highest of some block numbers, 0 of none
 unfoldable pub highest : List ℕ → ℕ
@@ -31,13 +35,13 @@ highest (b ∷ blocks) = max b (highest blocks)
 
 -- of a list it names the highest block: "any block too high is 7" (document 02, N6)
 abbrev pub aimsAll : List ℕ → ℕ → Aim
-aimsAll blocks room = record { block = record { 0 = highest blocks }; purpose = toServe; list = blocks; room = room }
+aimsAll blocks room = record { block = record { 0 = highest blocks }; purpose = toServe; caller = 0; list = blocks; room = room }
 
 abbrev pub noBlock : Block
 noBlock = record { 0 = 0 }
 
 abbrev pub askAim : Ask → Aim
-askAim (slotMap n) = record { block = noBlock; purpose = toServe; list = []; room = n }
+askAim (slotMap n) = record { block = noBlock; purpose = toServe; caller = 0; list = []; room = n }
 
 -- a call begins a format of a label, reopens, makes a step, or is a service of a ready box
 pub data Kind : Type 0 where
@@ -50,8 +54,8 @@ kind (format slots blocks) = aFormat (labelOf slots blocks)
 kind reopen = aReopening
 kind step = aStep
 kind flush = aService (aims noBlock toSettle)
-kind (offer b) = aService (aims b toWrite)
-kind (fetch b) = aService (aims b toFetch)
+kind (offer b caller) = aService (aimsBy b toWrite caller)
+kind (fetch b caller) = aService (aimsBy b toFetch caller)
 kind (landFetch b) = aService (aims b toLandFetch)
 kind (lookUp b) = aService (aims b toServe)
 kind (view b) = aService (aims b toServe)

@@ -15,8 +15,8 @@ use Rattle.record.specs.declared.Record.{Record}
 use Rattle.record.specs.declared.Phase.the-variants.{Formatting, Ready}
 use Rattle.protocol.specs.Reply.{Reply, announced, done}
 use Rattle.protocol.specs.Rows.{rowBlock, rowFlags, setFlags, setRow, writing, withUsed, withoutWriting, withoutDirty}
-use Rattle.record.specs.Record.{labelIn, windowIn, recordOf, withHand, withPhase, withStamp, withWindow}
-use Rattle.record.specs.Window.{without}
+use Rattle.record.specs.Record.{labelIn, windowIn, callersIn, recordOf, withHand, withPhase, withStamp, withWindow, withCallers}
+use Rattle.record.specs.Window.{without, beside}
 use Rattle.protocol.specs.Box.{Box, ssdImage, hddImage, Store, Effect}
 use Rattle.protocol.specs.Recovery.{labelAt, metasOf, recover, phaseOf, offPage}
 use Rattle.protocol.specs.Plan.{Move, stay, uses, usesAll, opens, lands, copies, confirms, mends, begins, formats, recovers}
@@ -36,9 +36,9 @@ confirmed p said r table =
       });
     }
 
--- a row is opened: the slot joins the window
-abbrev pub joined : Slot → Slot → Record → Record
-joined s hand r = withWindow (withHand r hand) (r .unconfirmed) (windowIn r ++ (s ∷ []))
+-- a row is opened: the slot joins the window, and its caller stands beside it (document 02, N7)
+abbrev pub joined : Slot → ℕ → Slot → Record → Record
+joined s caller hand r = withCallers (withWindow (withHand r hand) (r .unconfirmed) (windowIn r ++ (s ∷ []))) (callersIn r ++ (caller ∷ []))
 
 -- "store its slot's page"
 abbrev pub dataStore : Slot → List ℕ → Box → Store
@@ -50,9 +50,10 @@ abbrev pub landedFlags : Bool → ℕ → ℕ
 landedFlags true flags = withUsed (withoutWriting flags)
 landedFlags false flags = withoutWriting flags
 
--- "An open slot leaves the window .. and sets unsettled"; one that was not open changes neither
+-- "An open slot leaves the window .. and sets unsettled", and so does its caller; one that was not open changes nothing here. "Anyone may
+-- land"
 abbrev pub landedState : Bool → Slot → Record → Record
-landedState true s r = withWindow r true (without s (windowIn r))
+landedState true s r = withCallers (withWindow r true (without s (windowIn r))) (beside s (windowIn r) (callersIn r))
 landedState false s r = r
 
 -- a landing, of a write or of a fetch
@@ -121,8 +122,8 @@ perform (stay said) x = record { said = said; state = x .state; table = x .table
 perform (uses s said) x =
     record { said = said; state = x .state; table = setFlags (x .table) s (withUsed (rowFlags (x .table) s)); store = none }
 perform (usesAll ss) x = record { said = done; state = x .state; table = usedAll ss (x .table); store = none }
-perform (opens s b flags table hand) x =
-    confirmed (metaOf s) (announced s) (joined s hand (x .state)) (setRow table s b flags)
+perform (opens s b caller flags table hand) x =
+    confirmed (metaOf s) (announced s) (joined s caller hand (x .state)) (setRow table s b flags)
 perform (lands write s page) x = landedIn write s page x
 perform (copies s said table hand) x = copiedFrom s said table hand x
 perform confirms x = confirmed 0 done (x .state) (x .table)

@@ -27,11 +27,12 @@ pub data Ask : Type 0 where
   slotMap : ℕ → Ask
 
 -- document 01's calls, with their arguments, and those that document 02 adds: what is asked; N6, the block numbers listed and how many
--- words are lent for the answer
+-- words are lent for the answer. N7: "Every offer .. and fetch now names its caller"
 pub data Call : Type 0 where
   format : ℕ → ℕ → Call
   step flush reopen : Call
-  offer fetch landFetch lookUp view writeBack : Block → Call
+  offer fetch : Block → ℕ → Call
+  landFetch lookUp view writeBack : Block → Call
   land : Block → List ℕ → Call
   ask : Ask → Call
   lookUpList : List ℕ → ℕ → Call
@@ -43,8 +44,8 @@ pub data Move : Type 0 where
   uses : Slot → Reply → Move
   -- the used flags of these slots are set, one after the other
   usesAll : List Slot → Move
-  -- a slot is opened for a block with these flags; the table that the sweep left, and the hand after
-  opens : Slot → Block → ℕ → List ℕ → Slot → Move
+  -- a slot is opened for a block by a caller, with these flags; the table that the sweep left, and the hand after
+  opens : Slot → Block → ℕ → ℕ → List ℕ → Slot → Move
   -- a page goes into a slot, by a write or by a fetch (document 02, N2: true for a write), and an open slot is closed
   lands : Bool → Slot → List ℕ → Move
   -- a dirty slot's page is copied to its block; the answer, the table that the sweep left, and the hand after
@@ -61,32 +62,32 @@ pub data Move : Type 0 where
 
 -- a slot that was swept for: "if that slot is dirty, copy its page to its HDD block, mark it clean, leave the hand on it,
 -- answer "copied out" .. Otherwise the row becomes this block .., the hand moves one past it (wrapping)"
-abbrev pub takesAs : Bool → Label → Block → ℕ → Victim → Move
-takesAs true l b flags v = copies (v .slot) copiedOut (v .table) (v .slot)
-takesAs false l b flags v = opens (v .slot) b flags (v .table) (nextSlot l (v .slot))
+abbrev pub takesAs : Bool → Label → Block → ℕ → ℕ → Victim → Move
+takesAs true l b caller flags v = copies (v .slot) copiedOut (v .table) (v .slot)
+takesAs false l b caller flags v = opens (v .slot) b caller flags (v .table) (nextSlot l (v .slot))
 
-abbrev pub takes : Label → Block → ℕ → Option Victim → Move
-takes l b flags none = stay nothingToDo
-takes l b flags (some v) = takesAs (dirty (rowFlags (v .table) (v .slot))) l b flags v
+abbrev pub takes : Label → Block → ℕ → ℕ → Option Victim → Move
+takes l b caller flags none = stay nothingToDo
+takes l b caller flags (some v) = takesAs (dirty (rowFlags (v .table) (v .slot))) l b caller flags v
 
-abbrev pub sweeps : Box → Block → ℕ → Move
-sweeps x b flags = takes (labelIn (x .state)) b flags (sweep (labelIn (x .state)) (x .table) (x .state .hand))
+abbrev pub sweeps : Box → Block → ℕ → ℕ → Move
+sweeps x b caller flags = takes (labelIn (x .state)) b caller flags (sweep (labelIn (x .state)) (x .table) (x .state .hand))
 
 -- "Offer": dirty and not open "overwrite", clean "announced", not cached swept for, with flags 7 (open: refused by 8)
-abbrev pub offering : Box → Block → Condition → Move
-offering x b NotCached = sweeps x b 7
-offering x b (Clean s) = opens s b (withWriting (rowFlags (x .table) s)) (x .table) (x .state .hand)
-offering x b (Dirty s) = stay overwrite
-offering x b (Writing s) = stay nothingToDo
-offering x b (Fetching s) = stay nothingToDo
+abbrev pub offering : Box → Block → ℕ → Condition → Move
+offering x b caller NotCached = sweeps x b caller 7
+offering x b caller (Clean s) = opens s b caller (withWriting (rowFlags (x .table) s)) (x .table) (x .state .hand)
+offering x b caller (Dirty s) = stay overwrite
+offering x b caller (Writing s) = stay nothingToDo
+offering x b caller (Fetching s) = stay nothingToDo
 
 -- "Fetch a block not cached: as an offer by sweep, with flags 5" (with a slot: refused by 8 or 10)
-abbrev pub fetching : Box → Block → Condition → Move
-fetching x b NotCached = sweeps x b 5
-fetching x b (Clean s) = stay nothingToDo
-fetching x b (Dirty s) = stay nothingToDo
-fetching x b (Writing s) = stay nothingToDo
-fetching x b (Fetching s) = stay nothingToDo
+abbrev pub fetching : Box → Block → ℕ → Condition → Move
+fetching x b caller NotCached = sweeps x b caller 5
+fetching x b caller (Clean s) = stay nothingToDo
+fetching x b caller (Dirty s) = stay nothingToDo
+fetching x b caller (Writing s) = stay nothingToDo
+fetching x b caller (Fetching s) = stay nothingToDo
 
 -- "Land 4,096 bytes for a block open for writing, or dirty and not open: store its slot's page" (else refused by 9)
 abbrev pub landing : List ℕ → Condition → Move
@@ -145,8 +146,8 @@ plan (format slots blocks) x = begins (labelOf slots blocks)
 plan step x = stepping (x .state) (x .state .phase)
 plan flush x = flushing (x .state .unconfirmed)
 plan reopen x = recovers
-plan (offer b) x = offering x b (conditionOf (x .table) b)
-plan (fetch b) x = fetching x b (conditionOf (x .table) b)
+plan (offer b caller) x = offering x b caller (conditionOf (x .table) b)
+plan (fetch b caller) x = fetching x b caller (conditionOf (x .table) b)
 plan (landFetch b) x = landingFetch x b (conditionOf (x .table) b)
 plan (lookUp b) x = lookingUp (conditionOf (x .table) b)
 plan (view b) x = stay done
@@ -161,7 +162,7 @@ abbrev pub storesMeta : Move → Bool
 storesMeta (stay p) = false
 storesMeta (uses s p) = false
 storesMeta (usesAll ss) = false
-storesMeta (opens s b f t h) = true
+storesMeta (opens s b c f t h) = true
 storesMeta (lands w s d) = false
 storesMeta (copies s p t h) = false
 storesMeta confirms = true

@@ -154,6 +154,19 @@ NotToFetch b x =
 abbrev pub NotDirty : Block → Box → Type 0
 NotDirty b x = (s : SlotOf (x .table) b) → dirty (rowFlags (x .table) (s .slot)) ≡ false
 
+-- 17: "from caller 1 with 8 or more open" (document 02, N7): so many places of the window that are the import's
+pub record ImportOpen (n : ℕ) (r : Record) : Type 0 where
+  pub place : ℕ → ℕ
+  pub others : (i j : ℕ) → i < j → j < n → place i < place j
+  pub each : (i : ℕ) → i < n → (place i < r .count) × (getD (r .callers) (place i) 0 ≡ 1)
+
+abbrev pub ImportFull : ℕ → Box → Type 0
+ImportFull caller x = (caller ≡ 1) × ImportOpen 8 (x .state)
+
+-- 18: "a caller that is neither 0 nor 1"
+abbrev pub UnknownCaller : ℕ → Type 0
+UnknownCaller caller = (caller ≢ 0) × (caller ≢ 1)
+
 -- 12: "a slot must be swept for, all are open"
 abbrev pub AllOpen : Block → Box → Type 0
 AllOpen b x = (SlotOf (x .table) b → ⊥) × ((s : Slot) → IsRow (x .table) s → writing (rowFlags (x .table) s) ≡ true)
@@ -178,12 +191,14 @@ Why reopen x = (2, HasLabel (x .images .ssd) → ⊥) ∷ (4, Lengths (labelAt (
 Why step x =
     (3, BadRecord x) ∷ (4, BadLengths x) ∷ (5, BadRows x) ∷ (6, x .state .phase ≡ Ready) ∷ (13, Spent 4294967295 step x) ∷ []
 Why flush x = (3, BadRecord x) ∷ (4, BadLengths x) ∷ (5, BadRows x) ∷ (6, NotReady x) ∷ (13, Spent 4294967295 flush x) ∷ []
-Why (offer b) x =
-    (3, BadRecord x) ∷ (4, BadLengths x) ∷ (5, BadRows x) ∷ (6, NotReady x) ∷ (7, TooHigh b x) ∷ (8, SlotOpen b x)
-    ∷ (11, NotDirty b x × Open 63 (x .table)) ∷ (12, AllOpen b x) ∷ (13, Spent 4294967232 (offer b) x) ∷ []
-Why (fetch b) x =
-    (3, BadRecord x) ∷ (4, BadLengths x) ∷ (5, BadRows x) ∷ (6, NotReady x) ∷ (7, TooHigh b x) ∷ (10, HasOther b x)
-    ∷ (8, OpenForWriting b x) ∷ (11, Open 63 (x .table)) ∷ (12, AllOpen b x) ∷ (13, Spent 4294967232 (fetch b) x) ∷ []
+Why (offer b caller) x =
+    (3, BadRecord x) ∷ (4, BadLengths x) ∷ (5, BadRows x) ∷ (6, NotReady x) ∷ (18, UnknownCaller caller) ∷ (7, TooHigh b x)
+    ∷ (8, SlotOpen b x) ∷ (17, NotDirty b x × ImportFull caller x) ∷ (11, NotDirty b x × Open 63 (x .table)) ∷ (12, AllOpen b x)
+    ∷ (13, Spent 4294967232 (offer b caller) x) ∷ []
+Why (fetch b caller) x =
+    (3, BadRecord x) ∷ (4, BadLengths x) ∷ (5, BadRows x) ∷ (6, NotReady x) ∷ (18, UnknownCaller caller) ∷ (7, TooHigh b x)
+    ∷ (10, HasOther b x) ∷ (8, OpenForWriting b x) ∷ (17, ImportFull caller x) ∷ (11, Open 63 (x .table)) ∷ (12, AllOpen b x)
+    ∷ (13, Spent 4294967232 (fetch b caller) x) ∷ []
 Why (landFetch b) x =
     (3, BadRecord x) ∷ (4, BadLengths x) ∷ (5, BadRows x) ∷ (6, NotReady x) ∷ (7, TooHigh b x) ∷ (9, NotToFetch b x) ∷ []
 Why (lookUp b) x = (3, BadRecord x) ∷ (4, BadLengths x) ∷ (5, BadRows x) ∷ (6, NotReady x) ∷ (7, TooHigh b x) ∷ []
@@ -207,10 +222,10 @@ abbrev pub NoneWhy : List (ℕ × Type 0) → Type 0
 NoneWhy [] = Unit {0}
 NoneWhy (w ∷ ws) = (w .1 → ⊥) × NoneWhy ws
 
--- the order of judging: by number, but for 10 before 8 (document 02, N9), and 14 (N1) and 16 (N6), which come "after 6" and before 7. It
--- is a list of its own, and every call's numbers are some of these in this order
+-- the order of judging: by number, but for 10 before 8 (document 02, N9); 14 (N1), 16 (N6) and 18 (N7), which come "after 6" and before 7;
+-- and 17 "after 10 and before 11" (N7). It is a list of its own, and every call's numbers are some of these in this order
 abbrev pub turns : List ℕ
-turns = 1 ∷ 2 ∷ 3 ∷ 4 ∷ 5 ∷ 6 ∷ 14 ∷ 16 ∷ 7 ∷ 10 ∷ 8 ∷ 9 ∷ 11 ∷ 12 ∷ 13 ∷ []
+turns = 1 ∷ 2 ∷ 3 ∷ 4 ∷ 5 ∷ 6 ∷ 14 ∷ 16 ∷ 18 ∷ 7 ∷ 10 ∷ 8 ∷ 9 ∷ 17 ∷ 11 ∷ 12 ∷ 13 ∷ []
 
 unfoldable pub inTurn : List ℕ → List (ℕ × Type 0) → Bool
 inTurn [] [] = true

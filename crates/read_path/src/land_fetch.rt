@@ -19,7 +19,7 @@ pub fn land_fetch(
 ) -> Outcome
     ensures { λ q. ⌜ leaves q (now (ssd .exit)) (now (hdd .entry)) (now (table .exit)) ≡ landFetchOf (now (ssd .entry)) (now (hdd .entry)) (now (table .entry)) state block ⌝ }
 {
-    let seen = judging::judge_block(ssd.len(), hdd.len(), 4096, table, state, block);
+    let seen = judging::judge_block(ssd.len(), hdd.len(), 4096, table, state, block, 0);
     let number = seen.number;
     if number != 0 {
         return answers::refused(number, state);

@@ -12,7 +12,7 @@ ghost use Rattle.protocol.specs.Calls.{leaves, lookUpOf};
 pub fn look_up(ssd: &[u8], hdd: &[u8], table: &mut [u32], state: Record, block: Block) -> Outcome
     ensures { λ q. ⌜ leaves q (now (ssd .entry)) (now (hdd .entry)) (now (table .exit)) ≡ lookUpOf (now (ssd .entry)) (now (hdd .entry)) (now (table .entry)) state block ⌝ }
 {
-    let seen = judging::judge_block(ssd.len(), hdd.len(), 4096, table, state, block);
+    let seen = judging::judge_block(ssd.len(), hdd.len(), 4096, table, state, block, 0);
     let number = seen.number;
     if number != 0 {
         return answers::refused(number, state);

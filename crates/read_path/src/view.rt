@@ -18,7 +18,7 @@ pub fn view<'a>(
 ) -> &'a [u8]
     ensures { λ r. ⌜ record { number = now (refusal .exit); handed = part r } ≡ viewOf (part (ssd .entry)) (part (hdd .entry)) (now (table .entry)) state block ⌝ }
 {
-    let seen = judging::judge_block(ssd.len(), hdd.len(), 4096, table, state, block);
+    let seen = judging::judge_block(ssd.len(), hdd.len(), 4096, table, state, block, 0);
     let number = seen.number;
     *refusal = number;
     if number != 0 {

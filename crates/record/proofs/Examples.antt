@@ -11,8 +11,9 @@ use Rattle.layout.specs.Window.{windowFrom, arrayOf}
 use Rattle.record.specs.declared.Record.{Record}
 use Rattle.record.specs.declared.Phase.{Phase}
 use Rattle.record.specs.declared.Phase.the-variants.{Formatting, Recovering, Ready}
-use Rattle.record.specs.Window.{zeroSlots, without}
-use Rattle.record.specs.Record.{windowIn, recordWith, recordOf, withHand, withPhase, withStamp, withWindow}
+use Rattle.record.specs.Window.{zeroSlots, without, beside}
+use Rattle.record.specs.Callers.{openBy, callerArray, eachCaller}
+use Rattle.record.specs.Record.{windowIn, callersIn, recordWith, recordOf, withHand, withPhase, withStamp, withWindow, withCallers}
 use Rattle.record.specs.Rule.{recordTest}
 
 abbrev slot : ℕ → Slot
@@ -22,6 +23,15 @@ slot n = record { 0 = n }
 leaves : without (slot 1) (slot 2 ∷ slot 1 ∷ slot 0 ∷ []) ≡ slot 2 ∷ slot 0 ∷ []
 unfolding without
 leaves = refl
+
+-- its caller leaves with it, and is counted no more
+leaves-caller : beside {A = ℕ} (slot 1) (slot 2 ∷ slot 1 ∷ slot 0 ∷ []) (1 ∷ 0 ∷ 1 ∷ []) ≡ 1 ∷ 1 ∷ []
+unfolding beside
+leaves-caller = refl
+
+import-leaves : openBy 1 (beside (slot 2) (slot 2 ∷ slot 1 ∷ slot 0 ∷ []) (1 ∷ 0 ∷ 1 ∷ [])) ≡ 1
+unfolding openBy beside
+import-leaves = refl
 
 -- a record of 4 slots and 8 blocks
 abbrev boxed : Slot → Phase → List Slot → Record
@@ -42,29 +52,58 @@ others = refl
 
 -- "hand 4 with slots 4"; a window repeated; a slot out of range; not zero past its length; more steps than a format has
 taken : recordTest (boxed (slot 3) Ready (slot 2 ∷ slot 0 ∷ [])) ≡ true
-unfolding recordTest windowIn arrayOf withinLimits inRange distinct listed zeroSlots
+unfolding recordTest windowIn arrayOf withinLimits inRange distinct listed zeroSlots eachCaller
 taken = refl
 
 hand-high : recordTest (boxed (slot 4) Ready []) ≡ false
-unfolding recordTest windowIn arrayOf withinLimits inRange distinct listed zeroSlots
+unfolding recordTest windowIn arrayOf withinLimits inRange distinct listed zeroSlots eachCaller
 hand-high = refl
 
 twice : recordTest (boxed (slot 3) Ready (slot 2 ∷ slot 2 ∷ [])) ≡ false
-unfolding recordTest windowIn arrayOf withinLimits inRange distinct listed zeroSlots
+unfolding recordTest windowIn arrayOf withinLimits inRange distinct listed zeroSlots eachCaller
 twice = refl
 
 slot-high : recordTest (boxed (slot 3) Ready (slot 4 ∷ [])) ≡ false
-unfolding recordTest windowIn arrayOf withinLimits inRange distinct listed zeroSlots
+unfolding recordTest windowIn arrayOf withinLimits inRange distinct listed zeroSlots eachCaller
 slot-high = refl
 
 past-length : recordTest (recordWith (labelOf 4 8) (slot 3) 7 Ready true (record { slots = replicate 63 (slot 2); count = 1 })) ≡ false
-unfolding recordTest windowIn arrayOf withinLimits inRange distinct listed zeroSlots
+unfolding recordTest windowIn arrayOf withinLimits inRange distinct listed zeroSlots eachCaller
 past-length = refl
 
 steps-most : recordTest (boxed (slot 3) (Formatting 2) []) ≡ true
-unfolding recordTest windowIn arrayOf withinLimits metaPages inRange distinct listed zeroSlots
+unfolding recordTest windowIn arrayOf withinLimits metaPages inRange distinct listed zeroSlots eachCaller
 steps-most = refl
 
 steps-high : recordTest (boxed (slot 3) (Formatting 3) []) ≡ false
-unfolding recordTest windowIn arrayOf withinLimits metaPages inRange distinct listed zeroSlots
+unfolding recordTest windowIn arrayOf withinLimits metaPages inRange distinct listed zeroSlots eachCaller
 steps-high = refl
+
+-- callers: another than 0 or 1; one past the window's length; one while mending
+abbrev named : Phase → List Slot → List ℕ → Record
+named phase w callers = withCallers (boxed (slot 3) phase w) callers
+
+reads-callers : callersIn (named Ready (slot 2 ∷ slot 0 ∷ []) (1 ∷ 0 ∷ [])) ≡ 1 ∷ 0 ∷ []
+unfolding callersIn arrayOf callerArray
+reads-callers = refl
+
+callers-taken : recordTest (named Ready (slot 2 ∷ slot 0 ∷ []) (1 ∷ 0 ∷ [])) ≡ true
+unfolding recordTest windowIn arrayOf callerArray withinLimits inRange distinct listed zeroSlots eachCaller
+callers-taken = refl
+
+caller-high : recordTest (named Ready (slot 2 ∷ slot 0 ∷ []) (1 ∷ 2 ∷ [])) ≡ false
+unfolding recordTest windowIn arrayOf callerArray withinLimits inRange distinct listed zeroSlots eachCaller
+caller-high = refl
+
+caller-past : recordTest (named Ready (slot 2 ∷ []) (0 ∷ 1 ∷ [])) ≡ false
+unfolding recordTest windowIn arrayOf callerArray withinLimits inRange distinct listed zeroSlots eachCaller
+caller-past = refl
+
+caller-pending : recordTest (named Recovering (slot 2 ∷ []) (1 ∷ [])) ≡ false
+unfolding recordTest windowIn arrayOf callerArray withinLimits inRange distinct listed zeroSlots eachCaller
+caller-pending = refl
+
+-- "Reopening starts with nothing open": a new record names no caller
+nobody-new : callersIn (boxed (slot 3) Ready (slot 2 ∷ slot 0 ∷ [])) ≡ 0 ∷ 0 ∷ []
+unfolding callersIn arrayOf
+nobody-new = refl

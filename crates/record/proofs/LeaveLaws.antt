@@ -1,4 +1,4 @@
--- A window without one of its slots, place by place.
+-- A window without one of its slots, and what stands beside its slots, place by place.
 use Prim.Native.Nat.{ℕ, zero, suc, _+_, _-_, _≤_, _<_}
 use mathlib.Core.Path.{_≡_, refl, sym, ap, _∙_}
 use mathlib.Core.Bool.{Bool, true, false, _||_, or-false}
@@ -11,12 +11,12 @@ use lib.Dec.{eqb}
 use borrow.Author.Tests.{eqb-true, eqb-false, ne-eqb}
 use Rattle.layout.specs.declared.Slot.{Slot}
 use Rattle.layout.specs.PageRule.{listed}
-use Rattle.layout.specs.declared.Window.{Window}
-use Rattle.layout.specs.Window.{slotsIn, arrayOf, windowFrom}
-use Rattle.record.specs.Window.{without}
+use Rattle.layout.specs.Window.{arrayOf}
+use Rattle.record.specs.Window.{without, beside}
+use Rattle.record.specs.Callers.{callerArray}
 use Rattle.layout.proofs.Booleans.{Told, told, told-true, told-false, clash}
 use Rattle.layout.specs.Numbers.{choose}
-use Rattle.record.proofs.WindowLaws.{array-more}
+use Rattle.record.proofs.WindowLaws.{padded, padded-more}
 
 eqb-turn : (m n : ℕ) → eqb m n ≡ eqb n m
 eqb-turn m n = go (told (eqb n m))
@@ -52,15 +52,74 @@ without-comm s t (u ∷ w) = go (told (eqb (u .0) (s .0))) (told (eqb (u .0) (t 
     go (told-false a) (told-true b) ih = rw (a, b) (rw (without, b))
     go (told-false a) (told-false b) ih = rw (a, b) (rw (without, a, b) (ap (λ (l : List Slot). u ∷ l) ih))
 
--- what stands at a place: what stood there, or from the slot's place on what stood one place on
-pub without-at : (s : Slot) (w : List Slot) (i : ℕ) (d : Slot)
-    → getD (without s w) i d ≡ getD w (i + choose (listed s (take (suc i) w)) 1 0) d
-unfolding listed without
-without-at s [] i d = refl
-without-at s (t ∷ w) i d = go (told (eqb (t .0) (s .0))) i (λ j. without-at s w j d)
+-- beside the window itself stand its slots
+pub without-beside : (s : Slot) (w : List Slot) → without s w ≡ beside s w w
+unfolding without beside
+without-beside s [] = refl
+without-beside s (t ∷ w) = go (eqb (t .0) (s .0)) (without-beside s w)
   where
-    go : Told (eqb (t .0) (s .0)) → (k : ℕ) → ((j : ℕ) → getD (without s w) j d ≡ getD w (j + choose (listed s (take (suc j) w)) 1 0) d)
-        → getD (elim (eqb (t .0) (s .0)) [ true ↦ w | false ↦ t ∷ without s w ]) k d ≡ getD (t ∷ w)
+    go : (b : Bool) → without s w ≡ beside s w w
+        → _≡_ {A = List Slot} (elim b [ true ↦ w | false ↦ t ∷ without s w ]) (elim b [ true ↦ w | false ↦ t ∷ beside s w w ])
+    go true e = refl
+    go false e = ap (λ (l : List Slot). t ∷ l) e
+
+pub length-beside : {A : Type 0} (s : Slot) (w : List Slot) (xs : List A) → length xs ≡ length w
+    → length (beside s w xs) ≡ length (without s w)
+unfolding without beside
+length-beside s [] xs e = e
+length-beside s (t ∷ w) [] e = absurd (omega arith)
+length-beside {A} s (t ∷ w) (x ∷ xs) e = go (eqb (t .0) (s .0)) (length-beside s w xs (omega arith))
+  where
+    go : (b : Bool) → length (beside s w xs) ≡ length (without s w)
+        → length {A = A} (elim b [ true ↦ xs | false ↦ x ∷ beside s w xs ]) ≡ length {A = Slot} (elim b [ true ↦ w | false ↦ t ∷ without s w ])
+    go true q = omega arith
+    go false q = ap suc q
+
+pub beside-few : {A : Type 0} (s : Slot) (w : List Slot) (xs : List A) → length (beside s w xs) ≤ length xs
+unfolding beside
+beside-few s [] xs = omega arith
+beside-few s (t ∷ w) [] = omega arith
+beside-few {A} s (t ∷ w) (x ∷ xs) = go (eqb (t .0) (s .0)) (beside-few s w xs)
+  where
+    go : (b : Bool) → length (beside s w xs) ≤ length xs → length {A = A} (elim b [ true ↦ xs | false ↦ x ∷ beside s w xs ]) ≤ suc (length xs)
+    go true h = omega arith
+    go false h = omega arith
+
+beside-none : {A : Type 0} (s : Slot) (w : List Slot) → beside {A = A} s w [] ≡ []
+unfolding beside
+beside-none s [] = refl
+beside-none s (t ∷ w) = refl
+
+-- two slots leave in either order
+pub beside-comm : {A : Type 0} (s t : Slot) (w : List Slot) (xs : List A)
+    → beside s (without t w) (beside t w xs) ≡ beside t (without s w) (beside s w xs)
+unfolding without beside
+beside-comm s t [] xs = refl
+beside-comm {A} s t (u ∷ w) [] = beside-none {A = A} s (without t (u ∷ w)) ∙ sym (beside-none {A = A} t (without s (u ∷ w)))
+beside-comm {A} s t (u ∷ w) (x ∷ xs) = go (told (eqb (u .0) (s .0))) (told (eqb (u .0) (t .0))) (beside-comm s t w xs)
+  where
+    go : Told (eqb (u .0) (s .0)) → Told (eqb (u .0) (t .0)) → beside s (without t w) (beside t w xs) ≡ beside t (without s w) (beside s w xs)
+        → beside {A = A} s (elim (eqb (u .0) (t .0)) [ true ↦ w | false ↦ u ∷ without t w ])
+        (elim (eqb (u .0) (t .0)) [ true ↦ xs | false ↦ x ∷ beside t w xs ])
+        ≡ beside {A = A} t (elim (eqb (u .0) (s .0)) [ true ↦ w | false ↦ u ∷ without s w ])
+        (elim (eqb (u .0) (s .0)) [ true ↦ xs | false ↦ x ∷ beside s w xs ])
+    go (told-true a) (told-true b) ih =
+        let e : s .0 ≡ t .0 = sym (eqb-true _ _ a) ∙ eqb-true _ _ b in
+        rw (a, b) (ap (λ (n : ℕ). beside (record { 0 = n }) w xs) e)
+    go (told-true a) (told-false b) ih = rw (a, b) (rw (beside, a))
+    go (told-false a) (told-true b) ih = rw (a, b) (rw (beside, b))
+    go (told-false a) (told-false b) ih = rw (a, b) (rw (beside, a, b) (ap (λ (l : List A). x ∷ l) ih))
+
+-- what stands at a place: what stood there, or from the slot's place on what stood one place on
+pub beside-at : {A : Type 0} (s : Slot) (w : List Slot) (xs : List A) (i : ℕ) (d : A) → length xs ≡ length w
+    → getD (beside s w xs) i d ≡ getD xs (i + choose (listed s (take (suc i) w)) 1 0) d
+unfolding listed beside
+beside-at s [] xs i d n = ap (λ (k : ℕ). getD xs k d) (omega arith)
+beside-at s (t ∷ w) [] i d n = refl
+beside-at {A} s (t ∷ w) (x ∷ xs) i d n = go (told (eqb (t .0) (s .0))) i (λ j. beside-at s w xs j d (omega arith))
+  where
+    go : Told (eqb (t .0) (s .0)) → (k : ℕ) → ((j : ℕ) → getD (beside s w xs) j d ≡ getD xs (j + choose (listed s (take (suc j) w)) 1 0) d)
+        → getD {A = A} (elim (eqb (t .0) (s .0)) [ true ↦ xs | false ↦ x ∷ beside s w xs ]) k d ≡ getD (x ∷ xs)
         (k + choose (eqb (s .0) (t .0) || listed s (take k w)) 1 0) d
     go (told-true e) k ih = rw (e, eqb-turn (s .0) (t .0), e, add-one k)
     go (told-false e) zero ih = rw (e, eqb-turn (s .0) (t .0), e)
@@ -87,79 +146,90 @@ gone-more true false = refl
 gone-more false true = refl
 gone-more false false = refl
 
--- what the loop of `slots_without` has by place i
-pub record Leaving (s : Slot) (w left : List Slot) (gone i : ℕ) : Type 0 where
+-- how far the loop of `leave` is at place i, and whether it has met the slot
+pub record Leaving (s : Slot) (w : List Slot) (gone i : ℕ) : Type 0 where
   pub few : i + 1 ≤ length w
   pub most : length w ≤ 63
   pub passed : gone ≡ choose (listed s (take i w)) 1 0
-  pub filled : left ≡ arrayOf (take i (without s w))
 
-pub gone-most : (s : Slot) (w left : List Slot) (gone i : ℕ) → Leaving s w left gone i → gone ≤ 1
-gone-most s w left gone i L = rw (L .passed) (go (listed s (take i w)))
+-- what it has moved of a list that stands beside the window
+pub record Moved {A : Type 0} (nil : A) (s : Slot) (w : List Slot) (xs left : List A) (i : ℕ) : Type 0 where
+  pub size : length xs ≡ length w
+  pub filled : left ≡ padded nil (take i (beside s w xs))
+
+pub gone-most : (s : Slot) (w : List Slot) (gone i : ℕ) → Leaving s w gone i → gone ≤ 1
+gone-most s w gone i L = rw (L .passed) (go (listed s (take i w)))
   where
     go : (b : Bool) → choose b 1 0 ≤ 1
     go true = omega arith
     go false = omega arith
 
-module _ (s : Slot) (w left : List Slot) (gone i : ℕ) (d : Slot) (L : Leaving s w left gone i) (h : i + 1 < length w)
-    (here : listed s w ≡ true) where
-  pub one-on : Leaving s w (set left i (getD w (i + choose (eqb (s .0) (getD w i d .0)) 1 gone) d))
-      (choose (eqb (s .0) (getD w i d .0)) 1 gone) (i + 1)
-  one-on =
-      let v : List Slot = without s w in
-      let n : suc (length v) ≡ length w = length-less s w here in
-      let g : choose (eqb (s .0) (getD w i d .0)) 1 gone ≡ choose (listed s (take (suc i) w)) 1 0 =
-      ap (choose (eqb (s .0) (getD w i d .0)) 1) (L .passed) ∙ gone-more (listed s (take i w)) (eqb (s .0) (getD w i d .0))
-      ∙ ap (λ (b : Bool). choose b 1 0) (sym (listed-more s w i d (omega arith)))
-      in
-      let k : length (take i v) ≡ i = length-take i v ∙ omega arith in
-      record {
-        few = omega arith;
-        most = L .most;
-        passed = rw add-one g;
-        filled =
-            rw (L .filled, g, ← without-at s w i d)
-            (ap (λ (m : ℕ). set (arrayOf (take i v)) m (getD v i d)) (sym k)
-            ∙ array-more (take i v) (getD v i d) (omega (arith, L .most))
-            ∙ ap arrayOf (sym (take-suc v i d (omega arith)) ∙ ap (λ (m : ℕ). take m v) (sym (add-one i))));
-      }
-
-pub next-most : (s : Slot) (window left : List Slot) (n gone i g : ℕ) (d : Slot) → Leaving s (take n window) left gone i
-    → g ≡ choose (eqb (s .0) (getD window i d .0)) 1 gone → g ≤ 1
-next-most s window left n gone i g d L e = rw e (go (eqb (s .0) (getD window i d .0)))
-  where
-    go : (b : Bool) → choose b 1 gone ≤ 1
-    go true = omega arith
-    go false = gone-most s (take n window) left gone i L
-
--- the same over the array, whose first n places are the window
-pub one-place : (s : Slot) (window left : List Slot) (n gone i g : ℕ) (d : Slot) → Leaving s (take n window) left gone i → i + 1 < n
-    → n ≤ length window → listed s (take n window) ≡ true
-    → g ≡ choose (eqb (s .0) (getD window i d .0)) 1 gone → Leaving s (take n window) (set left i (getD window (i + g) d)) g (i + 1)
-one-place s window left n gone i g d L h m here e =
-    let q : g ≡ choose (eqb (s .0) (getD (take n window) i d .0)) 1 gone = rw (getD-take n window i d (omega arith)) e in
-    let one : g ≤ 1 = next-most s window left n gone i g d L e in
-    let k : getD (take n window) (i + g) d ≡ getD window (i + g) d = getD-take n window (i + g) d (omega arith) in
-    let z = length-take n window in
-    rw (← k, q) (one-on s (take n window) left gone i d L (omega arith) here)
-
-pub leaving-begin : (s : Slot) (w : List Slot) → listed s w ≡ true → length w ≤ 63 → Leaving s w (replicate 63 (record { 0 = 0 })) 0 0
-unfolding listed arrayOf
-leaving-begin s w h m = let n = length-less s w h in record { few = omega arith; most = m; passed = refl; filled = refl }
-
 pub some-slot : (s : Slot) (w : List Slot) (n : ℕ) → listed s (take n w) ≡ true → 1 ≤ n
 some-slot s w n h = let k = length-less s (take n w) h in let m = length-take n w in omega arith
 
-pub all-left : (s : Slot) (w left : List Slot) (gone i : ℕ) → Leaving s w left gone i → length w ≤ i + 1 → listed s w ≡ true
-    → left ≡ arrayOf (without s w)
-all-left s w left gone i L h here =
-    let n = length-less s w here in
-    L .filled ∙ ap arrayOf (take-all i (without s w) (omega arith))
+-- the window is the first n places of its array
+module _ (s : Slot) (window : List Slot) (n gone i g : ℕ) (d : Slot) (L : Leaving s (take n window) gone i)
+    (e : g ≡ choose (eqb (s .0) (getD window i d .0)) 1 gone) where
+  abbrev w : List Slot
+  w = take n window
 
--- array and length together
-pub left-is : (w : Window) (s : Slot) (array : List Slot) → w .count ≤ 63 → length (w .slots) ≡ 63 → listed s (slotsIn w) ≡ true
-    → array ≡ arrayOf (without s (slotsIn w)) → record { slots = array; count = w .count - 1 } ≡ windowFrom (without s (slotsIn w))
-left-is w s array most size h e =
-    let n : w .count - 1 ≡ length (without s (slotsIn w)) =
-    omega (arith, length-less s (slotsIn w) h, length-take (w .count) (w .slots)) in
-    (λ i. record { slots = e i; count = n i })
+  pub next-most : g ≤ 1
+  next-most = rw e (go (eqb (s .0) (getD window i d .0)))
+    where
+      go : (b : Bool) → choose b 1 gone ≤ 1
+      go true = omega arith
+      go false = gone-most s (take n window) gone i L
+
+  module _ (h : i + 1 < n) (m : n ≤ length window) where
+    met-by : g ≡ choose (listed s (take (suc i) (take n window))) 1 0
+    met-by =
+        let z = length-take n window in
+        let q : getD (take n window) i d ≡ getD window i d = getD-take n window i d (omega arith) in
+        e ∙ ap (choose (eqb (s .0) (getD window i d .0)) 1) (L .passed)
+        ∙ gone-more (listed s (take i (take n window))) (eqb (s .0) (getD window i d .0))
+        ∙ ap (λ (b : Bool). choose b 1 0)
+        (ap (λ (u : Slot). listed s (take i (take n window)) || eqb (s .0) (u .0)) (sym q) ∙ sym (listed-more s (take n window) i d (omega arith)))
+
+    pub one-place : Leaving s (take n window) g (i + 1)
+    one-place = let z = length-take n window in record { few = omega arith; most = L .most; passed = rw add-one met-by }
+
+    -- one place more is moved, of a list in an array
+    pub moved-on : {A : Type 0} (nil : A) (array left : List A) → listed s (take n window) ≡ true → n ≤ length array
+        → Moved nil s (take n window) (take n array) left i
+        → Moved nil s (take n window) (take n array) (set left i (getD array (i + g) nil)) (i + 1)
+    moved-on {A} nil array left here k M =
+        let z = length-take n window in
+        let one = next-most in
+        let q : getD (take n array) (i + g) nil ≡ getD array (i + g) nil = getD-take n array (i + g) nil (omega arith) in
+        let v : List A = beside s (take n window) (take n array) in
+        let c = length-less s (take n window) here in
+        let y : length v ≡ length (without s (take n window)) = length-beside s (take n window) (take n array) (M .size) in
+        let u : length (take i v) ≡ i = length-take i v ∙ omega arith in
+        let x : getD v i nil ≡ getD array (i + g) nil =
+        beside-at s (take n window) (take n array) i nil (M .size)
+        ∙ ap (λ (j : ℕ). getD (take n array) (i + j) nil) (sym met-by) ∙ q
+        in
+        record {
+          size = M .size;
+          filled =
+              rw (M .filled, ← x)
+              (ap (λ (j : ℕ). set (padded nil (take i v)) j (getD v i nil)) (sym u)
+              ∙ padded-more nil (take i v) (getD v i nil) (omega (arith, L .most))
+              ∙ ap (padded nil) (sym (take-suc v i nil (omega arith)) ∙ ap (λ (j : ℕ). take j v) (sym (add-one i))));
+        }
+
+pub leaving-begin : (s : Slot) (w : List Slot) → listed s w ≡ true → length w ≤ 63 → Leaving s w 0 0
+unfolding listed
+leaving-begin s w h m = let n = length-less s w h in record { few = omega arith; most = m; passed = refl }
+
+pub moved-begin : {A : Type 0} (nil : A) (s : Slot) (w : List Slot) (xs : List A) → length xs ≡ length w
+    → Moved nil s w xs (replicate 63 nil) 0
+unfolding padded
+moved-begin nil s w xs n = record { size = n; filled = refl }
+
+pub all-moved : {A : Type 0} (nil : A) (s : Slot) (w : List Slot) (xs left : List A) (i : ℕ) → Moved nil s w xs left i
+    → length w ≤ i + 1 → listed s w ≡ true → left ≡ padded nil (beside s w xs)
+all-moved nil s w xs left i M h here =
+    let n = length-less s w here in
+    let y = length-beside s w xs (M .size) in
+    M .filled ∙ ap (padded nil) (take-all i (beside s w xs) (omega arith))

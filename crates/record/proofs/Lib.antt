@@ -3,5 +3,6 @@ pub mod WindowLaws
 pub mod LeaveLaws
 pub mod DistinctLaws
 pub mod RecordLaws
+pub mod CallerLaws
 pub mod RuleLaws
 pub mod Examples

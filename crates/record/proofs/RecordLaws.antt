@@ -1,25 +1,28 @@
 -- A record that keeps its rule: its parts, and its window as an array.
-use Prim.Native.Nat.{ℕ, _-_, _≤_}
+use Prim.Native.Nat.{ℕ, _-_, _≤_, _<_}
 use mathlib.Core.Path.{_≡_, refl, sym, ap, _∙_}
 use mathlib.Core.Bool.{Bool, true}
 use mathlib.Core.List.{List, [], _∷_, _++_}
 use native.Mathlib.Omega.{arith}
-use lib.ListN.{length, take, drop, replicate, length-take, length-drop, take-append-drop}
-use lib.Dec.{eqb, ltb}
+use lib.ListN.{length, set, take, drop, replicate, length-take, length-drop, take-append-drop}
+use lib.Dec.{eqb, ltb, leb}
 use borrow.Author.Tests.{eqb-true, leb-true}
 use Rattle.layout.specs.declared.Slot.{Slot}
 use Rattle.layout.specs.declared.Label.{Label}
 use Rattle.layout.specs.declared.Window.{Window}
 use Rattle.layout.specs.Places.{withinLimits}
-use Rattle.layout.specs.PageRule.{distinct, inRange}
+use Rattle.layout.specs.PageRule.{listed, distinct, inRange}
 use Rattle.layout.specs.Window.{slotsIn, arrayOf, windowFrom, ZeroPast}
 use Rattle.layout.proofs.Booleans.{and-parts}
 use Rattle.record.specs.declared.Record.{Record}
 use Rattle.record.specs.declared.Phase.{Phase}
 use Rattle.record.specs.Window.{zeroSlots, without}
-use Rattle.record.specs.Record.{windowOf, windowIn, recordOf, putWindow, withWindow}
+use Rattle.record.specs.Callers.{callerArray, eachCaller, namedPlaces, callersTest}
+use Rattle.record.specs.Record.{windowOf, windowIn, callersIn, recordOf, putWindow, putCallers, withWindow}
 use Rattle.record.specs.Rule.{stepsTest, recordTest}
-use Rattle.record.proofs.WindowLaws.{take-array}
+use Rattle.record.proofs.WindowLaws.{take-array, padded-more}
+use Rattle.record.proofs.CallerLaws.{Named, named-of, callers-array, padded-callers}
+use Rattle.record.proofs.LeaveLaws.{length-less}
 
 -- the parts of 3
 pub record Parts (r : Record) : Type 0 where
@@ -31,6 +34,7 @@ pub record Parts (r : Record) : Type 0 where
   pub ranged : inRange (r .label) (windowIn r) ≡ true
   pub apart : distinct (windowIn r) ≡ true
   pub past : zeroSlots (drop (r .count) (r .window)) ≡ true
+  pub named : callersTest (namedPlaces (r .phase) (r .count)) (r .callers) ≡ true
 
 pub parts : (r : Record) → recordTest r ≡ true → Parts r
 unfolding recordTest
@@ -42,6 +46,7 @@ parts r e =
     let p5 = and-parts _ _ (p4 .1) in
     let p6 = and-parts _ _ (p5 .1) in
     let p7 = and-parts _ _ (p6 .1) in
+    let p8 = and-parts _ _ (p7 .1) in
     record {
       in-limits = p1 .0;
       hand = p2 .0;
@@ -50,7 +55,8 @@ parts r e =
       size = eqb-true _ _ (p5 .0);
       ranged = p6 .0;
       apart = p7 .0;
-      past = p7 .1;
+      past = p8 .0;
+      named = p8 .1;
     }
 
 -- zero slots are as many zeros
@@ -87,21 +93,49 @@ module _ (r : Record) (P : Parts r) where
   pub window-zero : ZeroPast (windowOf r)
   window-zero = rw (window-is r) window-from
 
--- the window of a record that was made of one
-pub window-in : (l : Label) (h : Slot) (n : ℕ) (ph : Phase) (u : Bool) (w : List Slot) → windowIn (recordOf l h n ph u w) ≡ w
+-- the window of a record that was made of one, whatever its callers
+pub window-in : (l : Label) (h : Slot) (n : ℕ) (ph : Phase) (u : Bool) (w : List Slot) (cs : List ℕ)
+    → windowIn (putCallers (recordOf l h n ph u w) cs) ≡ w
 unfolding windowIn
-window-in l h n ph u w = take-array w
+window-in l h n ph u w cs = take-array w
 
 -- slots as a window are zero past their length
 pub from-zero : (w : List Slot) → ZeroPast (windowFrom w)
 from-zero w = rw (take-array w)
 
--- the record with a slot more in its window, or one less
-module _ (r : Record) (s : Slot) (w v : Window) (e : w ≡ windowOf r) where
-  pub joined-is : v ≡ windowFrom (slotsIn w ++ (s ∷ [])) → (q : Record) → q ≡ putWindow r (r .unconfirmed) v
-      → q ≡ withWindow r (r .unconfirmed) (windowIn r ++ (s ∷ []))
-  joined-is j q p = rw (p, j, e, window-is r)
+-- the callers of its places
+pub callers-is : (r : Record) → take (r .count) (r .callers) ≡ callersIn r
+unfolding callersIn
+callers-is r = refl
 
-  pub record-left-is : v ≡ windowFrom (without s (slotsIn w)) → (q : Record) → q ≡ putWindow r true v
-      → q ≡ withWindow r true (without s (windowIn r))
-  record-left-is j q p = rw (p, j, e, window-is r)
+module _ (r : Record) (P : Parts r) where
+  pub callers-named : Named (r .count) (r .callers)
+  callers-named = named-of (r .phase) (r .count) (r .callers) (P .named)
+
+  pub callers-length : length (callersIn r) ≡ r .count
+  unfolding callersIn
+  callers-length = length-take (r .count) (r .callers) ∙ omega (arith, P .most, callers-named .size)
+
+  pub callers-known : eachCaller (λ c. leb c 1) (callersIn r) ≡ true
+  unfolding callersIn
+  callers-known = callers-named .known
+
+  -- one caller more
+  pub callers-more : (caller : ℕ) → r .count < 63 → set (r .callers) (r .count) caller ≡ callerArray (callersIn r ++ (caller ∷ []))
+  callers-more caller h =
+      let a : r .callers ≡ callerArray (callersIn r) =
+      callers-array (r .count) (r .callers) callers-named (P .most) ∙ ap callerArray (callers-is r) in
+      ap (λ (l : List ℕ). set l (r .count) caller) a
+      ∙ ap (λ (n : ℕ). set (callerArray (callersIn r)) n caller) (sym callers-length)
+      ∙ rw (← padded-callers (callersIn r), ← padded-callers (callersIn r ++ (caller ∷ [])))
+      (padded-more 0 (callersIn r) caller (omega (arith, callers-length)))
+
+-- the record with a slot more in its window
+module _ (r : Record) (s : Slot) (w : Window) (e : w ≡ windowOf r) where
+  pub joined-is : (v : Window) → v ≡ windowFrom (slotsIn w ++ (s ∷ [])) → (q : Record) → q ≡ putWindow r (r .unconfirmed) v
+      → q ≡ withWindow r (r .unconfirmed) (windowIn r ++ (s ∷ []))
+  joined-is v j q p = rw (p, j, e, window-is r)
+
+-- its length without a slot
+pub one-less : (r : Record) (s : Slot) → Parts r → listed s (windowIn r) ≡ true → r .count - 1 ≡ length (without s (windowIn r))
+one-less r s P h = omega (arith, length-less s (windowIn r) h, window-length r P)

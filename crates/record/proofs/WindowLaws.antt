@@ -98,13 +98,24 @@ pub zero-past : (w : List Slot) → zeroSlots (drop (length w) (arrayOf w)) ≡ 
 unfolding arrayOf
 zero-past w = rw (drop-at w (replicate (63 - length w) (record { 0 = 0 })) (length w) refl) (zero-slots (63 - length w))
 
--- a slot more in an array
-pub array-more : (w : List Slot) (s : Slot) → length w < 63 → set (arrayOf w) (length w) s ≡ arrayOf (w ++ (s ∷ []))
-unfolding arrayOf
-array-more w s h =
+-- a list in an array of 63 places, the rest of it nil: one more in it
+unfoldable pub padded : {A : Type 0} → A → List A → List A
+padded nil w = w ++ replicate (63 - length w) nil
+
+pub padded-more : {A : Type 0} (nil : A) (w : List A) (s : A) → length w < 63 → set (padded nil w) (length w) s ≡ padded nil (w ++ (s ∷ []))
+unfolding padded
+padded-more nil w s h =
     let e : 63 - length w ≡ suc (62 - length w) = omega arith in
     let n : 63 - length (w ++ (s ∷ [])) ≡ 62 - length w = rw length-append (omega arith) in
-    rw (e, n, append-assoc) (set-at w (record { 0 = 0 }) (replicate (62 - length w) (record { 0 = 0 })) s (length w) refl)
+    rw (e, n, append-assoc) (set-at w nil (replicate (62 - length w) nil) s (length w) refl)
+
+-- slots are so in a window's array
+pub padded-slots : (w : List Slot) → padded (record { 0 = 0 }) w ≡ arrayOf w
+unfolding padded arrayOf
+padded-slots w = refl
+
+pub array-more : (w : List Slot) (s : Slot) → length w < 63 → set (arrayOf w) (length w) s ≡ arrayOf (w ++ (s ∷ []))
+array-more w s h = rw (← padded-slots w, ← padded-slots (w ++ (s ∷ []))) (padded-more (record { 0 = 0 }) w s h)
 
 -- a slot more in a window
 pub window-more : (w : Window) (s : Slot) → ZeroPast w → w .count < 63

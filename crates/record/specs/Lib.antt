@@ -1,3 +1,4 @@
 pub mod Window
+pub mod Callers
 pub mod Record
 pub mod Rule

@@ -1,4 +1,4 @@
--- Windows of slots: a test at each slot, slots that are zero, and a window without a slot.
+-- Windows of slots: a test at each slot, slots that are zero, a window without a slot, and what stands beside its slots.
 use mathlib.Core.Bool.{Bool, true, false, _&&_}
 use mathlib.Core.List.{List, [], _∷_}
 use lib.Dec.{eqb}
@@ -18,3 +18,9 @@ zeroSlots (s ∷ w) = eqb (s .0) 0 && zeroSlots w
 unfoldable pub without : Slot → List Slot → List Slot
 without s [] = []
 without s (t ∷ w) = elim (eqb (t .0) (s .0)) [ true ↦ w | false ↦ t ∷ without s w ]
+
+-- what stands beside a window's slots, without what stands beside one of them: the rest moves up with the slots
+unfoldable pub beside : {A : Type 0} → Slot → List Slot → List A → List A
+beside s [] xs = xs
+beside s (t ∷ w) [] = []
+beside s (t ∷ w) (x ∷ xs) = elim (eqb (t .0) (s .0)) [ true ↦ xs | false ↦ x ∷ beside s w xs ]

@@ -7,6 +7,12 @@ pub mod rule;
 pub mod state;
 pub mod window;
 
+// The import's number as a caller, the largest there is.
+pub const IMPORT: u32 = 1;
+
+// How many slots the import may have open.
+pub const IMPORT_MOST: u32 = 8;
+
 // The largest stamp.
 pub const LARGEST_STAMP: u32 = 4294967295;
 
@@ -17,7 +23,8 @@ pub enum Phase {
     Ready,
 }
 
-// Document 01's record. `unconfirmed` is its "unsettled"; the window is an array and its length, `count`.
+// Document 01's record. `unconfirmed` is its "unsettled"; the window is an array and its length, `count`; `callers` names the caller of
+// each of its places (document 02, N7): 0 for people, 1 for the import.
 pub struct Record {
     pub label: Label,
     pub hand: Slot,
@@ -26,4 +33,5 @@ pub struct Record {
     pub unconfirmed: bool,
     pub window: [Slot; WINDOW],
     pub count: u32,
+    pub callers: [u32; WINDOW],
 }

@@ -1,4 +1,5 @@
 // The record's rule (document 01's table, number 3).
+use crate::IMPORT;
 use crate::Phase;
 use crate::Record;
 use crate::state;
@@ -11,11 +12,12 @@ use layout::places;
 ghost use mathlib.Core.Path.{_≡_};
 ghost use mathlib.Core.Bool.{true, false, _&&_};
 ghost use Prim.Native.Nat.{_+_, _≤_, _<_};
-ghost use lib.ListN.{length, drop};
-ghost use lib.Dec.{eqb};
+ghost use lib.ListN.{length, take, drop};
+ghost use lib.Dec.{eqb, leb};
 ghost use Rattle.layout.specs.PageRule.{listed, distinct, inRange};
 ghost use Rattle.layout.specs.Window.{windowMost, slotsIn};
 ghost use Rattle.record.specs.Window.{zeroSlots};
+ghost use Rattle.record.specs.Callers.{importCaller, eachCaller, namedPlaces, callersTest};
 ghost use Rattle.record.specs.Rule.{stepsTest, recordTest};
 
 // Whether the window's slots are in range.
@@ -116,6 +118,67 @@ fn steps_ok(l: Label, phase: Phase) -> bool
     }
 }
 
+// Whether both hold.
+fn both(a: bool, b: bool) -> bool
+    ensures { λ r. ⌜ r ≡ (a && b) ⌝ }
+{
+    if a {
+        return b;
+    }
+    false
+}
+
+// Whether the callers of the first `n` places are 0 or 1.
+fn known(callers: [u32; WINDOW], n: usize) -> bool
+    requires { ⌜ n ≤ windowMost ⌝ }
+    ensures { λ r. ⌜ r ≡ eachCaller (λ c. leb c importCaller) (take n callers) ⌝ }
+{
+    let mut ok = true;
+    let mut i: usize = 0;
+    while i < n {
+        ok = both(ok, callers[i] <= IMPORT);
+        i += 1;
+    }
+    ok
+}
+
+// Whether the callers from place `n` on are 0.
+fn nobody_from(callers: [u32; WINDOW], n: usize) -> bool
+    requires { ⌜ n ≤ windowMost ⌝ }
+    ensures { λ r. ⌜ r ≡ eachCaller (λ c. eqb c 0) (drop n callers) ⌝ }
+{
+    let mut ok = true;
+    let mut at: usize = n;
+    while at < WINDOW {
+        ok = both(ok, callers[at] == 0);
+        at += 1;
+    }
+    ok
+}
+
+// How many places may name another caller than 0.
+fn named_places(phase: Phase, count: u32) -> u32
+    ensures { λ r. ⌜ r ≡ namedPlaces phase count ⌝ }
+{
+    match phase {
+        Phase::Formatting(_) => count,
+        Phase::Recovering => 0,
+        Phase::Ready => count,
+    }
+}
+
+// Whether the callers keep their rule, where the first `named` places may name one.
+fn callers_ok(callers: [u32; WINDOW], named: u32) -> bool
+    requires { ⌜ named ≤ windowMost ⌝ }
+    ensures { λ r. ⌜ r ≡ callersTest named callers ⌝ }
+{
+    let n = named as usize;
+    if !known(callers, n) {
+        return false;
+    }
+    nobody_from(callers, n)
+}
+
 // Whether a record keeps its rule.
 pub fn record_ok(r: Record) -> bool
     ensures { λ q. ⌜ q ≡ recordTest r ⌝ }
@@ -135,5 +198,9 @@ pub fn record_ok(r: Record) -> bool
     if (WINDOW as u32) < r.count {
         return false;
     }
-    window_ok(l, state::window_of(r))
+    if !window_ok(l, state::window_of(r)) {
+        return false;
+    }
+    let callers = r.callers;
+    callers_ok(callers, named_places(phase, r.count))
 }

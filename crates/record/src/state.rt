@@ -4,6 +4,7 @@ use crate::Record;
 use crate::window;
 use layout::Label;
 use layout::Slot;
+use layout::WINDOW;
 use layout::Window;
 ghost use mathlib.Core.Path.{_≡_};
 ghost use mathlib.Core.Bool.{true, false};
@@ -11,8 +12,8 @@ ghost use mathlib.Core.List.{[], _∷_, _++_};
 ghost use Prim.Native.Nat.{_<_};
 ghost use Rattle.layout.specs.PageRule.{listed};
 ghost use Rattle.layout.specs.Window.{windowMost};
-ghost use Rattle.record.specs.Window.{without};
-ghost use Rattle.record.specs.Record.{windowOf, windowIn, recordWith, withHand, withPhase, withStamp, putWindow, withWindow};
+ghost use Rattle.record.specs.Window.{without, beside};
+ghost use Rattle.record.specs.Record.{windowOf, windowIn, callersIn, recordWith, withHand, withPhase, withStamp, putWindow, withWindow, withCallers};
 ghost use Rattle.record.specs.Rule.{recordTest};
 
 // The record's window.
@@ -26,7 +27,7 @@ pub fn window_of(r: Record) -> Window
     }
 }
 
-// A record with the hand on slot 0, settled.
+// A record with the hand on slot 0, settled, and no caller named.
 pub fn fresh(l: Label, newest: u32, phase: Phase, w: Window) -> Record
     ensures { λ q. ⌜ q ≡ recordWith l (record { 0 = 0 }) newest phase false w ⌝ }
 {
@@ -40,6 +41,7 @@ pub fn fresh(l: Label, newest: u32, phase: Phase, w: Window) -> Record
         unconfirmed: false,
         window: slots,
         count: w.count,
+        callers: [0u32; WINDOW],
     }
 }
 
@@ -59,6 +61,7 @@ pub fn with_phase(r: Record, phase: Phase) -> Record
     let l = r.label;
     let hand = r.hand;
     let slots = r.window;
+    let callers = r.callers;
     Record {
         label: l,
         hand,
@@ -67,6 +70,7 @@ pub fn with_phase(r: Record, phase: Phase) -> Record
         unconfirmed: r.unconfirmed,
         window: slots,
         count: r.count,
+        callers,
     }
 }
 
@@ -92,22 +96,33 @@ pub fn with_window(r: Record, unconfirmed: bool, w: Window) -> Record
     next
 }
 
-// The record with a slot added to its window.
-pub fn joined(r: Record, s: Slot) -> Record
+// The record with a slot added to its window, and its caller beside it.
+pub fn joined(r: Record, s: Slot, caller: u32) -> Record
     requires { ⌜ recordTest r ≡ true ⌝ }
     requires { ⌜ r .count < windowMost ⌝ }
-    ensures { λ q. ⌜ q ≡ withWindow r (r .unconfirmed) (windowIn r ++ (s ∷ [])) ⌝ }
+    ensures { λ q. ⌜ q ≡ withCallers (withWindow r (r .unconfirmed) (windowIn r ++ (s ∷ []))) (callersIn r ++ (caller ∷ [])) ⌝ }
 {
+    let at = r.count as usize;
     let w = window::join(window_of(r), s);
-    with_window(r, r.unconfirmed, w)
+    let mut next = with_window(r, r.unconfirmed, w);
+    next.callers[at] = caller;
+    next
 }
 
-// The record, unsettled, without a slot of its window.
+// The record, unsettled, without a slot of its window and without its caller.
 pub fn left(r: Record, s: Slot) -> Record
     requires { ⌜ recordTest r ≡ true ⌝ }
     requires { ⌜ listed s (windowIn r) ≡ true ⌝ }
-    ensures { λ q. ⌜ q ≡ withWindow r true (without s (windowIn r)) ⌝ }
+    ensures { λ q. ⌜ q ≡ withCallers (withWindow r true (without s (windowIn r))) (beside s (windowIn r) (callersIn r)) ⌝ }
 {
-    let w = window::leave(window_of(r), s);
-    with_window(r, true, w)
+    let callers = r.callers;
+    let left = window::leave(window_of(r), callers, s);
+    let slots = left.slots;
+    let named = left.callers;
+    let mut next = r;
+    next.unconfirmed = true;
+    next.window = slots;
+    next.count = r.count - 1;
+    next.callers = named;
+    next
 }

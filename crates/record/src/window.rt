@@ -1,4 +1,5 @@
-// Windows: a slot is looked for, joins, or leaves.
+// Windows: a slot is looked for, joins, or leaves, with the caller of its place.
+use crate::IMPORT;
 use layout::Slot;
 use layout::WINDOW;
 use layout::Window;
@@ -6,12 +7,19 @@ ghost use mathlib.Core.Path.{_≡_};
 ghost use mathlib.Core.Bool.{true, false};
 ghost use mathlib.Core.List.{[], _∷_, _++_};
 ghost use Prim.Native.Nat.{_+_, _≤_, _<_};
-ghost use lib.ListN.{drop};
+ghost use lib.ListN.{take, drop};
 ghost use lib.Dec.{eqb};
 ghost use Rattle.layout.specs.Numbers.{choose};
 ghost use Rattle.layout.specs.PageRule.{listed};
 ghost use Rattle.layout.specs.Window.{windowMost, slotsIn, arrayOf, windowFrom, ZeroPast};
-ghost use Rattle.record.specs.Window.{without};
+ghost use Rattle.record.specs.Window.{without, beside};
+ghost use Rattle.record.specs.Callers.{importCaller, openBy, callerArray};
+
+// A window's slots, and the callers of their places.
+pub struct Places {
+    pub slots: [Slot; WINDOW],
+    pub callers: [u32; WINDOW],
+}
 
 // A window with no slot.
 pub fn empty() -> Window
@@ -65,15 +73,16 @@ fn met(before: usize, here: Slot, s: Slot) -> usize
     before
 }
 
-// The array of a window without one of its slots: those after it move up.
-fn slots_without(w: Window, s: Slot) -> [Slot; WINDOW]
+// The places of a window without one of its slots: those after it move up, each with its caller.
+pub fn leave(w: Window, callers: [u32; WINDOW], s: Slot) -> Places
     requires { ⌜ w .count ≤ windowMost ⌝ }
     requires { ⌜ listed s (slotsIn w) ≡ true ⌝ }
-    ensures { λ r. ⌜ r ≡ arrayOf (without s (slotsIn w)) ⌝ }
+    ensures { λ r. ⌜ r ≡ record { slots = arrayOf (without s (slotsIn w)); callers = callerArray (beside s (slotsIn w) (take (w .count) callers)) } ⌝ }
 {
     let slots = w.slots;
     let last = (w.count as usize) - 1;
     let mut left = [Slot(0); WINDOW];
+    let mut named = [0u32; WINDOW];
     let mut gone: usize = 0;
     let mut i: usize = 0;
     while i < last {
@@ -82,20 +91,36 @@ fn slots_without(w: Window, s: Slot) -> [Slot; WINDOW]
         let k = i + gone;
         let kept = slots[k];
         left[i] = kept;
+        named[i] = callers[k];
         i += 1;
     }
-    left
+    Places {
+        slots: left,
+        callers: named,
+    }
 }
 
-// The window without one of its slots.
-pub fn leave(w: Window, s: Slot) -> Window
-    requires { ⌜ w .count ≤ windowMost ⌝ }
-    requires { ⌜ listed s (slotsIn w) ≡ true ⌝ }
-    ensures { λ r. ⌜ r ≡ windowFrom (without s (slotsIn w)) ⌝ }
+// 1 where a place is the import's.
+fn is_import(caller: u32) -> u32
+    ensures { λ r. ⌜ (r ≡ openBy importCaller (caller ∷ [])) × (r ≤ 1) ⌝ }
 {
-    let slots = slots_without(w, s);
-    Window {
-        slots,
-        count: w.count - 1,
+    if caller != IMPORT {
+        return 0;
     }
+    1
+}
+
+// How many of the first `count` places are the import's.
+pub fn open_by_import(callers: [u32; WINDOW], count: u32) -> u32
+    requires { ⌜ count ≤ windowMost ⌝ }
+    ensures { λ r. ⌜ r ≡ openBy importCaller (take count callers) ⌝ }
+{
+    let n = count as usize;
+    let mut counted: u32 = 0;
+    let mut i: usize = 0;
+    while i < n {
+        counted = counted + is_import(callers[i]);
+        i += 1;
+    }
+    counted
 }

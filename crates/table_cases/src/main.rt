@@ -142,6 +142,7 @@ fn judged(table: &[u32], hand: u32, block: u32) {
         table,
         full(hand),
         Block(block),
+        0,
     );
     let k = found.condition;
     print::named(b"hand ", hand);

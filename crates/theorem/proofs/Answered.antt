@@ -215,17 +215,17 @@ module _ (x : Box) (L : Legal x) (some-shut : allWriting (x .table) ≡ false) w
       size (m .2) (r .2)
 
   -- a slot is swept for: copied out, or announced
-  swept-answer : (P : Reply → Type 0) → ((s : Slot) → P (announced s)) → P copiedOut → (b : Block) (f : ℕ)
-      → P (perform (sweeps x b f) x .said)
+  swept-answer : (P : Reply → Type 0) → ((s : Slot) → P (announced s)) → P copiedOut → (b : Block) (by-caller f : ℕ)
+      → P (perform (sweeps x b by-caller f) x .said)
   unfolding perform confirmed
-  swept-answer P a c b f = go (sweep (labelIn (x .state)) (x .table) (x .state .hand)) refl
+  swept-answer P a c b by-caller f = go (sweep (labelIn (x .state)) (x .table) (x .state .hand)) refl
     where
       go : (o : Option Victim) → sweep (labelIn (x .state)) (x .table) (x .state .hand) ≡ o
-          → P (perform (takes (labelIn (x .state)) b f o) x .said)
+          → P (perform (takes (labelIn (x .state)) b by-caller f o) x .said)
       go none e = absurd (sweep-takes e)
       go (some v) e = by (dirty (rowFlags (v .table) (v .slot)))
         where
-          by : (d : Bool) → P (perform (takesAs d (labelIn (x .state)) b f v) x .said)
+          by : (d : Bool) → P (perform (takesAs d (labelIn (x .state)) b by-caller f v) x .said)
           by true = c
           by false = a (v .slot)
 
@@ -233,31 +233,31 @@ said-plan : (c : Call) (x : Box) → judged c x ≡ none → resultOf c x .said 
 unfolding effectOf
 said-plan c x e = ap (λ (o : Option Reason). decided o c x .said) e
 
-module _ (b : Block) (x : Box) where
-  offered : judged (offer b) x ≡ none → OfferAnswer (resultOf (offer b) x .said)
+module _ (b : Block) (c : ℕ) (x : Box) where
+  offered : judged (offer b c) x ≡ none → OfferAnswer (resultOf (offer b c) x .said)
   unfolding plan test perform confirmed
-  offered e = rw (said-plan (offer b) x e) (go (conditionOf (x .table) b) (passed (offer b) x e slotOpen refl) (passed (offer b) x e allOpen refl))
+  offered e = rw (said-plan (offer b c) x e) (go (conditionOf (x .table) b) (passed (offer b c) x e slotOpen refl) (passed (offer b c) x e allOpen refl))
     where
       go : (z : Condition) → isOpen z ≡ false → (not (isCached z) && allWriting (x .table)) ≡ false
-          → OfferAnswer (perform (offering x b z) x .said)
-      go NotCached o a = swept-answer x (service-legal (offer b) x refl e) a OfferAnswer says-announced says-copied b 7
+          → OfferAnswer (perform (offering x b c z) x .said)
+      go NotCached o a = swept-answer x (service-legal (offer b c) x refl e) a OfferAnswer says-announced says-copied b c 7
       go (Clean s) o a = says-announced s
       go (Dirty s) o a = says-overwrite
       go (Writing s) o a = clash {b = true} refl o
       go (Fetching s) o a = clash {b = true} refl o
 
-  fetched : judged (fetch b) x ≡ none → FetchAnswer (resultOf (fetch b) x .said)
+  fetched : judged (fetch b c) x ≡ none → FetchAnswer (resultOf (fetch b c) x .said)
   unfolding plan test perform confirmed
-  fetched e = rw (said-plan (fetch b) x e) (go (conditionOf (x .table) b) (passed (fetch b) x e hasSlot refl) (passed (fetch b) x e slotOpen refl)
-      (passed (fetch b) x e allOpen refl))
+  fetched e = rw (said-plan (fetch b c) x e) (go (conditionOf (x .table) b) (passed (fetch b c) x e hasSlot refl) (passed (fetch b c) x e slotOpen refl)
+      (passed (fetch b c) x e allOpen refl))
     where
       go : (z : Condition) → hasOther z ≡ false → isWriting z ≡ false → (not (isCached z) && allWriting (x .table)) ≡ false
-          → FetchAnswer (perform (fetching x b z) x .said)
-      go NotCached o w a = swept-answer x (service-legal (fetch b) x refl e) a FetchAnswer fetch-announced fetch-copied b 5
+          → FetchAnswer (perform (fetching x b c z) x .said)
+      go NotCached o w a = swept-answer x (service-legal (fetch b c) x refl e) a FetchAnswer fetch-announced fetch-copied b c 5
       go (Clean s) o w a = clash {b = true} refl o
       go (Dirty s) o w a = clash {b = true} refl o
       go (Writing s) o w a = clash {b = true} refl w
       go (Fetching s) o w a = clash {b = true} refl o
 
-pub answers : (b : Block) (x : Box) → Answers b x
-answers b x = record { of-offer = λ f. offered b x (none-of (offer b) x f); of-fetch = λ f. fetched b x (none-of (fetch b) x f) }
+pub answers : (b : Block) (c : ℕ) (x : Box) → Answers b c x
+answers b c x = record { of-offer = λ f. offered b c x (none-of (offer b c) x f); of-fetch = λ f. fetched b c x (none-of (fetch b c) x f) }

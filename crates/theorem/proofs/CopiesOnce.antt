@@ -46,53 +46,53 @@ other : {A : Type 0} {p : Reply} (n : ℕ) → number p ≡ n → n ≢ 103 → 
 unfolding number
 other n e d q = absurd (d (sym e ∙ ap number q))
 
-copying-out : (x : Box) (b : Block) (z : Condition) → perform (offering x b z) x .said ≡ copiedOut → CopyingOut x b (offering x b z)
+copying-out : (x : Box) (b : Block) (c : ℕ) (z : Condition) → perform (offering x b c z) x .said ≡ copiedOut → CopyingOut x b (offering x b c z)
 unfolding perform confirmed number
-copying-out x b NotCached e = go (sweep (labelIn (x .state)) (x .table) (x .state .hand)) refl e
+copying-out x b c NotCached e = go (sweep (labelIn (x .state)) (x .table) (x .state .hand)) refl e
   where
     go : (o : Option Victim) → sweep (labelIn (x .state)) (x .table) (x .state .hand) ≡ o
-        → perform (takes (labelIn (x .state)) b 7 o) x .said ≡ copiedOut → CopyingOut x b (takes (labelIn (x .state)) b 7 o)
+        → perform (takes (labelIn (x .state)) b c 7 o) x .said ≡ copiedOut → CopyingOut x b (takes (labelIn (x .state)) b c 7 o)
     go none q = λ e. other {p = nothingToDo} 106 refl (omega arith) e
     go (some v) q = by (dirty (rowFlags (v .table) (v .slot))) refl
       where
-        by : (t : Bool) → dirty (rowFlags (v .table) (v .slot)) ≡ t → perform (takesAs t (labelIn (x .state)) b 7 v) x .said ≡ copiedOut
-            → CopyingOut x b (takesAs t (labelIn (x .state)) b 7 v)
+        by : (t : Bool) → dirty (rowFlags (v .table) (v .slot)) ≡ t → perform (takesAs t (labelIn (x .state)) b c 7 v) x .said ≡ copiedOut
+            → CopyingOut x b (takesAs t (labelIn (x .state)) b c 7 v)
         by true d e = swept-dirty v q d
         by false d e = other {p = announced (v .slot)} 101 refl (omega arith) e
-copying-out x b (Clean s) e = other {p = announced s} 101 refl (omega arith) e
-copying-out x b (Dirty s) e = other {p = overwrite} 102 refl (omega arith) e
-copying-out x b (Writing s) e = other {p = nothingToDo} 106 refl (omega arith) e
-copying-out x b (Fetching s) e = other {p = nothingToDo} 106 refl (omega arith) e
+copying-out x b c (Clean s) e = other {p = announced s} 101 refl (omega arith) e
+copying-out x b c (Dirty s) e = other {p = overwrite} 102 refl (omega arith) e
+copying-out x b c (Writing s) e = other {p = nothingToDo} 106 refl (omega arith) e
+copying-out x b c (Fetching s) e = other {p = nothingToDo} 106 refl (omega arith) e
 
 -- an answer of "copied out" is no refusal
-none-copied : (b : Block) (x : Box) → resultOf (offer b) x .said ≡ copiedOut → judged (offer b) x ≡ none
+none-copied : (b : Block) (c : ℕ) (x : Box) → resultOf (offer b c) x .said ≡ copiedOut → judged (offer b c) x ≡ none
 unfolding effectOf isRefusal
-none-copied b x e = go (judged (offer b) x) refl
+none-copied b c x e = go (judged (offer b c) x) refl
   where
-    go : (o : Option Reason) → judged (offer b) x ≡ o → judged (offer b) x ≡ none
-    go (some r) q = clash {b = isRefusal (decided (judged (offer b) x) (offer b) x .said)} (rw q) (ap isRefusal e)
+    go : (o : Option Reason) → judged (offer b c) x ≡ o → judged (offer b c) x ≡ none
+    go (some r) q = clash {b = isRefusal (decided (judged (offer b c) x) (offer b c) x .said)} (rw q) (ap isRefusal e)
     go none q = q
 
-said-plan : (b : Block) (x : Box) → judged (offer b) x ≡ none → resultOf (offer b) x .said ≡ perform (plan (offer b) x) x .said
+said-plan : (b : Block) (c : ℕ) (x : Box) → judged (offer b c) x ≡ none → resultOf (offer b c) x .said ≡ perform (plan (offer b c) x) x .said
 unfolding effectOf
-said-plan b x e = ap (λ (o : Option Reason). decided o (offer b) x .said) e
+said-plan b c x e = ap (λ (o : Option Reason). decided o (offer b c) x .said) e
 
 -- the box that it leaves, and the sweep that took the slot
-record Left (x : Box) (b : Block) : Type 0 where
+record Left (x : Box) (b : Block) (c : ℕ) : Type 0 where
   victim : Victim
   took-it : sweep (labelIn (x .state)) (x .table) (x .state .hand) ≡ some victim
   was-dirty : dirty (rowFlags (victim .table) (victim .slot)) ≡ true
-  box-is : boxAfter (resultOf (offer b) x) ≡ boxAfter
+  box-is : boxAfter (resultOf (offer b c) x) ≡ boxAfter
       (left (perform (copies (victim .slot) copiedOut (victim .table) (victim .slot)) x) (x .images))
 
-left-by : (x : Box) (b : Block) → resultOf (offer b) x .said ≡ copiedOut → Left x b
+left-by : (x : Box) (b : Block) (c : ℕ) → resultOf (offer b c) x .said ≡ copiedOut → Left x b c
 unfolding effectOf plan
-left-by x b e =
-    let n = none-copied b x e in
-    go (copying-out x b (conditionOf (x .table) b) (sym (said-plan b x n) ∙ e))
-    (ap (λ (o : Option Reason). boxAfter (left (decided o (offer b) x) (x .images))) n)
+left-by x b c e =
+    let n = none-copied b c x e in
+    go (copying-out x b c (conditionOf (x .table) b) (sym (said-plan b c x n) ∙ e))
+    (ap (λ (o : Option Reason). boxAfter (left (decided o (offer b c) x) (x .images))) n)
   where
-    go : {m : Move} → CopyingOut x b m → boxAfter (resultOf (offer b) x) ≡ boxAfter (left (perform m x) (x .images)) → Left x b
+    go : {m : Move} → CopyingOut x b m → boxAfter (resultOf (offer b c) x) ≡ boxAfter (left (perform m x) (x .images)) → Left x b c
     go (swept-dirty v q d) h = record { victim = v; took-it = q; was-dirty = d; box-is = h }
 
 -- flags that a sweep took, without dirty
@@ -120,7 +120,7 @@ sweep-first l t s h w u =
 victim-of : {v w : Victim} → some v ≡ some w → v ≡ w
 victim-of e = cc
 
-module _ (b : Block) (x : Box) (L : Legal x) (v : Victim) (low : v .slot .0 < x .state .label .slots)
+module _ (b : Block) (c : ℕ) (x : Box) (L : Legal x) (v : Victim) (low : v .slot .0 < x .state .label .slots)
     (w : writing (rowFlags (v .table) (v .slot)) ≡ false) (u : used (rowFlags (v .table) (v .slot)) ≡ false)
     (A : Alike (labelIn (x .state)) (x .table) (v .table)) where
   x′ : Box
@@ -131,7 +131,7 @@ module _ (b : Block) (x : Box) (L : Legal x) (v : Victim) (low : v .slot .0 < x 
   flags-are = getD-set-same (v .table) (2 * v .slot .0 + 1) _ 0 (omega (arith, A .size))
 
   -- the next sweep takes the slot at once, and it is not dirty any more
-  not-again : Left x′ b → ⊥
+  not-again : Left x′ b c → ⊥
   unfolding x′ perform
   not-again G =
       let f = taken-flags (A .legal (v .slot .0) low .flags) w u in
@@ -141,19 +141,19 @@ module _ (b : Block) (x : Box) (L : Legal x) (v : Victim) (low : v .slot .0 < x 
       let q : G .victim ≡ record { slot = v .slot; table = t } = victim-of (sym (G .took-it) ∙ e) in
       clash (ap (λ (z : Victim). dirty (rowFlags (z .table) (z .slot))) (sym q) ∙ G .was-dirty) (ap dirty flags-are ∙ f .2)
 
-pub copies-once : (b : Block) (x : Box) → CopiesOnce b x
+pub copies-once : (b : Block) (c : ℕ) (x : Box) → CopiesOnce b c x
 unfolding x′
-copies-once b x e again =
-    let L = service-legal (offer b) x refl (none-copied b x e) in
-    go L (left-by x b e)
+copies-once b c x e again =
+    let L = service-legal (offer b c) x refl (none-copied b c x e) in
+    go L (left-by x b c e)
     (swept (2 * x .state .label .slots) (labelIn (x .state)) (x .table) (x .table)
     (alike-same (labelIn (x .state)) (x .table) (L .table-size) (L .rows)) (x .state .hand) (L .hand-low))
   where
-    go : Legal x → (F : Left x b) → Swept (labelIn (x .state)) (x .table) (sweep (labelIn (x .state)) (x .table) (x .state .hand)) → ⊥
+    go : Legal x → (F : Left x b c) → Swept (labelIn (x .state)) (x .table) (sweep (labelIn (x .state)) (x .table) (x .state .hand)) → ⊥
     go L F S = by (F .victim) (subst (λ (o : Option Victim). Swept (labelIn (x .state)) (x .table) o) (F .took-it) S) (F .box-is)
       where
         by : (v : Victim) → Swept (labelIn (x .state)) (x .table) (some v)
-            → boxAfter (resultOf (offer b) x) ≡ boxAfter (left (perform (copies (v .slot) copiedOut (v .table) (v .slot)) x) (x .images))
+            → boxAfter (resultOf (offer b c) x) ≡ boxAfter (left (perform (copies (v .slot) copiedOut (v .table) (v .slot)) x) (x .images))
             → ⊥
-        by v (took u low w un A) q = not-again b x L v low w un A
-            (left-by _ b (subst (λ (y : Box). resultOf (offer b) y .said ≡ copiedOut) q again))
+        by v (took u low w un A) q = not-again b c x L v low w un A
+            (left-by _ b c (subst (λ (y : Box). resultOf (offer b c) y .said ≡ copiedOut) q again))

@@ -1,11 +1,11 @@
 -- Demand 3, proved: from what a format's last step leaves, every event keeps the invariant, and the invariant is safe.
-use Prim.Native.Nat.{ℕ, _+_, _*_, _%_, _/_, _<_}
+use Prim.Native.Nat.{ℕ, _+_, _*_, _%_, _/_, _≤_, _<_}
 use mathlib.Core.Path.{_≡_, refl, sym, ap, subst, _∙_}
 use mathlib.Core.Bool.{Bool, true, false, cond}
 use mathlib.Core.List.{List, [], _∷_, List·Memᴰ·head}
 use native.Mathlib.Omega.{arith}
 use borrow.Author.Tests.{lt-ltb, le-ltb}
-use lib.ListN.{length, getD, replicate, length-replicate, List·getD-eq-default, getD-replicate}
+use lib.ListN.{length, getD, replicate, length-take, length-replicate, List·getD-eq-default, getD-replicate}
 use lib.Dec.{ltb}
 use native.Mathlib.Decide.{decLt}
 use Rattle.pages.specs.Pages.{pageAt}
@@ -14,6 +14,9 @@ use Rattle.layout.specs.declared.Label.{Label}
 use Rattle.layout.specs.Places.{labelOf, metaPages, tableLength}
 use Rattle.layout.specs.MetaPage.{encodeMeta, rowsOn, stampOf}
 use Rattle.record.specs.declared.Phase.the-variants.{Ready}
+use Rattle.record.specs.Record.{windowIn, callersIn}
+use Rattle.record.proofs.WindowLaws.{take-array}
+use Rattle.record.proofs.CallerLaws.{named-of}
 use Rattle.protocol.specs.Reply.{refused}
 use Rattle.protocol.specs.Rows.{valid}
 use Rattle.protocol.specs.Box.{Box}
@@ -23,12 +26,12 @@ use Rattle.protocol.specs.Calls.{resultOf}
 use Rattle.protocol.specs.ReferenceDisk.{durable}
 use Rattle.protocol.specs.Events.{World, Event, run, formatted, startOf, AllFit}
 use Rattle.protocol.specs.Demand3.{Safe, Demand3}
-use Rattle.protocol.specs.Beside.{UpdateBeforeData}
+use Rattle.protocol.specs.Beside.{UpdateBeforeData, Bounded, ImportBounded}
 use Rattle.layout.proofs.Booleans.{clash}
 use Rattle.protocol.proofs.model.Base.{Window, nil-window, has-nil}
 use Rattle.protocol.proofs.model.Model as model
 use Rattle.protocol.proofs.model.Model.{Row, Plain}
-use Rattle.protocol.proofs.refine.Windows.{nums}
+use Rattle.protocol.proofs.refine.Windows.{nums, length-nums}
 use Rattle.protocol.proofs.refine.Flags.{rowOf, f0}
 use Rattle.protocol.proofs.refine.Tables.{rowAt, Rows}
 use Rattle.protocol.proofs.refine.Metas.{metas-at, length-metas, newest-none}
@@ -38,7 +41,9 @@ use Rattle.theorem.proofs.Reachable.{run-inv}
 use Rattle.theorem.proofs.Claims.{views-of, reads-of, looks-of, allowed-of, taken-of, mends-of, flushes-of}
 use Rattle.theorem.proofs.Keeps.{keeps-of}
 use Rattle.theorem.proofs.UpdateFirst.{update-first}
-use Rattle.protocol.proofs.refine.Abstract.{Core, boxOfCore, entryRow, abs, Pages, Shape, is-ready, Inv}
+use Rattle.protocol.proofs.refine.Callers.{nobody-kept}
+use Rattle.theorem.proofs.refine.Passes.{pending-rule}
+use Rattle.protocol.proofs.refine.Abstract.{Core, phaseFor, boxOfCore, entryRow, abs, Pages, Shape, ready-sound, Phased, is-ready, is-mending, Inv}
 
 -- what is safe of every reachable world
 pub safe : (l : Label) (w : World) → Inv l w → Safe l w
@@ -84,6 +89,7 @@ module _ (l : Label) (x y : Box) (F : Formatted l x y) where
     recovering = false;
     unconfirmed = false;
     window = [];
+    callers = replicate 63 0;
   }
 
   none-open : Window (l .slots) (nums [])
@@ -137,6 +143,7 @@ module _ (l : Label) (x y : Box) (F : Formatted l x y) where
     table-size = free-size l;
     hand-ok = F .limits .some-slot;
     rows = free-rows l;
+    callers = nobody-kept false [];
   }
 
   stored-window-nil : abs l core .storedWindow ≡ []
@@ -201,3 +208,26 @@ demand3 slots blocks x f es g = safe (labelOf slots blocks) _ (reached slots blo
 -- Update before data.
 pub update-before-data : UpdateBeforeData
 update-before-data slots blocks x f es g = update-first (labelOf slots blocks) _ (reached slots blocks x f es g)
+
+-- The import's share of the window.
+core-bounded : (l : Label) (k : Core) → Shape l k → Window (l .slots) (nums (k .window)) → Bounded (boxOfCore l k .state)
+unfolding windowIn callersIn
+core-bounded l k S W =
+    let few : length (k .window) ≤ 63 = omega (arith, W .fits, length-nums (k .window)) in
+    let N = named-of (phaseFor (k .recovering)) (length (k .window)) (k .callers) (S .callers .rule) in
+    record {
+      import-few = S .callers .few;
+      all-few = rw (take-array (k .window)) few;
+      one-each =
+          rw (take-array (k .window)) (length-take (length (k .window)) (k .callers) ∙ omega (arith, N .size, few));
+    }
+
+window-kept : (l : Label) (k : Core) → Shape l k → (p : Plain) → Phased (abs l k) p → Window (l .slots) (nums (k .window))
+window-kept l k S p (is-ready R) = ready-sound l k S p R .rule
+window-kept l k S p (is-mending on M) = pending-rule l k S p M (unfold abs in on)
+
+pub import-bounded : ImportBounded
+import-bounded slots blocks x f es g =
+    let I = reached slots blocks x f es g in
+    subst (λ (y : Box). Bounded (y .state)) (sym (I .is-core))
+    (core-bounded (labelOf slots blocks) (I .core) (I .shape) (window-kept _ (I .core) (I .shape) (I .plain) (I .phased)))

@@ -6,7 +6,7 @@ use mathlib.Core.Bool.{Bool, true, false, not}
 use mathlib.Core.List.{List}
 use mathlib.Core.Option.{some, none}
 use native.Mathlib.Omega.{arith}
-use lib.ListN.{length, getD, set}
+use lib.ListN.{length, getD, set, take}
 use lib.Seq.{getD-set-other, set-comm}
 use borrow.Author.Tests.{not-false}
 use Rattle.pages.specs.Pages.{pageAt}
@@ -17,9 +17,11 @@ use Rattle.layout.specs.declared.Label.{Label}
 use Rattle.layout.specs.Places.{dataPlace, blockPlace}
 use Rattle.layout.proofs.Booleans.{clash, and-parts}
 use Rattle.record.specs.declared.Phase.the-variants.{Ready}
-use Rattle.record.specs.Record.{labelIn, windowIn, withWindow}
-use Rattle.record.specs.Window.{without}
-use Rattle.record.proofs.LeaveLaws.{without-comm}
+use Rattle.record.specs.Callers.{callerArray}
+use Rattle.record.specs.Record.{labelIn, windowIn, callersIn, withWindow, withCallers}
+use Rattle.record.specs.Window.{without, beside}
+use Rattle.record.proofs.LeaveLaws.{without-comm, length-beside, beside-comm}
+use Rattle.record.proofs.CallerLaws.{take-callers}
 use Rattle.record.proofs.RecordLaws.{window-in}
 use Rattle.protocol.specs.declared.Condition.{Condition}
 use Rattle.protocol.specs.declared.Condition.the-variants.{NotCached, Clean, Dirty, Writing, Fetching}
@@ -27,7 +29,7 @@ use Rattle.protocol.specs.Rows.{writing}
 use Rattle.protocol.specs.Box.{Box, Store, Effect, left, boxAfter}
 use Rattle.protocol.specs.Condition.{openAs, conditionOf, isOpen, takesWrite, takesFetch}
 use Rattle.protocol.specs.Plan.{land, landFetch, lands, landing, landingFetch, plan}
-use Rattle.protocol.specs.Perform.{landedFlags, dataStore, perform}
+use Rattle.protocol.specs.Perform.{landedFlags, landedState, dataStore, perform}
 use Rattle.protocol.specs.Kinds.{Purpose, toLandFetch, toLand, aims, aService, kind}
 use Rattle.protocol.specs.Judge.{wrongLength, blockTooHigh, wrongState, lengthTest, stateTest, test, judged}
 use Rattle.protocol.specs.Calls.{effectOf}
@@ -35,7 +37,7 @@ use Rattle.protocol.specs.Beside.{Landing, ofWrite, ofFetch, landingCall, landi
 use Rattle.protocol.proofs.refine.Flags.{changed-landed}
 use Rattle.protocol.proofs.refine.Conditions.{Held, Stands, is-writing, is-fetching, stands, condition-kept}
 use Rattle.protocol.proofs.Judged.{passed, accepted, does}
-use Rattle.protocol.proofs.Accepted.{Legal, service-legal, service-ready, legal-first}
+use Rattle.protocol.proofs.Accepted.{Legal, callers-size, service-legal, service-ready, legal-first}
 use Rattle.protocol.proofs.Closed.{closed, closed-is, closed-legal}
 use Rattle.protocol.proofs.why.Answers.{plan-answers}
 use Rattle.theorem.proofs.Reachable.{said-of}
@@ -166,8 +168,18 @@ module _ (c : Landing) (x : Box) (s : Slot) (G : Goes c x s) where
 
 -- two slots are closed in either order
 module _ (x : Box) (L : Legal x) (v w : Bool) (s t : Slot) (n : s .0 ≢ t .0) where
-  window-back : (u : Slot) → windowIn (withWindow (x .state) true (without u (windowIn (x .state)))) ≡ without u (windowIn (x .state))
-  window-back u = window-in (x .state .label) (x .state .hand) (x .state .newest) (x .state .phase) true (without u (windowIn (x .state)))
+  window-back : (u : Slot) → windowIn (landedState true u (x .state)) ≡ without u (windowIn (x .state))
+  window-back u =
+      window-in (x .state .label) (x .state .hand) (x .state .newest) (x .state .phase) true (without u (windowIn (x .state)))
+      (callerArray (beside u (windowIn (x .state)) (callersIn (x .state))))
+
+  callers-back : (u : Slot) → callersIn (landedState true u (x .state)) ≡ beside u (windowIn (x .state)) (callersIn (x .state))
+  unfolding callersIn
+  callers-back u =
+      let cs : List ℕ = beside u (windowIn (x .state)) (callersIn (x .state)) in
+      let k : length cs ≡ length (without u (windowIn (x .state))) =
+      length-beside u (windowIn (x .state)) (callersIn (x .state)) (callers-size x L) in
+      ap (λ (m : ℕ). take m (callerArray cs)) (sym k) ∙ take-callers cs
 
   flags-kept : (a b f : ℕ) → a ≢ b → getD (set (x .table) (2 * a + 1) f) (2 * b + 1) 0 ≡ getD (x .table) (2 * b + 1) 0
   flags-kept a b f m = getD-set-other (x .table) (2 * a + 1) (2 * b + 1) f 0 (λ e. m (omega arith))
@@ -184,10 +196,15 @@ module _ (x : Box) (L : Legal x) (v w : Bool) (s t : Slot) (n : s .0 ≢ t .0) w
       ∙ sym (ap (λ (h : ℕ). set (set (x .table) (2 * t .0 + 1) g) (2 * s .0 + 1) (landedFlags v h))
       (flags-kept (t .0) (s .0) g (λ e. n (sym e)))) in
       let window = ap (without t) (window-back s) ∙ without-comm t s (windowIn (x .state)) ∙ sym (ap (without s) (window-back t)) in
+      let callers : beside t (windowIn (landedState true s (x .state))) (callersIn (landedState true s (x .state)))
+      ≡ beside s (windowIn (landedState true t (x .state))) (callersIn (landedState true t (x .state))) =
+      (λ i. beside t (window-back s i) (callers-back s i)) ∙ beside-comm t s (windowIn (x .state)) (callersIn (x .state))
+      ∙ sym (λ i. beside s (window-back t i) (callers-back t i))
+      in
       (λ i. record {
         images = record { ssd = pages i; hdd = x .images .hdd };
         table = rows i;
-        state = withWindow (x .state) true (window i);
+        state = withCallers (withWindow (x .state) true (window i)) (callers i);
       })
 
 -- the two landings

@@ -165,17 +165,17 @@ module _ (x : Box) (L : Legal x) (on : x .state .phase ≡ Ready) where
   serving : Serving (x .state .phase)
   serving = rw on ready
 
-  joined-window : (s hand : Slot) → windowIn (joined s hand (x .state)) ≡ windowIn (x .state) ++ (s ∷ [])
+  joined-window : (s : Slot) (c : ℕ) (hand : Slot) → windowIn (joined s c hand (x .state)) ≡ windowIn (x .state) ++ (s ∷ [])
   unfolding windowIn
-  joined-window s hand = take-array (windowIn (x .state) ++ (s ∷ []))
+  joined-window s c hand = take-array (windowIn (x .state) ++ (s ∷ []))
 
-  opens-stores : {s : Slot} {b : Block} {f : ℕ} {v : List ℕ} {hand : Slot} → Opening x s b f v hand
-      → Stores lab (x .state .phase) (perform (opens s b f v hand) x)
+  opens-stores : {s : Slot} {b : Block} {c f : ℕ} {v : List ℕ} {hand : Slot} → Opening x s b c f v hand
+      → Stores lab (x .state .phase) (perform (opens s b c f v hand) x)
   unfolding perform
-  opens-stores {s} {b} {f} {v} {hand} O =
+  opens-stores {s} {b} {c} {f} {v} {hand} O =
       let T = opening-sound O S in
-      confirmed-stores lab (L .limits) (joined s hand (x .state)) refl (setRow v s b f) (T .size) (T .legal) (omega (arith, O .stamps))
-      (subst (λ (z : List Slot). Window (x .state .label .slots) (nums z)) (sym (joined-window s hand)) (T .rule))
+      confirmed-stores lab (L .limits) (joined s c hand (x .state)) refl (setRow v s b f) (T .size) (T .legal) (omega (arith, O .stamps))
+      (subst (λ (z : List Slot). Window (x .state .label .slots) (nums z)) (sym (joined-window s c hand)) (T .rule))
       (x .state .phase) serving (metaOf s) (announced s)
 
   does-stores : {a : Aim} {m : Move} → Does x a m → Stores lab (x .state .phase) (perform m x)

@@ -1,6 +1,7 @@
 -- The turn of an offer or a fetch: performed, it is what protocol's chain and plan say; and it can be performed.
-use Prim.Native.Nat.{ℕ, _<_}
-use mathlib.Core.Path.{_≡_, refl, sym, ap, _∙_}
+use Prim.Native.Nat.{ℕ, zero, suc, _<_}
+use mathlib.Core.Path.{_≡_, refl, sym, ap, subst, _∙_}
+use mathlib.Core.Logic.{_≢_}
 use mathlib.Core.Bool.{Bool, true, false, not, _&&_}
 use mathlib.Core.List.{List, [], _∷_}
 use native.Mathlib.Omega.{arith}
@@ -27,7 +28,7 @@ use Rattle.protocol.specs.Sweep.{nextSlot}
 use Rattle.protocol.specs.Kinds.{toWrite, toFetch}
 use Rattle.protocol.specs.Plan.{Call, Move, offer, fetch, stay, opens, copies, takesAs, takes, sweeps, offering, fetching, storesMeta, plan}
 use Rattle.protocol.specs.Perform.{perform}
-use Rattle.protocol.specs.Judge.{slotOpen, hasSlot, windowFull, allOpen, stampsSpent, opensAnother, rowTest, test, firstOf, judged}
+use Rattle.protocol.specs.Judge.{Reason, slotOpen, hasSlot, windowFull, allOpen, stampsSpent, importFull, opensAnother, importOpen, rowTest, test, firstOf, judged}
 use Rattle.protocol.specs.Calls.{effectOf, boxOf}
 use Rattle.protocol.proofs.refine.Flags.{legal-row}
 use Rattle.protocol.proofs.refine.Tables.{Rows, each-get}
@@ -39,7 +40,7 @@ use Rattle.turns.specs.declared.turn.Turn.{Turn}
 use Rattle.turns.specs.declared.turn.Turn.the-variants.{Refused, Passes, Opens, CopiesOut}
 use Rattle.judging.specs.declared.Judged.{Judged}
 use Rattle.judging.specs.Judging.{servesThen}
-use Rattle.turns.specs.Turns.{Seen, Within, isPass, ifRoom, takeTurn, sweepTurn, cleanTurn, offerTurn, fetchTurn, Performable, spent, tableAfter, turned}
+use Rattle.turns.specs.Turns.{Seen, Within, isPass, crowdOf, ifRoom, takeTurn, sweepTurn, cleanTurn, offerTurn, fetchTurn, Performable, spent, tableAfter, turned}
 use Rattle.protocol.proofs.Judged.{refuses, does, first-yes, first-no}
 use Rattle.judging.proofs.ServeLaws.{end, judged-on, offer-judges, fetch-judges}
 use Rattle.judging.proofs.ReadyLaws.{ReadyBox, serves, open-count}
@@ -74,100 +75,138 @@ pass-is (Opens s flags passed hand) e = clash e refl
 pass-is (CopiesOut s passed) e = clash e refl
 
 -- what judging found is what a turn is decided on
-pub seen : (ssd hdd : List ℕ) (page : ℕ) (t : List ℕ) (r : Record) (b : Block) (j : Judged) → Served ssd hdd page t r b j
+pub seen : (ssd hdd : List ℕ) (page : ℕ) (t : List ℕ) (r : Record) (b : Block) (caller : ℕ) (j : Judged) → Served ssd hdd page t r b caller j
     → Seen t r (j .writing)
-seen ssd hdd page t r b j S = let B = S .box .box in
+seen ssd hdd page t r b caller j S = let B = S .box .box in
     record { size = B .sound .table-size; record-kept = B .record-kept; rows = B .rows; counted = S .writing-is }
 
--- 11, or there is room
-module _ (t : List ℕ) (T : Turn) where
-  pub turn-full : leb 63 (openRows t) ≡ true → Refused 11 ≡ ifRoom t T
-  turn-full a = rw (a, ifRoom)
+-- refused by a number, or there is room
+pub turn-full : (n : ℕ) (T : Turn) → n ≢ 0 → Refused n ≡ ifRoom n T
+turn-full zero T h = absurd (h refl)
+turn-full (suc n) T h = refl
 
-  pub turn-room : leb 63 (openRows t) ≡ false → T ≡ ifRoom t T
-  turn-room a = rw (a, ifRoom)
+pub turn-room : (n : ℕ) (T : Turn) → n ≡ 0 → T ≡ ifRoom n T
+turn-room zero T h = refl
+turn-room (suc n) T h = absurd (omega arith)
+
+-- 17, 11, or neither
+module _ (t : List ℕ) (r : Record) (caller : ℕ) where
+  pub crowd-import : importOpen caller r ≡ true → 17 ≡ crowdOf t r caller
+  crowd-import a = rw (a, crowdOf)
+
+  pub crowd-full : importOpen caller r ≡ false → leb 63 (openRows t) ≡ true → 11 ≡ crowdOf t r caller
+  crowd-full a f = rw (a, f, crowdOf)
+
+  pub crowd-none : importOpen caller r ≡ false → leb 63 (openRows t) ≡ false → 0 ≡ crowdOf t r caller
+  crowd-none a f = rw (a, f, crowdOf)
 
 -- 13, or a slot is opened
-module _ (s : Slot) (flags passed : ℕ) (hand : Slot) (b : Block) (x : Box) where
-  pub turn-spent : spent (x .state .newest) ≡ true → refusing 13 x ≡ turned (Opens s flags passed hand) b x
+module _ (s : Slot) (flags passed : ℕ) (hand : Slot) (b : Block) (caller : ℕ) (x : Box) where
+  pub turn-spent : spent (x .state .newest) ≡ true → refusing 13 x ≡ turned (Opens s flags passed hand) b caller x
   turn-spent n = rw (n, turned)
 
   pub turn-opens : spent (x .state .newest) ≡ false
-      → perform (opens s b flags (tableAfter passed x) hand) x ≡ turned (Opens s flags passed hand) b x
+      → perform (opens s b caller flags (tableAfter passed x) hand) x ≡ turned (Opens s flags passed hand) b caller x
   turn-opens n = rw (n, turned)
 
 -- 13 alone is left to ask of a call: it opens a slot, or it copies one out
-module _ (c : Call) (x : Box) (b : Block) (passed : ℕ)
+module _ (c : Call) (x : Box) (b : Block) (caller passed : ℕ)
     (j : judged c x ≡ firstOf (stampsSpent ∷ []) (λ q. test q c x))
     (e : test stampsSpent c x ≡ (storesMeta (plan c x) && spent (x .state .newest))) where
-  opening : (s : Slot) (flags : ℕ) (hand : Slot) → plan c x ≡ opens s b flags (tableAfter passed x) hand
-      → effectOf c x ≡ turned (Opens s flags passed hand) b x
+  opening : (s : Slot) (flags : ℕ) (hand : Slot) → plan c x ≡ opens s b caller flags (tableAfter passed x) hand
+      → effectOf c x ≡ turned (Opens s flags passed hand) b caller x
   opening s flags hand p = go (told (spent (x .state .newest)))
     where
       asks : test stampsSpent c x ≡ spent (x .state .newest)
       asks = e ∙ ap (λ (m : Move). storesMeta m && spent (x .state .newest)) p
 
-      go : Told (spent (x .state .newest)) → effectOf c x ≡ turned (Opens s flags passed hand) b x
-      go (told-true n) = refuses c x stampsSpent (j ∙ first-yes _ stampsSpent [] (asks ∙ n)) ∙ turn-spent s flags passed hand b x n
-      go (told-false n) = does c x _ (j ∙ first-no _ stampsSpent [] (asks ∙ n) ∙ end _) p ∙ turn-opens s flags passed hand b x n
+      go : Told (spent (x .state .newest)) → effectOf c x ≡ turned (Opens s flags passed hand) b caller x
+      go (told-true n) = refuses c x stampsSpent (j ∙ first-yes _ stampsSpent [] (asks ∙ n)) ∙ turn-spent s flags passed hand b caller x n
+      go (told-false n) = does c x _ (j ∙ first-no _ stampsSpent [] (asks ∙ n) ∙ end _) p ∙ turn-opens s flags passed hand b caller x n
 
-  copying : (s : Slot) → plan c x ≡ copies s copiedOut (tableAfter passed x) s → effectOf c x ≡ turned (CopiesOut s passed) b x
+  copying : (s : Slot) → plan c x ≡ copies s copiedOut (tableAfter passed x) s → effectOf c x ≡ turned (CopiesOut s passed) b caller x
   copying s p = does c x _
       (j ∙ first-no _ stampsSpent [] (e ∙ ap (λ (m : Move). storesMeta m && spent (x .state .newest)) p) ∙ end _) p
 
--- a call that sweeps for a slot: 11, 12 and 13 are left to ask of it
-module _ (c : Call) (x : Box) (b : Block) (flags : ℕ) (size : length (x .table) ≡ tableLength (labelIn (x .state)))
+-- a call that opens another slot: 17 or 11 refuses it, whatever its turn would be, or there is room and the rest is asked
+data Crowd (c : Call) (x : Box) (b : Block) (caller : ℕ) (more : List Reason) : Type 0 where
+  crowded : ((T : Turn) → effectOf c x ≡ turned (ifRoom (crowdOf (x .table) (x .state) caller) T) b caller x) → Crowd c x b caller more
+  roomy : ((T : Turn) → turned T b caller x ≡ turned (ifRoom (crowdOf (x .table) (x .state) caller) T) b caller x)
+      → judged c x ≡ firstOf more (λ q. test q c x) → Crowd c x b caller more
+
+module _ (c : Call) (x : Box) (b : Block) (caller : ℕ) (more : List Reason)
+    (j : judged c x ≡ firstOf (importFull ∷ windowFull ∷ more) (λ q. test q c x))
+    (e17 : test importFull c x ≡ importOpen caller (x .state)) (e11 : test windowFull c x ≡ leb 63 (openRows (x .table))) where
+  crowd : Crowd c x b caller more
+  crowd = go (told (importOpen caller (x .state))) (told (leb 63 (openRows (x .table))))
+    where
+      by : (n : ℕ) → n ≢ 0 → n ≡ crowdOf (x .table) (x .state) caller → (T : Turn)
+          → refusing n x ≡ turned (ifRoom (crowdOf (x .table) (x .state) caller) T) b caller x
+      by n z e T = ap (λ (U : Turn). turned U b caller x) (turn-full n T z) ∙ ap (λ (m : ℕ). turned (ifRoom m T) b caller x) e
+
+      go : Told (importOpen caller (x .state)) → Told (leb 63 (openRows (x .table))) → Crowd c x b caller more
+      go (told-true a) f = crowded λ T.
+          refuses c x importFull (j ∙ first-yes _ importFull _ (e17 ∙ a))
+          ∙ by 17 (λ z. omega arith) (crowd-import (x .table) (x .state) caller a) T
+      go (told-false a) (told-true f) = crowded λ T.
+          refuses c x windowFull (j ∙ first-no _ importFull _ (e17 ∙ a) ∙ first-yes _ windowFull _ (e11 ∙ f))
+          ∙ by 11 (λ z. omega arith) (crowd-full (x .table) (x .state) caller a f) T
+      go (told-false a) (told-false f) = roomy
+          (λ T. ap (λ (m : ℕ). turned (ifRoom m T) b caller x) (crowd-none (x .table) (x .state) caller a f))
+          (j ∙ first-no _ importFull _ (e17 ∙ a) ∙ first-no _ windowFull _ (e11 ∙ f))
+
+-- a call that sweeps for a slot: 17, 11, 12 and 13 are left to ask of it
+module _ (c : Call) (x : Box) (b : Block) (caller flags : ℕ) (size : length (x .table) ≡ tableLength (labelIn (x .state)))
     (R : Rows (labelIn (x .state)) (x .table)) (low : x .state .hand .0 < x .state .label .slots)
-    (j : judged c x ≡ firstOf (windowFull ∷ allOpen ∷ stampsSpent ∷ []) (λ q. test q c x))
+    (j : judged c x ≡ firstOf (importFull ∷ windowFull ∷ allOpen ∷ stampsSpent ∷ []) (λ q. test q c x))
+    (e17 : test importFull c x ≡ importOpen caller (x .state))
     (e11 : test windowFull c x ≡ leb 63 (openRows (x .table))) (e12 : test allOpen c x ≡ allWriting (x .table))
-    (e13 : test stampsSpent c x ≡ (storesMeta (plan c x) && spent (x .state .newest))) (p : plan c x ≡ sweeps x b flags) where
+    (e13 : test stampsSpent c x ≡ (storesMeta (plan c x) && spent (x .state .newest))) (p : plan c x ≡ sweeps x b caller flags) where
   abbrev l : Label
   l = labelIn (x .state)
 
-  sweeping : effectOf c x ≡ turned (sweepTurn (x .table) (x .state) flags) b x
-  sweeping = go (told (leb 63 (openRows (x .table)))) (sweptOf l (x .table) (x .state .hand)) refl
+  sweeping : effectOf c x ≡ turned (sweepTurn (x .table) (x .state) caller flags) b caller x
+  sweeping = go (crowd c x b caller (allOpen ∷ stampsSpent ∷ []) j e17 e11) (sweptOf l (x .table) (x .state .hand)) refl
     where
-      turn-is : leb 63 (openRows (x .table)) ≡ false → (w : Swept) → sweptOf l (x .table) (x .state .hand) ≡ w
-          → turned (takeTurn l (x .table) flags w) b x ≡ turned (sweepTurn (x .table) (x .state) flags) b x
-      turn-is a w f = ap (λ (T : Turn). turned T b x) (ap (takeTurn l (x .table) flags) (sym f) ∙ turn-room (x .table) _ a)
-
       took : (s : Slot) (k : ℕ) → Told (dirty (rowFlags (x .table) s)) → sweptOf l (x .table) (x .state .hand) ≡ Took s k
           → judged c x ≡ firstOf (stampsSpent ∷ []) (λ q. test q c x)
-          → effectOf c x ≡ turned (takeTurn l (x .table) flags (Took s k)) b x
+          → effectOf c x ≡ turned (takeTurn l (x .table) flags (Took s k)) b caller x
       took s k d f n =
-          go d (p ∙ ap (takes l b flags) (swept-is l (x .table) (x .state .hand) s k size R low (sym f))
-          ∙ ap (λ (d : Bool). takesAs d l b flags (record { slot = s; table = tableAfter k x })) dirty-is)
+          go d (p ∙ ap (takes l b caller flags) (swept-is l (x .table) (x .state .hand) s k size R low (sym f))
+          ∙ ap (λ (d : Bool). takesAs d l b caller flags (record { slot = s; table = tableAfter k x })) dirty-is)
         where
           dirty-is : dirty (rowFlags (tableAfter k x) s) ≡ dirty (rowFlags (x .table) s)
           dirty-is = passed-is k l (x .table) (x .state .hand) size R low .dirty-is s
               (took-is l (x .table) (x .state .hand) s k size R low (sym f) .low)
 
           go : Told (dirty (rowFlags (x .table) s))
-              → plan c x ≡ takesAs (dirty (rowFlags (x .table) s)) l b flags (record { slot = s; table = tableAfter k x })
-              → effectOf c x ≡ turned (takeTurn l (x .table) flags (Took s k)) b x
-          go (told-true d) q = copying c x b k n e13 s (q ∙ rw (d, takesAs)) ∙ rw (d, takeTurn, turned)
-          go (told-false d) q = opening c x b k n e13 s flags (nextSlot l s) (q ∙ rw (d, takesAs)) ∙ rw (d, takeTurn, turned)
+              → plan c x ≡ takesAs (dirty (rowFlags (x .table) s)) l b caller flags (record { slot = s; table = tableAfter k x })
+              → effectOf c x ≡ turned (takeTurn l (x .table) flags (Took s k)) b caller x
+          go (told-true d) q = copying c x b caller k n e13 s (q ∙ rw (d, takesAs)) ∙ rw (d, takeTurn, turned)
+          go (told-false d) q = opening c x b caller k n e13 s flags (nextSlot l s) (q ∙ rw (d, takesAs)) ∙ rw (d, takeTurn, turned)
 
-      go : Told (leb 63 (openRows (x .table))) → (w : Swept) → sweptOf l (x .table) (x .state .hand) ≡ w
-          → effectOf c x ≡ turned (sweepTurn (x .table) (x .state) flags) b x
-      go (told-true a) w f = refuses c x windowFull (j ∙ first-yes _ windowFull _ (e11 ∙ a)) ∙ ap (λ (T : Turn). turned T b x) (turn-full (x .table) _ a)
-      go (told-false a) Stuck f =
-          refuses c x allOpen (j ∙ first-no _ windowFull _ (e11 ∙ a)
-          ∙ first-yes _ allOpen _ (e12 ∙ stuck-all l (x .table) (x .state .hand) size low f))
-          ∙ turn-is a Stuck f
-      go (told-false a) (Took s k) f =
+      swept : (w : Swept) → sweptOf l (x .table) (x .state .hand) ≡ w → judged c x ≡ firstOf (allOpen ∷ stampsSpent ∷ []) (λ q. test q c x)
+          → effectOf c x ≡ turned (takeTurn l (x .table) flags w) b caller x
+      swept Stuck f n =
+          refuses c x allOpen (n ∙ first-yes _ allOpen _ (e12 ∙ stuck-all l (x .table) (x .state .hand) size low f))
+      swept (Took s k) f n =
           took s k (told (dirty (rowFlags (x .table) s))) f
-          (j ∙ first-no _ windowFull _ (e11 ∙ a)
-          ∙ first-no _ allOpen _ (e12 ∙ not-all l (x .table) (x .state .hand) s k size R low (sym f)))
-          ∙ turn-is a (Took s k) f
+          (n ∙ first-no _ allOpen _ (e12 ∙ not-all l (x .table) (x .state .hand) s k size R low (sym f)))
 
--- where 3 to 7 are passed, an offer or a fetch is its turn
-module _ (ssd hdd t : List ℕ) (r : Record) (b : Block) (z : servesThen (length ssd) (length hdd) 4096 t r b 0 ≡ 0) where
+      go : Crowd c x b caller (allOpen ∷ stampsSpent ∷ []) → (w : Swept) → sweptOf l (x .table) (x .state .hand) ≡ w
+          → effectOf c x ≡ turned (sweepTurn (x .table) (x .state) caller flags) b caller x
+      go (crowded f) w q = f _
+      go (roomy f n) w q =
+          swept w q n ∙ ap (λ (v : Swept). turned (takeTurn l (x .table) flags v) b caller x) (sym q) ∙ f _
+
+-- where 3 to 7 and 18 are passed, an offer or a fetch is its turn
+module _ (ssd hdd t : List ℕ) (r : Record) (b : Block) (caller : ℕ)
+    (z : servesThen (length ssd) (length hdd) 4096 t r b caller 0 ≡ 0) where
   abbrev x : Box
   x = boxOf ssd hdd t r
 
   B : ReadyBox ssd hdd 4096 t r
-  B = serves ssd hdd 4096 t r b z .0
+  B = serves ssd hdd 4096 t r b caller z .0
 
   abbrev size : length t ≡ tableLength (labelIn r)
   size = B .box .sound .table-size
@@ -178,70 +217,75 @@ module _ (ssd hdd t : List ℕ) (r : Record) (b : Block) (z : servesThen (length
   low : r .hand .0 < r .label .slots
   low = hand-low r (B .box .record-kept)
 
-  pub offer-turned : effectOf (offer b) x ≡ turned (offerTurn t r (conditionOf t b)) b x
+  pub offer-turned : effectOf (offer b caller) x ≡ turned (offerTurn t r caller (conditionOf t b)) b caller x
   unfolding test plan clearedFrom
   offer-turned = go (conditionOf t b) refl
     where
-      asked : judged (offer b) x ≡ firstOf (slotOpen ∷ windowFull ∷ allOpen ∷ stampsSpent ∷ []) (λ q. test q (offer b) x)
-      asked = judged-on (offer b) x _ _ (offer-judges ssd hdd t r b) z
+      asked : judged (offer b caller) x ≡ firstOf (slotOpen ∷ importFull ∷ windowFull ∷ allOpen ∷ stampsSpent ∷ []) (λ q. test q (offer b caller) x)
+      asked = judged-on (offer b caller) x _ _ (offer-judges ssd hdd t r b caller) z
 
-      go : (k : Condition) → conditionOf t b ≡ k → effectOf (offer b) x ≡ turned (offerTurn t r k) b x
-      go NotCached e = sweeping (offer b) x b 7 size R low (asked ∙ first-no _ slotOpen _ (ap isOpen e))
+      go : (k : Condition) → conditionOf t b ≡ k → effectOf (offer b caller) x ≡ turned (offerTurn t r caller k) b caller x
+      go NotCached e = sweeping (offer b caller) x b caller 7 size R low (asked ∙ first-no _ slotOpen _ (ap isOpen e))
+          (ap (λ (k : Condition). opensAnother toWrite k && importOpen caller r) e)
           (ap (λ (k : Condition). opensAnother toWrite k && leb 63 (openRows t)) e)
-          (ap (λ (k : Condition). not (isCached k) && allWriting t) e) refl (ap (offering x b) e)
-      go (Clean s) e = clean (told (leb 63 (openRows t)))
+          (ap (λ (k : Condition). not (isCached k) && allWriting t) e) refl (ap (offering x b caller) e)
+      go (Clean s) e = clean (crowd (offer b caller) x b caller (allOpen ∷ stampsSpent ∷ []) (asked ∙ first-no _ slotOpen _ (ap isOpen e))
+          (ap (λ (k : Condition). opensAnother toWrite k && importOpen caller r) e)
+          (ap (λ (k : Condition). opensAnother toWrite k && leb 63 (openRows t)) e))
         where
-          shut : judged (offer b) x ≡ firstOf (windowFull ∷ allOpen ∷ stampsSpent ∷ []) (λ q. test q (offer b) x)
-          shut = asked ∙ first-no _ slotOpen _ (ap isOpen e)
-
-          full : test windowFull (offer b) x ≡ leb 63 (openRows t)
-          full = ap (λ (k : Condition). opensAnother toWrite k && leb 63 (openRows t)) e
-
-          clean : Told (leb 63 (openRows t)) → effectOf (offer b) x ≡ turned (cleanTurn t r s) b x
-          clean (told-true a) = refuses (offer b) x windowFull (shut ∙ first-yes _ windowFull _ (full ∙ a)) ∙ ap (λ (T : Turn). turned T b x) (turn-full t _ a)
-          clean (told-false a) =
-              opening (offer b) x b 0
-              (shut ∙ first-no _ windowFull _ (full ∙ a) ∙ first-no _ allOpen _ (ap (λ (k : Condition). not (isCached k) && allWriting t) e))
-              refl s (withWriting (rowFlags t s)) (r .hand) (ap (offering x b) e)
-              ∙ ap (λ (T : Turn). turned T b x) (turn-room t _ a)
-      go (Dirty s) e = does (offer b) x (stay overwrite)
+          clean : Crowd (offer b caller) x b caller (allOpen ∷ stampsSpent ∷ [])
+              → effectOf (offer b caller) x ≡ turned (cleanTurn t r caller s) b caller x
+          clean (crowded f) = f _
+          clean (roomy f n) =
+              opening (offer b caller) x b caller 0 (n ∙ first-no _ allOpen _ (ap (λ (k : Condition). not (isCached k) && allWriting t) e))
+              refl s (withWriting (rowFlags t s)) (r .hand) (ap (offering x b caller) e)
+              ∙ f _
+      go (Dirty s) e = does (offer b caller) x (stay overwrite)
           (asked ∙ first-no _ slotOpen _ (ap isOpen e)
+          ∙ first-no _ importFull _ (ap (λ (k : Condition). opensAnother toWrite k && importOpen caller r) e)
           ∙ first-no _ windowFull _ (ap (λ (k : Condition). opensAnother toWrite k && leb 63 (openRows t)) e)
           ∙ first-no _ allOpen _ (ap (λ (k : Condition). not (isCached k) && allWriting t) e)
-          ∙ first-no _ stampsSpent _ (ap (λ (k : Condition). storesMeta (offering x b k) && spent (r .newest)) e) ∙ end _)
-          (ap (offering x b) e)
-      go (Writing s) e = refuses (offer b) x slotOpen (asked ∙ first-yes _ slotOpen _ (ap isOpen e))
-      go (Fetching s) e = refuses (offer b) x slotOpen (asked ∙ first-yes _ slotOpen _ (ap isOpen e))
+          ∙ first-no _ stampsSpent _ (ap (λ (k : Condition). storesMeta (offering x b caller k) && spent (r .newest)) e) ∙ end _)
+          (ap (offering x b caller) e)
+      go (Writing s) e = refuses (offer b caller) x slotOpen (asked ∙ first-yes _ slotOpen _ (ap isOpen e))
+      go (Fetching s) e = refuses (offer b caller) x slotOpen (asked ∙ first-yes _ slotOpen _ (ap isOpen e))
 
-  pub fetch-turned : effectOf (fetch b) x ≡ turned (fetchTurn t r (conditionOf t b)) b x
+  pub fetch-turned : effectOf (fetch b caller) x ≡ turned (fetchTurn t r caller (conditionOf t b)) b caller x
   unfolding test plan
   fetch-turned = go (conditionOf t b) refl
     where
-      asked : judged (fetch b) x ≡ firstOf (hasSlot ∷ slotOpen ∷ windowFull ∷ allOpen ∷ stampsSpent ∷ []) (λ q. test q (fetch b) x)
-      asked = judged-on (fetch b) x _ _ (fetch-judges ssd hdd t r b) z
+      asked : judged (fetch b caller) x
+          ≡ firstOf (hasSlot ∷ slotOpen ∷ importFull ∷ windowFull ∷ allOpen ∷ stampsSpent ∷ []) (λ q. test q (fetch b caller) x)
+      asked = judged-on (fetch b caller) x _ _ (fetch-judges ssd hdd t r b caller) z
 
-      go : (k : Condition) → conditionOf t b ≡ k → effectOf (fetch b) x ≡ turned (fetchTurn t r k) b x
-      go NotCached e = sweeping (fetch b) x b 5 size R low
+      go : (k : Condition) → conditionOf t b ≡ k → effectOf (fetch b caller) x ≡ turned (fetchTurn t r caller k) b caller x
+      go NotCached e = sweeping (fetch b caller) x b caller 5 size R low
           (asked ∙ first-no _ hasSlot _ (ap hasOther e) ∙ first-no _ slotOpen _ (ap isWriting e))
+          (ap (λ (k : Condition). opensAnother toFetch k && importOpen caller r) e)
           (ap (λ (k : Condition). opensAnother toFetch k && leb 63 (openRows t)) e)
-          (ap (λ (k : Condition). not (isCached k) && allWriting t) e) refl (ap (fetching x b) e)
-      go (Clean s) e = refuses (fetch b) x hasSlot (asked ∙ first-yes _ hasSlot _ (ap hasOther e))
-      go (Dirty s) e = refuses (fetch b) x hasSlot (asked ∙ first-yes _ hasSlot _ (ap hasOther e))
-      go (Writing s) e = refuses (fetch b) x slotOpen (asked ∙ first-no _ hasSlot _ (ap hasOther e) ∙ first-yes _ slotOpen _ (ap isWriting e))
-      go (Fetching s) e = refuses (fetch b) x hasSlot (asked ∙ first-yes _ hasSlot _ (ap hasOther e))
+          (ap (λ (k : Condition). not (isCached k) && allWriting t) e) refl (ap (fetching x b caller) e)
+      go (Clean s) e = refuses (fetch b caller) x hasSlot (asked ∙ first-yes _ hasSlot _ (ap hasOther e))
+      go (Dirty s) e = refuses (fetch b caller) x hasSlot (asked ∙ first-yes _ hasSlot _ (ap hasOther e))
+      go (Writing s) e =
+          refuses (fetch b caller) x slotOpen (asked ∙ first-no _ hasSlot _ (ap hasOther e) ∙ first-yes _ slotOpen _ (ap isWriting e))
+      go (Fetching s) e = refuses (fetch b caller) x hasSlot (asked ∙ first-yes _ hasSlot _ (ap hasOther e))
 
   -- and it can be performed
-  room : (T : Turn) → (leb 63 (openRows t) ≡ false → Performable T t r) → Performable (ifRoom t T) t r
-  room T f = go (told (leb 63 (openRows t)))
+  room : (T : Turn) → (leb 63 (openRows t) ≡ false → Performable T t r) → Performable (ifRoom (crowdOf t r caller) T) t r
+  room T f = go (told (importOpen caller r)) (told (leb 63 (openRows t)))
     where
-      go : Told (leb 63 (openRows t)) → Performable (ifRoom t T) t r
-      go (told-true a) = rw (ifRoom, a) tt
-      go (told-false a) = rw (ifRoom, a) (f a)
+      at : (n : ℕ) → n ≡ crowdOf t r caller → Performable (ifRoom n T) t r → Performable (ifRoom (crowdOf t r caller) T) t r
+      at n e p = subst (λ (m : ℕ). Performable (ifRoom m T) t r) e p
+
+      go : Told (importOpen caller r) → Told (leb 63 (openRows t)) → Performable (ifRoom (crowdOf t r caller) T) t r
+      go (told-true a) k = at 17 (crowd-import t r caller a) tt
+      go (told-false a) (told-true k) = at 11 (crowd-full t r caller a k) tt
+      go (told-false a) (told-false k) = at 0 (crowd-none t r caller a k) (f k)
 
   few : leb 63 (openRows t) ≡ false → r .count < 63
   few a = rw (open-count ssd hdd 4096 t r B) (leb-false 63 (openRows t) a)
 
-  sweep-performs : (flags : ℕ) → Performable (sweepTurn t r flags) t r
+  sweep-performs : (flags : ℕ) → Performable (sweepTurn t r caller flags) t r
   sweep-performs flags = room _ (λ a. take (few a) (sweptOf (labelIn r) t (r .hand)) refl)
     where
       took : (s : Slot) (k : ℕ) → r .count < 63 → s .0 < r .label .slots → Told (dirty (rowFlags t s))
@@ -253,14 +297,14 @@ module _ (ssd hdd t : List ℕ) (r : Record) (b : Block) (z : servesThen (length
       take c Stuck e = tt
       take c (Took s k) e = took s k c (took-is (labelIn r) t (r .hand) s k size R low (sym e) .low) (told (dirty (rowFlags t s)))
 
-  pub offer-performs : (k : Condition) → Within (r .label .slots) k → Performable (offerTurn t r k) t r
+  pub offer-performs : (k : Condition) → Within (r .label .slots) k → Performable (offerTurn t r caller k) t r
   offer-performs NotCached w = sweep-performs 7
   offer-performs (Clean s) w = room _ (λ a. (w, few a))
   offer-performs (Dirty s) w = tt
   offer-performs (Writing s) w = tt
   offer-performs (Fetching s) w = tt
 
-  pub fetch-performs : (k : Condition) → Performable (fetchTurn t r k) t r
+  pub fetch-performs : (k : Condition) → Performable (fetchTurn t r caller k) t r
   fetch-performs NotCached = sweep-performs 5
   fetch-performs (Clean s) = tt
   fetch-performs (Dirty s) = tt

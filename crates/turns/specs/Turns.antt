@@ -1,5 +1,5 @@
 -- The turn of an offer or a fetch that 3 to 7 do not refuse: decided with nothing changed, 13 apart; and what it leaves, performed.
-use Prim.Native.Nat.{ℕ, _-_, _<_}
+use Prim.Native.Nat.{ℕ, zero, suc, _-_, _<_}
 use mathlib.Core.Path.{_≡_}
 use mathlib.Core.Bool.{Bool, true, false}
 use mathlib.Core.List.{List}
@@ -21,7 +21,7 @@ use Rattle.protocol.specs.Box.{Box, Effect, refusing}
 use Rattle.protocol.specs.Sweep.{nextSlot}
 use Rattle.protocol.specs.Plan.{stay, opens, copies}
 use Rattle.protocol.specs.Perform.{perform}
-use Rattle.protocol.specs.Judge.{slotOpen, hasSlot, windowFull, allOpen, stampsSpent, numberOf}
+use Rattle.protocol.specs.Judge.{slotOpen, hasSlot, windowFull, allOpen, stampsSpent, importFull, numberOf, importOpen}
 use Rattle.sweeping.specs.declared.Swept.{Swept}
 use Rattle.sweeping.specs.declared.Swept.the-variants.{Took, Stuck}
 use Rattle.table.specs.Scan.{legalRows}
@@ -44,9 +44,19 @@ Within n (Dirty s) = s .0 < n
 Within n (Writing s) = s .0 < n
 Within n (Fetching s) = s .0 < n
 
--- 11, "while 63 are open", or the turn
-abbrev pub ifRoom : List ℕ → Turn → Turn
-ifRoom table t = elim (leb windowMost (openRows table)) [ true ↦ Refused (numberOf windowFull) | false ↦ t ]
+-- the number that refuses a caller another slot: 17, "from caller 1 with 8 or more open" (document 02, N7), then 11, "while 63 are open";
+-- 0 where there is room
+abbrev pub crowdOf : List ℕ → Record → ℕ → ℕ
+crowdOf table r caller =
+    elim (importOpen caller r) [
+      | true ↦ numberOf importFull
+      | false ↦ elim (leb windowMost (openRows table)) [ true ↦ numberOf windowFull | false ↦ 0 ]
+    ]
+
+-- refused by that number, or the turn
+abbrev pub ifRoom : ℕ → Turn → Turn
+ifRoom zero t = t
+ifRoom (suc n) t = Refused (suc n)
 
 -- "if that slot is dirty, copy its page ..": a slot that the sweep took, after it passed so many; "Otherwise .. the hand moves one past
 -- it"; 12 where all are open
@@ -56,28 +66,29 @@ takeTurn l table flags (Took s passed) =
 takeTurn l table flags Stuck = Refused (numberOf allOpen)
 
 -- a block not cached is swept for, its row to have these flags
-abbrev pub sweepTurn : List ℕ → Record → ℕ → Turn
-sweepTurn table r flags = ifRoom table (takeTurn (labelIn r) table flags (sweptOf (labelIn r) table (r .hand)))
+abbrev pub sweepTurn : List ℕ → Record → ℕ → ℕ → Turn
+sweepTurn table r caller flags =
+    ifRoom (crowdOf table r caller) (takeTurn (labelIn r) table flags (sweptOf (labelIn r) table (r .hand)))
 
 -- a clean block's slot is opened where it is
-abbrev pub cleanTurn : List ℕ → Record → Slot → Turn
-cleanTurn table r s = ifRoom table (Opens s (withWriting (rowFlags table s)) 0 (r .hand))
+abbrev pub cleanTurn : List ℕ → Record → ℕ → Slot → Turn
+cleanTurn table r caller s = ifRoom (crowdOf table r caller) (Opens s (withWriting (rowFlags table s)) 0 (r .hand))
 
 -- "Offer": dirty and not open "overwrite", clean "announced", not cached swept for, with flags 7
-abbrev pub offerTurn : List ℕ → Record → Condition → Turn
-offerTurn table r NotCached = sweepTurn table r 7
-offerTurn table r (Clean s) = cleanTurn table r s
-offerTurn table r (Dirty s) = Passes
-offerTurn table r (Writing s) = Refused (numberOf slotOpen)
-offerTurn table r (Fetching s) = Refused (numberOf slotOpen)
+abbrev pub offerTurn : List ℕ → Record → ℕ → Condition → Turn
+offerTurn table r caller NotCached = sweepTurn table r caller 7
+offerTurn table r caller (Clean s) = cleanTurn table r caller s
+offerTurn table r caller (Dirty s) = Passes
+offerTurn table r caller (Writing s) = Refused (numberOf slotOpen)
+offerTurn table r caller (Fetching s) = Refused (numberOf slotOpen)
 
 -- "Fetch a block not cached: as an offer by sweep, with flags 5"
-abbrev pub fetchTurn : List ℕ → Record → Condition → Turn
-fetchTurn table r NotCached = sweepTurn table r 5
-fetchTurn table r (Clean s) = Refused (numberOf hasSlot)
-fetchTurn table r (Dirty s) = Refused (numberOf hasSlot)
-fetchTurn table r (Writing s) = Refused (numberOf slotOpen)
-fetchTurn table r (Fetching s) = Refused (numberOf hasSlot)
+abbrev pub fetchTurn : List ℕ → Record → ℕ → Condition → Turn
+fetchTurn table r caller NotCached = sweepTurn table r caller 5
+fetchTurn table r caller (Clean s) = Refused (numberOf hasSlot)
+fetchTurn table r caller (Dirty s) = Refused (numberOf hasSlot)
+fetchTurn table r caller (Writing s) = Refused (numberOf slotOpen)
+fetchTurn table r caller (Fetching s) = Refused (numberOf hasSlot)
 
 -- a turn that leaves everything as it is, and is no refusal
 abbrev pub isPass : Turn → Bool
@@ -101,13 +112,13 @@ spent newest = leb (largestStamp - windowMost) newest
 abbrev pub tableAfter : ℕ → Box → List ℕ
 tableAfter passed x = clearedFrom passed (labelIn (x .state)) (x .table) (x .state .hand)
 
--- a turn performed: 13 is judged where a slot is opened
-abbrev pub turned : Turn → Block → Box → Effect
-turned (Refused n) b x = refusing n x
-turned Passes b x = perform (stay overwrite) x
-turned (Opens s flags passed hand) b x =
+-- a turn performed, of a block and a caller: 13 is judged where a slot is opened
+abbrev pub turned : Turn → Block → ℕ → Box → Effect
+turned (Refused n) b caller x = refusing n x
+turned Passes b caller x = perform (stay overwrite) x
+turned (Opens s flags passed hand) b caller x =
     elim (spent (x .state .newest)) [
       | true ↦ refusing (numberOf stampsSpent) x
-      | false ↦ perform (opens s b flags (tableAfter passed x) hand) x
+      | false ↦ perform (opens s b caller flags (tableAfter passed x) hand) x
     ]
-turned (CopiesOut s passed) b x = perform (copies s copiedOut (tableAfter passed x) s) x
+turned (CopiesOut s passed) b caller x = perform (copies s copiedOut (tableAfter passed x) s) x

@@ -29,13 +29,14 @@ pub fn is_spent(newest: u32) -> bool
     LARGEST_STAMP - (WINDOW as u32) <= newest
 }
 
-// Performs a turn of a block: where it opens a slot or copies one out, the slots that were passed lose their used flags first.
+// Performs a turn of a block, for a caller: where it opens a slot or copies one out, the slots that were passed lose their used flags first.
 pub fn perform(
     ssd: &mut [u8],
     hdd: &mut [u8],
     table: &mut [u32],
     state: Record,
     b: Block,
+    caller: u32,
     turn: Turn,
 ) -> Outcome
     requires { ⌜ FitsRecord (length (now ssd)) (length (now table)) state ⌝ }
@@ -43,7 +44,7 @@ pub fn perform(
     requires { ⌜ recordTest state ≡ true ⌝ }
     requires { ⌜ legalRows (labelIn state) (now table) ≡ true ⌝ }
     requires { ⌜ Performable turn (now table) state ⌝ }
-    ensures { λ q. ⌜ leaves q (now (ssd .exit)) (now (hdd .exit)) (now (table .exit)) ≡ left (turned turn b (boxOf (now (ssd .entry)) (now (hdd .entry)) (now (table .entry)) state)) (record { ssd = now (ssd .entry); hdd = now (hdd .entry) }) ⌝ }
+    ensures { λ q. ⌜ leaves q (now (ssd .exit)) (now (hdd .exit)) (now (table .exit)) ≡ left (turned turn b caller (boxOf (now (ssd .entry)) (now (hdd .entry)) (now (table .entry)) state)) (record { ssd = now (ssd .entry); hdd = now (hdd .entry) }) ⌝ }
 {
     let l = state.label;
     let from = state.hand;
@@ -55,7 +56,7 @@ pub fn perform(
                 return answers::refused(13, state);
             }
             sweep::clear_used(l, table, from, passed);
-            moves::open_slot(ssd, table, state, s, b, flags, hand)
+            moves::open_slot(ssd, table, state, s, b, caller, flags, hand)
         }
         Turn::CopiesOut(s, passed) => {
             sweep::clear_used(l, table, from, passed);

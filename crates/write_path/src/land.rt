@@ -21,7 +21,7 @@ pub fn land(
 ) -> Outcome
     ensures { λ q. ⌜ leaves q (now (ssd .exit)) (now (hdd .entry)) (now (table .exit)) ≡ landOf (now (ssd .entry)) (now (hdd .entry)) (now (table .entry)) state block (now (page .entry)) ⌝ }
 {
-    let seen = judging::judge_block(ssd.len(), hdd.len(), page.len(), table, state, block);
+    let seen = judging::judge_block(ssd.len(), hdd.len(), page.len(), table, state, block, 0);
     let number = seen.number;
     if number != 0 {
         return answers::refused(number, state);

@@ -5,7 +5,7 @@ use crate::drives::{FieldBox, GEOMETRY};
 use crate::files::{land, offer, pages, read_file, slot_of, OLD_PLAN, OTHERS, SCANS, SURVEY};
 use crate::plot::plot;
 use crate::survey;
-use ferjulm::{Block, Fetched, Offered, Phase, Saved, PAGE};
+use ferjulm::{Block, Caller, Fetched, Offered, Phase, Saved, PAGE};
 use std::error::Error;
 use std::fs;
 use std::path::Path;
@@ -125,7 +125,10 @@ pub fn friday(field: &mut FieldBox) -> Done {
         announce(field, Block(block))?;
     }
     loop {
-        let fetched = field.call(|cache| cache.fetch(OLD_PLAN), Fetched::stored)?;
+        let fetched = field.call(
+            |cache| cache.fetch(OLD_PLAN, Caller::People),
+            Fetched::stored,
+        )?;
         if let Fetched::Announced { slot, .. } = fetched {
             println!(
                 "  block {} is being fetched into slot {}",

@@ -1,7 +1,7 @@
 //! Files on the box: which blocks they have, and how they are saved and read.
 
 use crate::drives::FieldBox;
-use ferjulm::{Block, Offered, Slot, PAGE};
+use ferjulm::{Block, Caller, Offered, Slot, PAGE};
 use std::error::Error;
 use std::ops::Range;
 
@@ -35,7 +35,7 @@ pub fn pages(file: &[u8], blocks: Range<u32>) -> Vec<(Block, [u8; PAGE])> {
 /// Offers a write, and again where a dirty page had to be copied out to make room.
 pub fn offer(field: &mut FieldBox, block: Block) -> Result<Offered, Box<dyn Error>> {
     loop {
-        let offered = field.call(|cache| cache.offer(block), Offered::stored)?;
+        let offered = field.call(|cache| cache.offer(block, Caller::People), Offered::stored)?;
         if !matches!(offered, Offered::CopiedOut { .. }) {
             return Ok(offered);
         }

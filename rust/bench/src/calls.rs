@@ -6,7 +6,7 @@ use crate::plain::Plain;
 use crate::proved::Proved;
 use crate::report::{grouped, Table};
 use crate::timing::{alternate, compared, Times};
-use crate::world::{map_bytes, meta_pages, Call, Side, PHASE, RECOVERING, STEPS};
+use crate::world::{map_bytes, meta_pages, Call, Side, PEOPLE, PHASE, RECOVERING, STEPS};
 
 /// Slots, blocks, boxes that are timed together, turns.
 type Size = (u32, u32, usize, usize);
@@ -36,11 +36,11 @@ fn held<S: Side>(b: &mut Bench) {
     let room = map_bytes(b.boxes[0].record[0]);
     b.time::<S>("map", 0, Call::Map(room));
     b.close_last();
-    b.time::<S>("offer, announced (clean)", 101, Call::Offer(block));
+    b.time::<S>("offer, announced (clean)", 101, Call::Offer(block, PEOPLE));
     b.time::<S>("look up, open for writing", 110, Call::LookUp(block));
     b.time::<S>("land, open", 0, Call::Land(block, &LANDED));
     b.open_all();
-    b.time::<S>("offer, overwrite", 102, Call::Offer(block));
+    b.time::<S>("offer, overwrite", 102, Call::Offer(block, PEOPLE));
     b.time::<S>("land, dirty", 0, Call::Land(block, &LANDED));
     b.time::<S>("look up, dirty", 109, Call::LookUp(block));
     b.time::<S>("flush", 0, Call::Flush);
@@ -51,23 +51,27 @@ fn held<S: Side>(b: &mut Bench) {
 fn swept<S: Side>(b: &mut Bench) {
     b.close_last();
     let next = b.next_out();
-    b.time::<S>("fetch, announced", 101, Call::Fetch(b.spare));
+    b.time::<S>("fetch, announced", 101, Call::Fetch(b.spare, PEOPLE));
     b.time::<S>("land a fetch", 0, Call::LandFetch(b.spare));
     b.spare = next;
     let next = b.next_out();
-    b.time::<S>("offer, announced (swept)", 101, Call::Offer(b.spare));
+    b.time::<S>(
+        "offer, announced (swept)",
+        101,
+        Call::Offer(b.spare, PEOPLE),
+    );
     clean_again::<S>(b, next);
     let next = b.next_out();
-    b.untimed::<S>(101, Call::Offer(next));
+    b.untimed::<S>(101, Call::Offer(next, PEOPLE));
     b.untimed::<S>(0, Call::Land(next, &LANDED));
     b.set_used(false);
-    b.time::<S>("offer, copied out", 103, Call::Offer(b.spare));
+    b.time::<S>("offer, copied out", 103, Call::Offer(b.spare, PEOPLE));
     b.set_used(true);
     let next = b.next_out();
     b.time::<S>(
         "offer, announced (all were used)",
         101,
-        Call::Offer(b.spare),
+        Call::Offer(b.spare, PEOPLE),
     );
     clean_again::<S>(b, next);
     b.open_all();

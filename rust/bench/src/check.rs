@@ -7,7 +7,9 @@ use crate::plain::Plain;
 use crate::proved::Proved;
 use crate::report::grouped;
 use crate::rng::{scattered, Rng};
-use crate::world::{map_bytes, meta_pages, Call, Side, World, COUNT, NEWEST, PHASE, READY, RECORD, WORDS};
+use crate::world::{
+    map_bytes, meta_pages, Call, Side, World, COUNT, NEWEST, PHASE, READY, RECORD, WORDS,
+};
 use std::collections::BTreeMap;
 
 /// How often each result code was seen.
@@ -72,6 +74,7 @@ fn random_call<'a>(
     let (slots, blocks) = ((w.table.len() / 2) as u32, (w.hdd.len() / PAGE) as u32);
     let room = map_bytes(slots);
     let open = &w.record[8..8 + w.record[COUNT] as usize];
+    let caller = rng.pick(&[0, 0, 0, 0, 1, 1, 1, 2]);
     let block = match rng.below(3) {
         0 if !open.is_empty() => w.table[2 * rng.pick(open) as usize],
         _ => rng.below(blocks as u64 + 1) as u32,
@@ -90,10 +93,10 @@ fn random_call<'a>(
         130..=189 => Call::View(block),
         190..=249 => Call::LookUp(block),
         250..=289 => Call::LookUpList(list, (list.len() + (rng.below(8) == 0) as usize).min(WORDS)),
-        290..=389 => Call::Fetch(block),
+        290..=389 => Call::Fetch(block, caller),
         390..=489 if !opening => Call::LandFetch(block),
         490..=739 if !opening => Call::Land(block, page),
-        _ => Call::Offer(block),
+        _ => Call::Offer(block, caller),
     }
 }
 
@@ -152,7 +155,7 @@ pub fn run() -> String {
         agree(slots, blocks, calls, &mut seen);
     }
     let all: Vec<u32> = (0..=14)
-        .chain([16])
+        .chain(16..=18)
         .chain(101..=103)
         .chain(106..=111)
         .collect();
@@ -161,7 +164,7 @@ pub fn run() -> String {
     let refused: u32 = seen.range(1..100).map(|(_, n)| n).sum();
     calls::OPEN.iter().for_each(|(_, open)| calls::check(*open));
     format!(
-        "{} random calls, {} of them refused, with every answer and every number from 1 to 14 and 16 among them, and the calls\n\
+        "{} random calls, {} of them refused, with every answer and every number from 1 to 14 and from 16 to 18 among them, and the calls\n\
          that are timed, with 0, 16 and 63 slots open: both sides gave the same code, named the same\n\
          slot, words and page, and left the same record, table, images and sheet.\n",
         grouped(random),

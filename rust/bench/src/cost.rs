@@ -1,4 +1,4 @@
-//! What a C function adds to the call that it wraps: it judges and unpacks the record's 71 words, and packs them again.
+//! What a C function adds to the call that it wraps: it judges and unpacks the record's 134 words, and packs them again.
 
 use crate::plain::record::{pack, unpack};
 use crate::plain::Plain;
@@ -74,7 +74,7 @@ pub fn table() -> String {
         added,
     );
     one(
-        "unpacking and packing 71 words, nothing else",
+        "unpacking and packing 134 words, nothing else",
         "plain",
         median(&alone),
     );

@@ -20,8 +20,8 @@ impl Side for Proved {
         match call {
             Call::Format(slots, blocks) => lend!(format, w, (slots, blocks),),
             Call::Step => lend!(step, w, (), image offset),
-            Call::Offer(block) => lend!(offer, w, (block), slot image offset),
-            Call::Fetch(block) => lend!(fetch, w, (block), slot image offset),
+            Call::Offer(block, caller) => lend!(offer, w, (block, caller), slot image offset),
+            Call::Fetch(block, caller) => lend!(fetch, w, (block, caller), slot image offset),
             Call::Land(block, page) => lend!(land, w, (block, page), image offset),
             Call::LandFetch(block) => lend!(land_fetch, w, (block), image offset),
             Call::LookUp(block) => lend!(look_up, w, (block), slot),

@@ -3,7 +3,7 @@
 use crate::image::{Image, PAGE};
 
 /// Words of a record.
-pub const RECORD: usize = 71;
+pub const RECORD: usize = 134;
 
 /// Words that can be lent for the answer of a list look-up, which fills at most 64.
 pub const WORDS: usize = 66;
@@ -15,6 +15,11 @@ pub const PHASE: usize = 4;
 pub const STEPS: usize = 5;
 pub const COUNT: usize = 7;
 pub const WINDOW: usize = 8;
+pub const CALLERS: usize = 71;
+
+/// The callers: people, and the import.
+pub const PEOPLE: u32 = 0;
+pub const IMPORT: u32 = 1;
 
 pub const RECOVERING: u32 = 1;
 pub const READY: u32 = 2;
@@ -84,7 +89,7 @@ impl World {
         w
     }
 
-    /// Puts slots into the record's window, and no others.
+    /// Puts slots into the record's window, and no others; all are people's.
     pub fn list(&mut self, slots: &[u32]) {
         self.record[COUNT] = slots.len() as u32;
         self.record[WINDOW..].fill(0);
@@ -112,8 +117,9 @@ impl World {
 pub enum Call<'a> {
     Format(u32, u32),
     Step,
-    Offer(u32),
-    Fetch(u32),
+    /// A block, and its caller.
+    Offer(u32, u32),
+    Fetch(u32, u32),
     Land(u32, &'a [u8]),
     LandFetch(u32),
     LookUp(u32),

@@ -1,7 +1,7 @@
 //! Calls as values, and what they say.
 
 use crate::stored::named;
-use ferjulm::{Block, Condition, Fetched, Geometry, Offered, Place, Refusal, Saved, Slot};
+use ferjulm::{Block, Caller, Condition, Fetched, Geometry, Offered, Place, Refusal, Saved, Slot};
 
 /// A call with its arguments.
 #[derive(Clone, Debug, PartialEq)]
@@ -9,9 +9,9 @@ pub enum Call {
     Format(Geometry),
     Step,
     Reopen,
-    Offer(Block),
+    Offer(Block, Caller),
     Land(Block, Vec<u8>),
-    Fetch(Block),
+    Fetch(Block, Caller),
     LandFetch(Block),
     LookUp(Block),
     /// A list of blocks, and how many words are lent for the answer.
@@ -39,9 +39,11 @@ impl Call {
             }),
             "step" => Call::Step,
             "reopen" => Call::Reopen,
-            "offer" => Call::Offer(block()),
+            "offer" => Call::Offer(block(), Caller::People),
+            "import offer" => Call::Offer(block(), Caller::Import),
             "land" => Call::Land(block(), named(arguments[1])),
-            "fetch" => Call::Fetch(block()),
+            "fetch" => Call::Fetch(block(), Caller::People),
+            "import fetch" => Call::Fetch(block(), Caller::Import),
             "land fetch" => Call::LandFetch(block()),
             "look up" => Call::LookUp(block()),
             "look up list" => {

@@ -5,7 +5,7 @@ use crate::listed::Listed;
 use crate::rig::Call;
 use crate::say;
 use crate::stored::named;
-use ferjulm::Block;
+use ferjulm::{Block, Caller};
 use std::collections::BTreeMap;
 
 /// The next number of a linear congruential generator.
@@ -18,9 +18,9 @@ fn picked(x: u64) -> Call {
     let block = Block((x / 65536 % 6) as u32);
     let name = (b'a' + (x / 256 % 26) as u8) as char;
     match x / 524288 % 16 {
-        0..=3 => Call::Offer(block),
+        0..=3 => Call::Offer(block, Caller::People),
         4..=7 => Call::Land(block, named(&name.to_string())),
-        8..=9 => Call::Fetch(block),
+        8..=9 => Call::Fetch(block, Caller::People),
         10..=11 => Call::LandFetch(block),
         12..=13 => Call::LookUp(block),
         14 => Call::WriteBack(block),

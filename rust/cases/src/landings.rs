@@ -5,7 +5,7 @@ use crate::beside::Beside;
 use crate::rig::{Answer, Call};
 use crate::say;
 use crate::stored::named;
-use ferjulm::{Block, Geometry};
+use ferjulm::{Block, Caller, Geometry};
 
 pub fn lines() -> Vec<String> {
     let title = [String::new(), "landings".to_string()].to_vec();
@@ -72,7 +72,7 @@ fn saved(as_is: bool) -> String {
     let (mut announced, mut overwritten, mut copied_out) = (0, 0, 0);
     for minute in 0..30 {
         for block in [0, 1].map(Block) {
-            copied_out += opened(&mut b, &Call::Offer(block));
+            copied_out += opened(&mut b, &Call::Offer(block, Caller::People));
             let at = flags_at(&b, block);
             let flags = b.rig.table[at];
             announced += flags / 4 % 2;
@@ -84,7 +84,7 @@ fn saved(as_is: bool) -> String {
         }
         for scanned in 0..3 {
             let block = Block(2 + (3 * minute + scanned) % 38);
-            copied_out += opened(&mut b, &Call::Fetch(block));
+            copied_out += opened(&mut b, &Call::Fetch(block, Caller::People));
             b.make(&Call::LandFetch(block)).expect("a landing");
         }
         b.check_reads();

@@ -2,7 +2,9 @@
 
 pub mod beside;
 pub mod call;
+pub mod called;
 pub mod disk;
+mod flooded;
 mod generated;
 pub mod kept;
 mod landings;
@@ -37,6 +39,7 @@ pub fn lines() -> Vec<String> {
         orders::lines(),
         refusals::lines(),
         windows::lines(),
+        flooded::lines(),
         maps::lines(),
         stamps::lines(),
         generated::lines(),

@@ -6,7 +6,7 @@ use crate::random::Random;
 use crate::rig::{word, Call, Rig};
 use crate::say;
 use crate::stored::{page, LANDED_PAGES};
-use ferjulm::{Block, Geometry, Slot};
+use ferjulm::{Block, Caller, Geometry, Slot};
 
 pub fn lines() -> Vec<String> {
     let title = [String::new(), "orders".to_string()].to_vec();
@@ -49,8 +49,8 @@ fn random() -> Vec<String> {
 
 fn opening(block: Block) -> Call {
     match block.0 % 2 {
-        0 => Call::Offer(block),
-        _ => Call::Fetch(block),
+        0 => Call::Offer(block, Caller::People),
+        _ => Call::Fetch(block, Caller::People),
     }
 }
 

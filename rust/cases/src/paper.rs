@@ -4,7 +4,7 @@ use crate::beside::Beside;
 use crate::rig::{Call, Rig};
 use crate::say;
 use crate::stored::{label, label_page, named, page, ssd_of, Meta, Metas};
-use ferjulm::{Block, Geometry, Images, PAGE};
+use ferjulm::{Block, Caller, Geometry, Images, PAGE};
 
 const SMALL: Geometry = Geometry {
     slots: 4,
@@ -68,7 +68,7 @@ fn p1() -> String {
 /// The box of P2, and its line.
 fn offered() -> (Beside, String) {
     let mut b = Beside::formatted(SMALL);
-    let said = say::said(b.make(&Call::Offer(Block(5))));
+    let said = say::said(b.make(&Call::Offer(Block(5), Caller::People)));
     let entry = say::hexadecimal(&b.rig.images.ssd[PAGE + 512..PAGE + 520]);
     let (stored, stamp, hand) = (say::place(b.stored), newest(&b), b.rig.record.hand().0);
     let line =
@@ -120,7 +120,7 @@ fn p5() -> String {
 
 fn p6() -> String {
     let mut b = landed();
-    let offer = say::said(b.make(&Call::Offer(Block(6))));
+    let offer = say::said(b.make(&Call::Offer(Block(6), Caller::People)));
     let cut = cut(&mut b);
     let (five, six) = (reading(&mut b, 5), reading(&mut b, 6));
     format!("P6 P2, land A, offer 6: {offer}, cut: {cut}; {five}; {six}")
@@ -128,7 +128,7 @@ fn p6() -> String {
 
 fn p7() -> String {
     let (mut b, _) = flushed();
-    let offer = say::said(b.make(&Call::Offer(Block(5))));
+    let offer = say::said(b.make(&Call::Offer(Block(5), Caller::People)));
     let land = say::said(b.make(&Call::Land(Block(5), named("B"))));
     let stored = say::place(b.stored);
     let (cut, read) = (cut(&mut b), reading(&mut b, 5));
@@ -154,13 +154,13 @@ fn p8() -> String {
         blocks: 2,
     });
     let calls = [
-        ("offer 0", Call::Offer(Block(0))),
+        ("offer 0", Call::Offer(Block(0), Caller::People)),
         ("land A", Call::Land(Block(0), named("A"))),
-        ("offer 1", Call::Offer(Block(1))),
+        ("offer 1", Call::Offer(Block(1), Caller::People)),
     ];
     let said = run(&mut b, &calls);
     let stored = say::place(b.stored);
-    let again = run(&mut b, &[("again", Call::Offer(Block(1)))]);
+    let again = run(&mut b, &[("again", Call::Offer(Block(1), Caller::People))]);
     format!(
         "P8 {said} stores {stored}, {again} stores {}; {}",
         say::place(b.stored),
@@ -174,12 +174,12 @@ fn p9() -> String {
         blocks: 3,
     });
     let calls = [
-        ("fetch 0", Call::Fetch(Block(0))),
+        ("fetch 0", Call::Fetch(Block(0), Caller::People)),
         ("land it", Call::LandFetch(Block(0))),
-        ("fetch 1", Call::Fetch(Block(1))),
+        ("fetch 1", Call::Fetch(Block(1), Caller::People)),
         ("land it", Call::LandFetch(Block(1))),
         ("look up 0", Call::LookUp(Block(0))),
-        ("offer 2", Call::Offer(Block(2))),
+        ("offer 2", Call::Offer(Block(2), Caller::People)),
     ];
     let said = run(&mut b, &calls);
     format!("P9 {said}, hand {}", b.rig.record.hand().0)

@@ -126,8 +126,8 @@ pub fn told(before: &Memory, call: &Call, answer: Answer) -> Option<Place> {
     };
     match (call, answer) {
         (Call::Step, _) => Some(of_step(&before.record)),
-        (Call::Offer(_) | Call::Fetch(_), Answer::Announced(slot)) => Some(metadata_page(slot)),
-        (Call::Offer(_) | Call::Fetch(_), Answer::CopiedOut) => {
+        (Call::Offer(..) | Call::Fetch(..), Answer::Announced(slot)) => Some(metadata_page(slot)),
+        (Call::Offer(..) | Call::Fetch(..), Answer::CopiedOut) => {
             Some(hdd(before.row(before.swept()).0 as usize))
         }
         (Call::Land(block, _) | Call::LandFetch(block), _) => Some(in_slot(*block)),

@@ -4,7 +4,7 @@ use crate::beside::Beside;
 use crate::rig::Call;
 use crate::say;
 use crate::stored::{page, LANDED_PAGES};
-use ferjulm::{Block, Geometry};
+use ferjulm::{Block, Caller, Geometry};
 
 pub fn lines() -> Vec<String> {
     let two = Geometry {
@@ -26,7 +26,8 @@ fn broken(geometry: Geometry, open: &[u32]) -> Beside {
     let mut b = Beside::formatted(geometry);
     let last = geometry.slots - 1;
     for block in 0..=last {
-        b.make(&Call::Offer(Block(block))).expect("an offer");
+        b.make(&Call::Offer(Block(block), Caller::People))
+            .expect("an offer");
         if block < last - 1 && !open.contains(&block) {
             land(&mut b, block);
         }

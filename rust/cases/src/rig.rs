@@ -1,6 +1,7 @@
 //! A box with everything that it is lent, owned.
 
 pub use crate::call::{Answer, Call, Made, Said};
+use crate::called;
 use crate::looked;
 use crate::mapped;
 use crate::place::{check_alone, check_told, Memory};
@@ -75,6 +76,7 @@ impl Rig {
         let made = self.call(call);
         check_told(&before, call, &made);
         mapped::check(&before, self, call);
+        called::check(&before, self, call, &made);
         looked::check(before, self, call, &made);
         made
     }
@@ -85,12 +87,12 @@ impl Rig {
             Call::Format(geometry) => cache.format(*geometry).map(Made::from),
             Call::Step => cache.step().map(Made::from),
             Call::Reopen => cache.reopen().map(Made::from),
-            Call::Offer(block) => cache.offer(*block).map(Made::from),
+            Call::Offer(block, caller) => cache.offer(*block, *caller).map(Made::from),
             Call::Land(block, page) => match page.as_slice().try_into() {
                 Ok(page) => cache.land(*block, page).map(Made::from),
                 Err(_) => Err(self.land_other(*block, page)),
             },
-            Call::Fetch(block) => cache.fetch(*block).map(Made::from),
+            Call::Fetch(block, caller) => cache.fetch(*block, *caller).map(Made::from),
             Call::LandFetch(block) => cache.land_fetch(*block).map(Made::from),
             Call::LookUp(block) => cache.look_up(*block).map(Made::from),
             Call::LookUpList(blocks, room) => self.look_up_list(blocks, *room).map(Made::from),
@@ -178,4 +180,5 @@ pub mod word {
     pub const STEPS: usize = 5;
     pub const COUNT: usize = 7;
     pub const WINDOW: usize = 8;
+    pub const CALLERS: usize = 71;
 }

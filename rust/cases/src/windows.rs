@@ -3,7 +3,7 @@
 use crate::listed::Listed;
 use crate::rig::{Answer, Call};
 use crate::say;
-use ferjulm::{Block, Slot};
+use ferjulm::{Block, Caller, Slot};
 
 pub fn lines() -> Vec<String> {
     [filled(62).lines, filled(63).lines, all_open()].concat()
@@ -14,7 +14,7 @@ fn opened(slots: u32) -> Listed {
     let mut list = Listed::formatted(&format!("window, {slots} slots"), slots, 70);
     let mut announced = 0;
     for block in 0..62 {
-        let said = list.b.make(&Call::Offer(Block(block)));
+        let said = list.b.make(&Call::Offer(Block(block), Caller::People));
         announced += (said == Ok(Answer::Announced(Slot(block)))) as u32;
         list.b.check_reads();
     }

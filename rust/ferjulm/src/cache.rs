@@ -3,8 +3,8 @@
 use crate::place::{page_at, Out};
 use crate::refusal::judged;
 use crate::{
-    calls, Block, Condition, Fetched, Geometry, Image, Images, Lent, Offered, Phase, Place, Record,
-    Refusal, Saved, View,
+    calls, Block, Caller, Condition, Fetched, Geometry, Image, Images, Lent, Offered, Phase, Place,
+    Record, Refusal, Saved, View,
 };
 use crate::{WrongLength, PAGE};
 
@@ -119,13 +119,20 @@ impl<'a> Cache<'a> {
         judged(code, length).map(|_| ())
     }
 
-    /// Offers a write of a block: announced or overwrite, then land; or copied out, then offer again.
+    /// Offers a write of a block, for a caller: announced or overwrite, then land; or copied out, then offer again. Anyone may land.
     ///
     /// # Errors
-    /// 3 to 6, 7 (the block), 8 (its slot is open), 11, 12 (no slot to be had) and 13 (stamps).
-    pub fn offer(&mut self, block: Block) -> Result<Offered, Refusal> {
+    /// 3 to 6, 7 (the block), 8 (its slot is open), 17 (the import has 8 slots open), 11, 12 (no slot to be had) and 13 (stamps).
+    pub fn offer(&mut self, block: Block, caller: Caller) -> Result<Offered, Refusal> {
         let mut out = Out::default();
-        let code = call!(self.offer(block.0, &mut out.slot, &mut out.image, &mut out.offset));
+        let caller = caller as u32;
+        let code = call!(self.offer(
+            block.0,
+            caller,
+            &mut out.slot,
+            &mut out.image,
+            &mut out.offset
+        ));
         self.judged(code).map(|code| Offered::of(code, out))
     }
 
@@ -140,13 +147,41 @@ impl<'a> Cache<'a> {
         self.judged(code).map(|_| out.stored())
     }
 
-    /// Fetches a block that is not cached: announced, then land the fetch; or copied out, then fetch again.
+    /// Fetches a block that is not cached, for a caller: announced, then land the fetch; or copied out, then fetch again.
+    ///
+    /// ```
+    /// use ferjulm::{Block, Cache, Caller, Geometry, Images, Record, Refusal};
+    ///
+    /// let geometry = Geometry { slots: 16, blocks: 32 };
+    /// let (mut images, mut record) = (Images::zeroed(geometry), Record::default());
+    /// let mut table = vec![0; geometry.table_words()];
+    /// let mut cache = Cache::new(images.lend(), &mut table, &mut record);
+    /// cache.format(geometry)?;
+    /// cache.finish(|_, _| Ok::<(), Refusal>(()))?;
+    ///
+    /// for block in 0..8 {
+    ///     cache.fetch(Block(block), Caller::Import)?;
+    /// }
+    /// assert_eq!(cache.fetch(Block(8), Caller::Import).unwrap_err().number(), 17);
+    /// cache.fetch(Block(8), Caller::People)?;
+    /// cache.land_fetch(Block(0))?;
+    /// cache.fetch(Block(9), Caller::Import)?;
+    /// # Ok::<(), Refusal>(())
+    /// ```
     ///
     /// # Errors
-    /// 3 to 6, 7 (the block), 8 (it is open for writing), 10 (it is cached, or being fetched), 11, 12 (no slot to be had) and 13 (stamps).
-    pub fn fetch(&mut self, block: Block) -> Result<Fetched, Refusal> {
+    /// 3 to 6, 7 (the block), 8 (it is open for writing), 10 (it is cached, or being fetched), 17 (the import has 8 slots open), 11, 12 (no
+    /// slot to be had) and 13 (stamps).
+    pub fn fetch(&mut self, block: Block, caller: Caller) -> Result<Fetched, Refusal> {
         let mut out = Out::default();
-        let code = call!(self.fetch(block.0, &mut out.slot, &mut out.image, &mut out.offset));
+        let caller = caller as u32;
+        let code = call!(self.fetch(
+            block.0,
+            caller,
+            &mut out.slot,
+            &mut out.image,
+            &mut out.offset
+        ));
         self.judged(code).map(|code| Fetched::of(code, out))
     }
 
@@ -164,7 +199,7 @@ impl<'a> Cache<'a> {
     /// Looks a block up: its condition, with its slot. Where it is clean or dirty its used flag is set. Stores nothing.
     ///
     /// ```
-    /// use ferjulm::{Block, Cache, Condition, Geometry, Images, Record, Refusal, Slot, PAGE};
+    /// use ferjulm::{Block, Cache, Caller, Condition, Geometry, Images, Record, Refusal, Slot, PAGE};
     ///
     /// let geometry = Geometry { slots: 4, blocks: 8 };
     /// let (mut images, mut record) = (Images::zeroed(geometry), Record::default());
@@ -174,11 +209,11 @@ impl<'a> Cache<'a> {
     /// cache.finish(|_, _| Ok::<(), Refusal>(()))?;
     ///
     /// assert_eq!(cache.look_up(Block(5))?, Condition::NotCached);
-    /// cache.fetch(Block(5))?;
+    /// cache.fetch(Block(5), Caller::People)?;
     /// assert_eq!(cache.look_up(Block(5))?, Condition::OpenFetch(Slot(0)));
     /// cache.land_fetch(Block(5))?;
     /// assert_eq!(cache.look_up(Block(5))?, Condition::Clean(Slot(0)));
-    /// cache.offer(Block(5))?;
+    /// cache.offer(Block(5), Caller::People)?;
     /// assert_eq!(cache.look_up(Block(5))?, Condition::OpenWrite(Slot(0)));
     /// cache.land(Block(5), &[7; PAGE])?;
     /// assert_eq!(cache.look_up(Block(5))?, Condition::Dirty(Slot(0)));
@@ -199,7 +234,7 @@ impl<'a> Cache<'a> {
     /// listed twice. Stores nothing.
     ///
     /// ```
-    /// use ferjulm::{Block, Cache, Geometry, Images, Record, Refusal};
+    /// use ferjulm::{Block, Cache, Caller, Geometry, Images, Record, Refusal};
     ///
     /// let geometry = Geometry { slots: 4, blocks: 8 };
     /// let (mut images, mut record) = (Images::zeroed(geometry), Record::default());
@@ -207,9 +242,9 @@ impl<'a> Cache<'a> {
     /// let mut cache = Cache::new(images.lend(), &mut table, &mut record);
     /// cache.format(geometry)?;
     /// cache.finish(|_, _| Ok::<(), Refusal>(()))?;
-    /// cache.fetch(Block(5))?;
+    /// cache.fetch(Block(5), Caller::People)?;
     /// cache.land_fetch(Block(5))?;
-    /// cache.fetch(Block(6))?;
+    /// cache.fetch(Block(6), Caller::People)?;
     ///
     /// // 5 is in slot 0, 6 is open, 7 is not cached
     /// let mut words = [0; 4];
@@ -246,7 +281,7 @@ impl<'a> Cache<'a> {
     /// dirty, `w` open for writing, `f` open for fetch; past the last slot spaces. Changes nothing else.
     ///
     /// ```
-    /// use ferjulm::{Block, Cache, Geometry, Images, Record, Refusal, PAGE};
+    /// use ferjulm::{Block, Cache, Caller, Geometry, Images, Record, Refusal, PAGE};
     ///
     /// let geometry = Geometry { slots: 62, blocks: 99 };
     /// let (mut images, mut record) = (Images::zeroed(geometry), Record::default());
@@ -254,12 +289,12 @@ impl<'a> Cache<'a> {
     /// let mut cache = Cache::new(images.lend(), &mut table, &mut record);
     /// cache.format(geometry)?;
     /// cache.finish(|_, _| Ok::<(), Refusal>(()))?;
-    /// cache.offer(Block(5))?;
+    /// cache.offer(Block(5), Caller::People)?;
     /// cache.land(Block(5), &[7; PAGE])?;
-    /// cache.fetch(Block(6))?;
+    /// cache.fetch(Block(6), Caller::People)?;
     /// cache.land_fetch(Block(6))?;
-    /// cache.fetch(Block(7))?;
-    /// cache.offer(Block(8))?;
+    /// cache.fetch(Block(7), Caller::People)?;
+    /// cache.offer(Block(8), Caller::People)?;
     ///
     /// let mut sheet = vec![0; geometry.map_bytes()];
     /// cache.map(&mut sheet)?;

@@ -58,12 +58,12 @@ calls! {
     step, ferjulm_step(&mut [u8], &[u8], &[u32], &mut [u32]; image: &mut u32, offset: &mut u64);
     /// Fills table and record from the SSD.
     reopen, ferjulm_reopen(&[u8], &[u8], &mut [u32], &mut [u32];);
-    /// Offers a write of a block.
+    /// Offers a write of a block, for a caller.
     offer, ferjulm_offer(&mut [u8], &mut [u8], &mut [u32], &mut [u32];
-        block: u32, slot: &mut u32, image: &mut u32, offset: &mut u64);
-    /// Finds and opens a slot for a block that is not cached.
+        block: u32, caller: u32, slot: &mut u32, image: &mut u32, offset: &mut u64);
+    /// Finds and opens a slot for a block that is not cached, for a caller.
     fetch, ferjulm_fetch(&mut [u8], &mut [u8], &mut [u32], &mut [u32];
-        block: u32, slot: &mut u32, image: &mut u32, offset: &mut u64);
+        block: u32, caller: u32, slot: &mut u32, image: &mut u32, offset: &mut u64);
     /// Copies the HDD page into the slot that a fetch opened.
     land_fetch, ferjulm_land_fetch(&mut [u8], &[u8], &mut [u32], &mut [u32]; block: u32, image: &mut u32, offset: &mut u64);
     /// Looks a block up.

@@ -20,11 +20,11 @@ declare! {
     ferjulm_step(InOut<u8>, In<u8>, In<u32>, InOut<u32>; image: InOut<u32>, offset: InOut<u64>);
     ferjulm_reopen(In<u8>, In<u8>, InOut<u32>, InOut<u32>;);
     ferjulm_offer(InOut<u8>, InOut<u8>, InOut<u32>, InOut<u32>;
-        block: u32, slot: InOut<u32>, image: InOut<u32>, offset: InOut<u64>);
+        block: u32, caller: u32, slot: InOut<u32>, image: InOut<u32>, offset: InOut<u64>);
     ferjulm_land(InOut<u8>, In<u8>, InOut<u32>, InOut<u32>;
         block: u32, page: In<u8>, page_len: usize, image: InOut<u32>, offset: InOut<u64>);
     ferjulm_fetch(InOut<u8>, InOut<u8>, InOut<u32>, InOut<u32>;
-        block: u32, slot: InOut<u32>, image: InOut<u32>, offset: InOut<u64>);
+        block: u32, caller: u32, slot: InOut<u32>, image: InOut<u32>, offset: InOut<u64>);
     ferjulm_land_fetch(InOut<u8>, In<u8>, InOut<u32>, InOut<u32>; block: u32, image: InOut<u32>, offset: InOut<u64>);
     ferjulm_look_up(In<u8>, In<u8>, InOut<u32>, In<u32>; block: u32, slot: InOut<u32>);
     ferjulm_look_up_list(In<u8>, In<u8>, InOut<u32>, In<u32>;

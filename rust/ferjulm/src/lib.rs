@@ -5,7 +5,7 @@
 //! standard library: the feature `std`, a default one, adds images on the heap and a refusal as an `std::io::Error`.
 //!
 //! ```
-//! use ferjulm::{Block, Cache, Condition, Geometry, Images, Offered, Place, Record, Refusal, PAGE};
+//! use ferjulm::{Block, Cache, Caller, Condition, Geometry, Images, Offered, Place, Record, Refusal, PAGE};
 //!
 //! // where the images are kept on drives, a stored page is written to its drive here, and synced
 //! let store = |_: Place, _: &[u8; PAGE]| Ok::<(), Refusal>(());
@@ -18,7 +18,7 @@
 //! let mut cache = Cache::new(images.lend(), &mut table, &mut record);
 //! cache.format(geometry)?;
 //! assert_eq!(cache.finish(store)?, 3);
-//! let offered = cache.offer(Block(5))?;
+//! let offered = cache.offer(Block(5), Caller::People)?;
 //! if let Some(place) = offered.stored() {
 //!     store(place, cache.page(place))?;
 //! }
@@ -30,7 +30,7 @@
 //! }
 //!
 //! // another write is announced, and power fails: table and record are lost
-//! cache.offer(Block(6))?;
+//! cache.offer(Block(6), Caller::People)?;
 //! table.fill(0);
 //! record = Record::default();
 //! assert_eq!(Geometry::of_label(&images.ssd), Some(geometry));
@@ -60,5 +60,5 @@ pub use answer::{Condition, Fetched, Offered, Saved, View};
 pub use cache::Cache;
 pub use geometry::{Block, Geometry, Images, Slot, PAGE};
 pub use place::{Image, Place};
-pub use record::{Phase, Record, RECORD_WORDS};
+pub use record::{Caller, Phase, Record, RECORD_WORDS};
 pub use refusal::{Lent, Refusal, WrongLength};

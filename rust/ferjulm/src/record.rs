@@ -1,12 +1,25 @@
-//! The record: 71 words.
+//! The record: 134 words.
 
 use crate::{Geometry, Slot};
 
 /// Words of a record.
-pub const RECORD_WORDS: usize = 71;
+pub const RECORD_WORDS: usize = 134;
 
 /// The first of the window's 63 slots.
 const WINDOW: usize = 8;
+
+/// The first of the callers of its 63 places.
+const CALLERS: usize = 71;
+
+/// Who offers or fetches (document 02, N7). The import may have at most 8 slots open.
+#[derive(Clone, Copy, Debug, Default, PartialEq, Eq)]
+pub enum Caller {
+    /// People, who type.
+    #[default]
+    People,
+    /// The scanner's import.
+    Import,
+}
 
 /// The phase of a box.
 #[derive(Clone, Copy, Debug, PartialEq, Eq)]
@@ -36,7 +49,7 @@ impl Record {
         Record(words)
     }
 
-    /// Its words: slots, blocks, hand, newest, phase, steps done, unconfirmed, count, then the window.
+    /// Its words: slots, blocks, hand, newest, phase, steps done, unconfirmed, count, then the window, then its callers.
     pub fn words(&self) -> &[u32; RECORD_WORDS] {
         &self.0
     }
@@ -76,9 +89,20 @@ impl Record {
 
     /// The open slots in the order of opening, or while recovering the pending ones.
     pub fn window(&self) -> impl Iterator<Item = Slot> + '_ {
-        self.0[WINDOW..]
+        self.0[WINDOW..CALLERS]
             .iter()
             .take(self.0[7] as usize)
             .map(|&slot| Slot(slot))
+    }
+
+    /// The caller of each slot of the window, in its order: people while recovering.
+    pub fn callers(&self) -> impl Iterator<Item = Caller> + '_ {
+        self.0[CALLERS..]
+            .iter()
+            .take(self.0[7] as usize)
+            .map(|&caller| match caller {
+                0 => Caller::People,
+                _ => Caller::Import,
+            })
     }
 }

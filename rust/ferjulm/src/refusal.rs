@@ -34,7 +34,7 @@ pub enum Lent {
 }
 
 /// The conditions of documents 01 and 02 by number; 5, 9, 11 and 13 are shortened.
-const REASONS: [(u32, &str); 15] = [
+const REASONS: [(u32, &str); 17] = [
     (1, "format: slots or blocks outside the limits"),
     (2, "reopen: SSD under a page, or first page no legal label"),
     (3, "a record number out of range, window repeated or not zero past its length"),
@@ -50,6 +50,8 @@ const REASONS: [(u32, &str); 15] = [
     (13, "this call would store metadata, and too few stamps are left"),
     (14, "map: the buffer is shorter than 67 × the number of lines"),
     (16, "a list that is empty, over 64, or not as long as the answer list"),
+    (17, "a fetch, or an offer of a block that isn't dirty, by the import with 8 or more open"),
+    (18, "a caller that is neither 0 nor 1"),
 ];
 
 /// The condition of a number, if it is a refusal's.
@@ -69,7 +71,7 @@ impl Refusal {
         reason_of(code).map(|_| refusal(code))
     }
 
-    /// Its number: document 01's, 1 to 13, or document 02's, 14 and 16.
+    /// Its number: document 01's, 1 to 13, or document 02's, 14 and 16 to 18.
     pub fn number(self) -> u32 {
         self.number
     }

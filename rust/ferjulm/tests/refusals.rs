@@ -1,7 +1,7 @@
 //! What a refusal tells: its number, its condition, and for 4 the length that was expected.
 
 use cases::rig::Rig;
-use ferjulm::{Block, Geometry, Lent, Refusal, WrongLength, PAGE};
+use ferjulm::{Block, Caller, Geometry, Lent, Refusal, WrongLength, PAGE};
 
 const SMALL: Geometry = Geometry {
     slots: 4,
@@ -14,7 +14,7 @@ fn lengths(rig: &mut Rig, geometry: Geometry) -> Vec<WrongLength> {
     let said: [Result<(), Refusal>; 7] = [
         cache.format(geometry),
         cache.reopen(),
-        cache.offer(Block(5)).map(|_| ()),
+        cache.offer(Block(5), Caller::People).map(|_| ()),
         cache.land(Block(5), &[0; PAGE]).map(|_| ()),
         cache.view(Block(5)).map(|_| ()),
         cache.map(&mut []),
@@ -81,7 +81,8 @@ fn a_refusal_in_words() {
 fn refusals_of_result_codes() {
     for code in (0..200).chain([u32::MAX]) {
         let refusal = Refusal::of_code(code);
-        let number = ((1..=14).contains(&code) || code == 16).then_some(code);
+        let numbers = (1..=14).chain([16, 17, 18]);
+        let number = numbers.clone().find(|number| *number == code);
         assert_eq!(refusal.map(Refusal::number), number);
         assert!(refusal.is_none_or(|refusal| !refusal.reason().is_empty()));
     }

@@ -3,8 +3,8 @@
 use cases::rig::{Call, Rig};
 use cases::stored::{named, page};
 use ferjulm::{
-    Block, Cache, Condition, Fetched, Geometry, Image, Images, Offered, Place, Record, Refusal,
-    Saved, View,
+    Block, Cache, Caller, Condition, Fetched, Geometry, Image, Images, Offered, Place, Record,
+    Refusal, Saved, View,
 };
 use std::thread;
 
@@ -62,7 +62,7 @@ fn a_box_goes_from_one_thread_to_another() {
     });
     let mut cache = rig.cache();
     let stored = thread::scope(|scope| {
-        let made = scope.spawn(move || cache.offer(Block(5)));
+        let made = scope.spawn(move || cache.offer(Block(5), Caller::People));
         made.join().expect("a thread").expect("an offer").stored()
     });
     assert!(stored.is_some());

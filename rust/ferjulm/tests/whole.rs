@@ -4,7 +4,7 @@ use cases::mapped;
 use cases::place::{hdd, page_of, ssd};
 use cases::rig::{word, Answer, Call, Rig, Said};
 use cases::stored::{label, label_page, page, Meta, Metas, LANDED_PAGES};
-use ferjulm::{Block, Condition, Geometry, Images, Place, Slot, PAGE};
+use ferjulm::{Block, Caller, Condition, Geometry, Images, Place, Slot, PAGE};
 use std::collections::BTreeMap;
 
 const WHOLE: Geometry = Geometry {
@@ -43,7 +43,7 @@ impl Whole {
 }
 
 fn offer(whole: &mut Whole, block: u32, slot: u32) {
-    let said = whole.make(&Call::Offer(Block(block)));
+    let said = whole.make(&Call::Offer(Block(block), Caller::People));
     assert_eq!(said, Ok(Answer::Announced(Slot(slot))));
 }
 
@@ -90,7 +90,7 @@ fn written() -> Whole {
         offer(&mut whole, 59_000 + k, (57_570 + k) % 57_600);
     }
     let full = whole
-        .make(&Call::Offer(Block(7)))
+        .make(&Call::Offer(Block(7), Caller::People))
         .map_err(|refusal| refusal.number());
     assert_eq!(full, Err(11));
     let closed = (59_000..59_063).filter(|block| !OPEN.iter().any(|open| open.0 == *block));

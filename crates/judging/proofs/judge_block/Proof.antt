@@ -1,6 +1,6 @@
 use mathlib.Core.Path.{_≡_, sym, _∙_}
 use Prim.Native.Nat.{ℕ}
-use borrow.Author.Tests.{le-leb, lt-leb}
+use borrow.Author.Tests.{le-leb, lt-leb, lt-ltb, le-ltb}
 use Rattle.judging.specs.Judging.{readyThen}
 use Rattle.judging.proofs.JudgingLaws.{ready-asks, stops, goes-on, found}
 use borrow.Author.Needs.{needs}
@@ -36,13 +36,24 @@ refused-requires c κs = search needs
 returns-2 : tie.Need-returns-2
 returns-2 c =
     let t = c .before in
-    rw (on (t .before .before .before) _, le-leb _ _ (t .if2 .taken)) (c .refused .ensures)
+    rw (on (t .before) _, lt-ltb _ _ (t .if2 .taken)) (c .refused .ensures)
+
+refused-requires-2 : tie.Need-refused-requires-2
+refused-requires-2 c κs = search needs
 
 returns-3 : tie.Need-returns-3
 returns-3 c =
-    let k = c .before .before .before in
-    let e = k .before .before in
-    rw (on k _, lt-leb _ _ (c .if2 .left)) (rw (ready k) at (e .judge-ready .ensures))
+    let t = c .before in
+    let d = t .before .before .before in
+    rw (on (d .before) _, le-ltb _ _ (d .if2 .left), le-leb _ _ (t .if3 .taken)) (c .refused2 .ensures)
+
+returns-4 : tie.Need-returns-4
+returns-4 c =
+    let d = c .before .before .before in
+    let k = d .before in
+    rw (on k _, le-ltb _ _ (d .if2 .left), lt-leb _ _ (c .if3 .left)) (rw (ready k) at (k .before .before .judge-ready .ensures))
 
 pub judge-block-spec : {M : Type 1} → statement M
-judge-block-spec = tie.close (tie.spec judge-ready-requires returns refused-requires returns-2 returns-3)
+judge-block-spec =
+    tie.close
+    (tie.spec judge-ready-requires returns refused-requires returns-2 refused-requires-2 returns-3 returns-4)

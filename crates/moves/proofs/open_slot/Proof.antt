@@ -21,7 +21,7 @@ confirm-requires c κs =
     let s = c .before .before .before .before .before .before .before .before .before .before in
     let a = s .args in
     let j = c .before .before .before .join .ensures in (
-      joined-fits (length (a .ssd .now)) (a .table .now) _ (a .state) _ (a .s) (a .hand) (a .b) (a .flags) (s .pre .0)
+      joined-fits (length (a .ssd .now)) (a .table .now) _ (a .state) _ (a .s) (a .hand) (a .b) (a .caller) (a .flags) (s .pre .0)
           (s .pre .1 .0) (s .pre .1 .1 .0)
           (c .before .before .before .before .before .before .set-row .ensures) j,
       (rw (c .meta-of .ensures, j) (meta-of-low (labelIn (a .state)) (a .s) (s .pre .1 .1 .1 .1)), rw j (s .pre .1 .1 .1 .0)),

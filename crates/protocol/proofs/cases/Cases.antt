@@ -64,7 +64,7 @@ leaves lines state table metadata slot₀ reads = record {
 -- P2 then offer 5: slot 0, stamp 1, entry bytes 05 00 00 00 07 00 00 00 (hexadecimal), hand 1.
 abbrev pub p2 : Script
 p2 =
-    scripted usual (start usual) (call (offer (record { 0 = 5 })) ∷ [])
+    scripted usual (start usual) (call (offer (record { 0 = 5 }) 0) ∷ [])
     (record { 0 = 5 } ∷ [])
     (leaves
     (line (announced (record { 0 = 0 })) (meta 0) Ready ∷ [])
@@ -77,7 +77,7 @@ p2 =
 -- P3 cut after P2: one mending store, stamp 2; 5 reads from HDD.
 abbrev pub p3 : Script
 p3 =
-    scripted usual (start usual) (call (offer (record { 0 = 5 })) ∷ lost usual ∷ call step ∷ [])
+    scripted usual (start usual) (call (offer (record { 0 = 5 }) 0) ∷ lost usual ∷ call step ∷ [])
     (record { 0 = 5 } ∷ [])
     (leaves
     (line (announced (record { 0 = 0 })) (meta 0) Ready ∷ line done nothing Recovering ∷ line done (meta 0) Ready ∷ [])
@@ -91,7 +91,7 @@ p3 =
 abbrev pub p4 : Script
 p4 =
     scripted usual (start usual)
-    (call (offer (record { 0 = 5 })) ∷ call (land (record { 0 = 5 }) (filled 9)) ∷ lost usual ∷ call step ∷ [])
+    (call (offer (record { 0 = 5 }) 0) ∷ call (land (record { 0 = 5 }) (filled 9)) ∷ lost usual ∷ call step ∷ [])
     (record { 0 = 5 } ∷ [])
     (leaves
     (line (announced (record { 0 = 0 })) (meta 0) Ready
@@ -108,7 +108,7 @@ p4 =
 abbrev pub p5 : Script
 p5 =
     scripted usual (start usual)
-    (call (offer (record { 0 = 5 })) ∷ call (land (record { 0 = 5 }) (filled 9)) ∷ call flush ∷ lost usual ∷ [])
+    (call (offer (record { 0 = 5 }) 0) ∷ call (land (record { 0 = 5 }) (filled 9)) ∷ call flush ∷ lost usual ∷ [])
     (record { 0 = 5 } ∷ [])
     (leaves
     (line (announced (record { 0 = 0 })) (meta 0) Ready
@@ -125,9 +125,9 @@ p5 =
 abbrev pub p6 : Script
 p6 =
     scripted usual (start usual)
-    (call (offer (record { 0 = 5 }))
+    (call (offer (record { 0 = 5 }) 0)
     ∷ call (land (record { 0 = 5 }) (filled 9))
-    ∷ call (offer (record { 0 = 6 }))
+    ∷ call (offer (record { 0 = 6 }) 0)
     ∷ lost usual
     ∷ call step ∷ [])
     (record { 0 = 5 } ∷ record { 0 = 6 } ∷ [])
@@ -147,7 +147,7 @@ p6 =
 abbrev pub p7 : Script
 p7 =
     scripted usual (start usual)
-    (call (offer (record { 0 = 5 }))
+    (call (offer (record { 0 = 5 }) 0)
     ∷ call (land (record { 0 = 5 }) (filled 9))
     ∷ call flush
     ∷ lost usual
@@ -171,10 +171,10 @@ p7 =
 abbrev pub p8 : Script
 p8 =
     scripted one (start one)
-    (call (offer (record { 0 = 0 }))
+    (call (offer (record { 0 = 0 }) 0)
     ∷ call (land (record { 0 = 0 }) (filled 9))
-    ∷ call (offer (record { 0 = 1 }))
-    ∷ call (offer (record { 0 = 1 })) ∷ [])
+    ∷ call (offer (record { 0 = 1 }) 0)
+    ∷ call (offer (record { 0 = 1 }) 0) ∷ [])
     (record { 0 = 0 } ∷ record { 0 = 1 } ∷ [])
     (record {
       lines =
@@ -196,12 +196,12 @@ p8 =
 abbrev pub p9 : Script
 p9 =
     scripted two (start two)
-    (call (fetch (record { 0 = 0 }))
+    (call (fetch (record { 0 = 0 }) 0)
     ∷ call (landFetch (record { 0 = 0 }))
-    ∷ call (fetch (record { 0 = 1 }))
+    ∷ call (fetch (record { 0 = 1 }) 0)
     ∷ call (landFetch (record { 0 = 1 }))
     ∷ call (lookUp (record { 0 = 0 }))
-    ∷ call (offer (record { 0 = 2 })) ∷ [])
+    ∷ call (offer (record { 0 = 2 }) 0) ∷ [])
     (record { 0 = 0 } ∷ record { 0 = 2 } ∷ [])
     (record {
       lines =

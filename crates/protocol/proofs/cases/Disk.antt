@@ -96,11 +96,11 @@ module _ (w : World) where
   abbrev Unfed : Call → Type 0
   Unfed c = after c ≡ w .disk
 
-  pub others-unfed : (b : Block)
-      → Unfed (offer b) × Unfed (fetch b) × Unfed (landFetch b) × Unfed (lookUp b) × Unfed (view b) × Unfed (writeBack b)
-  others-unfed b = (
-    unfed (offer b) refl refl,
-    unfed (fetch b) refl refl,
+  pub others-unfed : (b : Block) (caller : ℕ)
+      → Unfed (offer b caller) × Unfed (fetch b caller) × Unfed (landFetch b) × Unfed (lookUp b) × Unfed (view b) × Unfed (writeBack b)
+  others-unfed b caller = (
+    unfed (offer b caller) refl refl,
+    unfed (fetch b caller) refl refl,
     unfed (landFetch b) refl refl,
     unfed (lookUp b) refl refl,
     unfed (view b) refl refl,
@@ -125,10 +125,10 @@ module _ (w : World) where
   cut-idle c h = rw h
 
   -- "Calls that later requests add to the box join it, as do refused formats"
-  pub calls-join : (b : Block) (page : List ℕ) (a : Ask)
-      → CallFits step w × CallFits flush w × CallFits reopen w × CallFits (offer b) w × CallFits (fetch b) w × CallFits (landFetch b) w
+  pub calls-join : (b : Block) (caller : ℕ) (page : List ℕ) (a : Ask)
+      → CallFits step w × CallFits flush w × CallFits reopen w × CallFits (offer b caller) w × CallFits (fetch b caller) w × CallFits (landFetch b) w
       × CallFits (lookUp b) w × CallFits (view b) w × CallFits (writeBack b) w × CallFits (land b page) w × CallFits (ask a) w
-  calls-join b page a = (tt, tt, tt, tt, tt, tt, tt, tt, tt, tt, tt)
+  calls-join b caller page a = (tt, tt, tt, tt, tt, tt, tt, tt, tt, tt, tt)
 
   pub refused-format-joins : (slots blocks : ℕ) → refused (R (format slots blocks) .said) ≡ true
       → CallFits (format slots blocks) w

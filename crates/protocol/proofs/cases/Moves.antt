@@ -9,7 +9,7 @@ use lib.ListN.{replicate}
 use Rattle.record.specs.declared.Phase.the-variants.{Formatting, Ready}
 use Rattle.protocol.specs.Reply.{answer, announced, copiedOut, looked, done, nothingToDo}
 use Rattle.protocol.specs.declared.Condition.the-variants.{NotCached, Clean, Dirty}
-use Rattle.record.specs.Record.{recordOf}
+use Rattle.record.specs.Record.{recordOf, withCallers}
 use Rattle.protocol.specs.declared.Stored.the-variants.{Nothing, Ssd, Hdd}
 use Rattle.protocol.specs.Box.{Box, ssdImage, hddImage}
 use Rattle.protocol.specs.Plan.{step, flush, offer, land, fetch, landFetch, lookUp, writeBack, lookUpList}
@@ -35,7 +35,7 @@ moves =
     move (lookUp (record { 0 = 1 })) (held (1 ∷ 1 ∷ 0 ∷ 0 ∷ []) 1 true [])
     (leaving (looked (Clean (record { 0 = 0 }))) none (held (1 ∷ 9 ∷ 0 ∷ 0 ∷ []) 1 true []))
     ∷ move (lookUp (record { 0 = 0 })) (held (1 ∷ 1 ∷ 0 ∷ 0 ∷ []) 1 true []) (leaving (looked NotCached) none (held (1 ∷ 1 ∷ 0 ∷ 0 ∷ []) 1 true []))
-    ∷ move (offer (record { 0 = 1 })) (held (1 ∷ 9 ∷ 0 ∷ 0 ∷ []) 1 true [])
+    ∷ move (offer (record { 0 = 1 }) 0) (held (1 ∷ 9 ∷ 0 ∷ 0 ∷ []) 1 true [])
     (leaving (announced (record { 0 = 0 }))
     (stores ssdImage 1 (metaPage (2 ∷ 0 ∷ 0 ∷ 0 ∷ 1 ∷ 0 ∷ []) (0 ∷ 0 ∷ 0 ∷ 0 ∷ []) (1 ∷ 0 ∷ 0 ∷ 0 ∷ 7 ∷ 0 ∷ 0 ∷ 0 ∷ [])))
     (held (1 ∷ 15 ∷ 0 ∷ 0 ∷ []) 2 false (record { 0 = 0 } ∷ [])))
@@ -51,10 +51,10 @@ moves =
     (leaving nothingToDo none (held (1 ∷ 11 ∷ 0 ∷ 0 ∷ []) 2 true []))
     ∷ move flush (held (1 ∷ 11 ∷ 0 ∷ 0 ∷ []) 2 false []) (leaving nothingToDo none (held (1 ∷ 11 ∷ 0 ∷ 0 ∷ []) 2 false []))
     -- a sweep of two used slots clears both flags, and takes the one under the hand; being dirty, it is copied out
-    ∷ move (fetch (record { 0 = 2 })) (held (1 ∷ 9 ∷ 0 ∷ 11 ∷ []) 2 false [])
+    ∷ move (fetch (record { 0 = 2 }) 0) (held (1 ∷ 9 ∷ 0 ∷ 11 ∷ []) 2 false [])
     (leaving copiedOut (stores hddImage 0 (filled 4)) (held (1 ∷ 1 ∷ 0 ∷ 1 ∷ []) 2 false []))
     -- an open slot is passed with its used flag
-    ∷ move (fetch (record { 0 = 2 })) (held (1 ∷ 9 ∷ 0 ∷ 15 ∷ []) 2 false (record { 0 = 1 } ∷ []))
+    ∷ move (fetch (record { 0 = 2 }) 0) (held (1 ∷ 9 ∷ 0 ∷ 15 ∷ []) 2 false (record { 0 = 1 } ∷ []))
     (leaving (announced (record { 0 = 0 }))
     (stores ssdImage 1
     (metaPage (3 ∷ 0 ∷ 0 ∷ 0 ∷ 2 ∷ 0 ∷ []) (1 ∷ 0 ∷ 0 ∷ 0 ∷ 0 ∷ 0 ∷ 0 ∷ 0 ∷ [])
@@ -79,7 +79,7 @@ wide =
     (leaving done (stores ssdImage 3 (filled 9))
     (four (5 ∷ 7 ∷ 6 ∷ 11 ∷ 7 ∷ 7 ∷ 0 ∷ 0 ∷ []) 3 3 Ready true (record { 0 = 0 } ∷ record { 0 = 2 } ∷ [])))
     -- from the hand on slot 1, which is used, the sweep goes on to slot 2
-    ∷ move (fetch (record { 0 = 7 })) (four (3 ∷ 1 ∷ 4 ∷ 9 ∷ 6 ∷ 1 ∷ 0 ∷ 0 ∷ []) 1 2 Ready false [])
+    ∷ move (fetch (record { 0 = 7 }) 0) (four (3 ∷ 1 ∷ 4 ∷ 9 ∷ 6 ∷ 1 ∷ 0 ∷ 0 ∷ []) 1 2 Ready false [])
     (leaving (announced (record { 0 = 2 }))
     (stores ssdImage 1
     (metaPage (3 ∷ 0 ∷ 0 ∷ 0 ∷ 1 ∷ 0 ∷ []) (2 ∷ 0 ∷ 0 ∷ 0 ∷ [])
@@ -163,6 +163,24 @@ named =
     ∷ names (lookUp (record { 0 = 1 })) (held (1 ∷ 3 ∷ 0 ∷ 0 ∷ []) 2 true []) Nothing
     ∷ []
 
+-- document 02, N7: a slot joins the window with its caller, and leaves it with its caller
+abbrev pub by : List ℕ → Box → Box
+by callers x = record { images = x .images; table = x .table; state = withCallers (x .state) callers }
+
+abbrev pub shared : List Case
+shared =
+    move (offer (record { 0 = 6 }) 1) (by (0 ∷ []) (four (5 ∷ 7 ∷ 6 ∷ 1 ∷ 0 ∷ 0 ∷ 0 ∷ 0 ∷ []) 2 2 Ready false (record { 0 = 0 } ∷ [])))
+    (leaving (announced (record { 0 = 1 }))
+    (stores ssdImage 1
+    (metaPage (3 ∷ 0 ∷ 0 ∷ 0 ∷ 2 ∷ 0 ∷ []) (0 ∷ 0 ∷ 0 ∷ 0 ∷ 1 ∷ 0 ∷ 0 ∷ 0 ∷ [])
+    (5 ∷ 0 ∷ 0 ∷ 0 ∷ 7 ∷ 0 ∷ 0 ∷ 0 ∷ 6 ∷ 0 ∷ 0 ∷ 0 ∷ 7 ∷ 0 ∷ 0 ∷ 0 ∷ [])))
+    (by (0 ∷ 1 ∷ []) (four (5 ∷ 7 ∷ 6 ∷ 7 ∷ 0 ∷ 0 ∷ 0 ∷ 0 ∷ []) 2 3 Ready false (record { 0 = 0 } ∷ record { 0 = 1 } ∷ []))))
+    ∷ move (land (record { 0 = 5 }) (filled 9))
+    (by (0 ∷ 1 ∷ []) (four (5 ∷ 7 ∷ 6 ∷ 7 ∷ 0 ∷ 0 ∷ 0 ∷ 0 ∷ []) 2 3 Ready false (record { 0 = 0 } ∷ record { 0 = 1 } ∷ [])))
+    (leaving done (stores ssdImage 2 (filled 9))
+    (by (1 ∷ []) (four (5 ∷ 11 ∷ 6 ∷ 7 ∷ 0 ∷ 0 ∷ 0 ∷ 0 ∷ []) 2 3 Ready true (record { 0 = 1 } ∷ []))))
+    ∷ []
+
 Moves : AllHold moves
 unfolding known
 Moves = (refl, (refl, (refl, (refl, (refl, (refl, (refl, (refl, (refl, (refl, (refl, tt)))))))))))
@@ -183,6 +201,10 @@ Listed : AllHold listed
 unfolding known
 Listed = Conditions first (refl, (refl, (refl, (refl, (refl, (refl, tt))))))
 
-pub Named : AllHold named
+Named : AllHold named
 unfolding known
 Named = Listed first (refl, (refl, (refl, tt)))
+
+pub Shared : AllHold shared
+unfolding known
+Shared = Named first (refl, (refl, tt))

@@ -7,10 +7,10 @@ use mathlib.Core.Option.{some, none}
 use lib.ListN.{replicate}
 use Rattle.record.specs.declared.Record.{Record}
 use Rattle.record.specs.declared.Phase.the-variants.{Formatting, Recovering, Ready}
-use Rattle.record.specs.Record.{recordOf}
+use Rattle.record.specs.Record.{recordOf, withCallers}
 use Rattle.protocol.specs.Box.{Box, Effect, refusing}
 use Rattle.protocol.specs.Plan.{Call, format, step, flush, offer, land, fetch, landFetch, lookUp, reopen, writeBack, lookUpList, ask, slotMap}
-use Rattle.protocol.specs.Judge.{windowFull, allOpen, labelFor, lengthsTest, lengthTest, judged, stampsSpent, badList}
+use Rattle.protocol.specs.Judge.{windowFull, allOpen, labelFor, lengthsTest, lengthTest, judged, stampsSpent, importFull, unknownCaller, badList}
 use Rattle.protocol.specs.Calls.{effectOf}
 use Rattle.protocol.proofs.cases.Report.{diskOf, filled, metaPage, labelPage}
 use Rattle.protocol.proofs.cases.Known.{Sized, known, effectKnown, effect-known}
@@ -37,10 +37,10 @@ unsettledAt newest = recordOf one (record { 0 = 0 }) newest Ready true []
 -- the last stamps, of an offer and of a fetch
 abbrev pub stamps : List Case
 stamps =
-    condition stampsSpent (offer (record { 0 = 0 })) (boxed (0 ∷ 0 ∷ []) (settledAt 4294967231)) false
-    ∷ condition stampsSpent (offer (record { 0 = 0 })) (boxed (0 ∷ 0 ∷ []) (settledAt 4294967232)) true
-    ∷ condition stampsSpent (fetch (record { 0 = 0 })) (boxed (0 ∷ 0 ∷ []) (settledAt 4294967231)) false
-    ∷ condition stampsSpent (fetch (record { 0 = 0 })) (boxed (0 ∷ 0 ∷ []) (settledAt 4294967232)) true
+    condition stampsSpent (offer (record { 0 = 0 }) 0) (boxed (0 ∷ 0 ∷ []) (settledAt 4294967231)) false
+    ∷ condition stampsSpent (offer (record { 0 = 0 }) 0) (boxed (0 ∷ 0 ∷ []) (settledAt 4294967232)) true
+    ∷ condition stampsSpent (fetch (record { 0 = 0 }) 0) (boxed (0 ∷ 0 ∷ []) (settledAt 4294967231)) false
+    ∷ condition stampsSpent (fetch (record { 0 = 0 }) 0) (boxed (0 ∷ 0 ∷ []) (settledAt 4294967232)) true
     ∷ []
 
 -- 62 open of 63 are not refused by 11, 63 are: a fetch, a clean and an uncached block; a dirty one is not
@@ -53,14 +53,14 @@ ofRows table = imageless (record { table = table; state = settledAt 0 })
 
 abbrev pub windows : List Case
 windows =
-    condition windowFull (offer (record { 0 = 99 })) (ofRows (openRowsFrom 0 62 ++ (0 ∷ 0 ∷ []))) false
-    ∷ condition windowFull (offer (record { 0 = 99 })) (ofRows (openRowsFrom 0 63)) true
-    ∷ condition windowFull (fetch (record { 0 = 99 })) (ofRows (openRowsFrom 0 62 ++ (0 ∷ 0 ∷ []))) false
-    ∷ condition windowFull (fetch (record { 0 = 99 })) (ofRows (openRowsFrom 0 63)) true
-    ∷ condition windowFull (offer (record { 0 = 99 })) (ofRows (openRowsFrom 0 63 ++ (99 ∷ 1 ∷ []))) true
-    ∷ condition windowFull (offer (record { 0 = 99 })) (ofRows (openRowsFrom 0 63 ++ (99 ∷ 3 ∷ []))) false
-    ∷ condition allOpen (offer (record { 0 = 99 })) (ofRows (openRowsFrom 0 62 ++ (0 ∷ 0 ∷ []))) false
-    ∷ condition allOpen (offer (record { 0 = 99 })) (ofRows (openRowsFrom 0 63)) true
+    condition windowFull (offer (record { 0 = 99 }) 0) (ofRows (openRowsFrom 0 62 ++ (0 ∷ 0 ∷ []))) false
+    ∷ condition windowFull (offer (record { 0 = 99 }) 0) (ofRows (openRowsFrom 0 63)) true
+    ∷ condition windowFull (fetch (record { 0 = 99 }) 0) (ofRows (openRowsFrom 0 62 ++ (0 ∷ 0 ∷ []))) false
+    ∷ condition windowFull (fetch (record { 0 = 99 }) 0) (ofRows (openRowsFrom 0 63)) true
+    ∷ condition windowFull (offer (record { 0 = 99 }) 0) (ofRows (openRowsFrom 0 63 ++ (99 ∷ 1 ∷ []))) true
+    ∷ condition windowFull (offer (record { 0 = 99 }) 0) (ofRows (openRowsFrom 0 63 ++ (99 ∷ 3 ∷ []))) false
+    ∷ condition allOpen (offer (record { 0 = 99 }) 0) (ofRows (openRowsFrom 0 62 ++ (0 ∷ 0 ∷ []))) false
+    ∷ condition allOpen (offer (record { 0 = 99 }) 0) (ofRows (openRowsFrom 0 63)) true
     ∷ []
 
 -- document 02, N6: lists of 0, 1, 64 and 65 blocks, and answer lists that are shorter and longer by one
@@ -148,10 +148,10 @@ abbrev pub call-refusals : List Case
 call-refusals =
     -- step when ready; block 2 of 2
     refusesBy 6 step (boxed (0 ∷ 0 ∷ []) (settledAt 0))
-    ∷ refusesBy 7 (offer (record { 0 = 2 })) (boxed (0 ∷ 0 ∷ []) (settledAt 0))
+    ∷ refusesBy 7 (offer (record { 0 = 2 }) 0) (boxed (0 ∷ 0 ∷ []) (settledAt 0))
     -- the block's slot is open
-    ∷ refusesBy 8 (offer (record { 0 = 0 })) (boxed (0 ∷ 7 ∷ []) (openAt 1))
-    ∷ refusesBy 8 (fetch (record { 0 = 0 })) (boxed (0 ∷ 7 ∷ []) (openAt 1))
+    ∷ refusesBy 8 (offer (record { 0 = 0 }) 0) (boxed (0 ∷ 7 ∷ []) (openAt 1))
+    ∷ refusesBy 8 (fetch (record { 0 = 0 }) 0) (boxed (0 ∷ 7 ∷ []) (openAt 1))
     ∷ refusesBy 8 (writeBack (record { 0 = 0 })) (boxed (0 ∷ 15 ∷ []) (openAt 1))
     -- land 1, uncached; landed on a clean row, and on one open for fetch; a fetch landed on a write
     ∷ refusesBy 9 (land (record { 0 = 1 }) (filled 9)) (boxed (0 ∷ 0 ∷ []) (settledAt 0))
@@ -159,14 +159,14 @@ call-refusals =
     ∷ refusesBy 9 (land (record { 0 = 0 }) (filled 9)) (boxed (0 ∷ 5 ∷ []) (openAt 1))
     ∷ refusesBy 9 (landFetch (record { 0 = 0 })) (boxed (0 ∷ 7 ∷ []) (openAt 1))
     -- fetch 0 when cached
-    ∷ refusesBy 10 (fetch (record { 0 = 0 })) (boxed (0 ∷ 3 ∷ []) (settledAt 1))
+    ∷ refusesBy 10 (fetch (record { 0 = 0 }) 0) (boxed (0 ∷ 3 ∷ []) (settledAt 1))
     -- it is being fetched (document 02, N9)
-    ∷ refusesBy 10 (fetch (record { 0 = 0 })) (boxed (0 ∷ 5 ∷ []) (openAt 1))
-    ∷ refusesBy 10 (fetch (record { 0 = 0 })) (boxed (0 ∷ 13 ∷ []) (openAt 1))
+    ∷ refusesBy 10 (fetch (record { 0 = 0 }) 0) (boxed (0 ∷ 5 ∷ []) (openAt 1))
+    ∷ refusesBy 10 (fetch (record { 0 = 0 }) 0) (boxed (0 ∷ 13 ∷ []) (openAt 1))
     -- the second offer on one slot
-    ∷ refusesBy 12 (offer (record { 0 = 1 })) (boxed (0 ∷ 7 ∷ []) (openAt 1))
+    ∷ refusesBy 12 (offer (record { 0 = 1 }) 0) (boxed (0 ∷ 7 ∷ []) (openAt 1))
     -- the last stamps
-    ∷ refusesBy 13 (offer (record { 0 = 0 })) (boxed (0 ∷ 0 ∷ []) (settledAt 4294967232))
+    ∷ refusesBy 13 (offer (record { 0 = 0 }) 0) (boxed (0 ∷ 0 ∷ []) (settledAt 4294967232))
     ∷ refusesBy 13 flush (boxed (0 ∷ 0 ∷ []) (unsettledAt 4294967295))
     ∷ []
 
@@ -175,7 +175,10 @@ abbrev pub edge-refusals : List Case
 edge-refusals =
     refusesBy 6 (lookUp (record { 0 = 0 })) (boxed (0 ∷ 0 ∷ []) (recordOf one (record { 0 = 0 }) 1 Recovering false (record { 0 = 0 } ∷ [])))
     ∷ refusesBy 7 (landFetch (record { 0 = 2 })) (boxed (0 ∷ 5 ∷ []) (openAt 1))
-    ∷ refusesBy 12 (fetch (record { 0 = 1 })) (boxed (0 ∷ 7 ∷ []) (openAt 1))
+    ∷ refusesBy 12 (fetch (record { 0 = 1 }) 0) (boxed (0 ∷ 7 ∷ []) (openAt 1))
+    -- block 2 of 2 from caller 2 (document 02, N7)
+    ∷ refusesBy 18 (offer (record { 0 = 2 }) 2) (boxed (0 ∷ 0 ∷ []) (settledAt 0))
+    ∷ refusesBy 18 (fetch (record { 0 = 2 }) 2) (boxed (0 ∷ 0 ∷ []) (settledAt 0))
     ∷ refusesBy 14 (ask (slotMap 66)) (boxed (0 ∷ 7 ∷ []) (openAt 1))
     ∷ refusesBy 6 (ask (slotMap 0)) (boxed (0 ∷ 0 ∷ []) (recordOf one (record { 0 = 0 }) 1 Recovering false (record { 0 = 0 } ∷ [])))
     ∷ []
@@ -187,6 +190,30 @@ list-refusals =
     ∷ refusesBy 16 (lookUpList (2 ∷ []) 2) (boxed (0 ∷ 1 ∷ []) (settledAt 1))
     ∷ refusesBy 7 (lookUpList (0 ∷ 1 ∷ 2 ∷ []) 3) (boxed (0 ∷ 1 ∷ []) (settledAt 1))
     ∷ refusesBy 7 (lookUpList (2 ∷ 1 ∷ 0 ∷ []) 3) (boxed (0 ∷ 1 ∷ []) (settledAt 1))
+    ∷ []
+
+-- document 02, N7: the import with 7, 8 and 9 open, and people with 8 of the import's; of a clean and a dirty block; a caller past the
+-- window's length does not count
+abbrev pub openBoth : ℕ → List ℕ → List ℕ → Box
+openBoth count callers table =
+    imageless (record { table = table; state = withCallers (recordOf one (record { 0 = 0 }) 0 Ready false (replicate count (record { 0 = 0 }))) callers })
+
+abbrev pub imports : List Case
+imports =
+    condition importFull (fetch (record { 0 = 99 }) 1) (openBoth 7 (replicate 7 1) []) false
+    ∷ condition importFull (fetch (record { 0 = 99 }) 1) (openBoth 8 (replicate 8 1) []) true
+    ∷ condition importFull (fetch (record { 0 = 99 }) 1) (openBoth 9 (replicate 9 1) []) true
+    ∷ condition importFull (fetch (record { 0 = 99 }) 1) (openBoth 9 (0 ∷ replicate 8 1) []) true
+    ∷ condition importFull (fetch (record { 0 = 99 }) 1) (openBoth 8 (0 ∷ replicate 7 1) []) false
+    ∷ condition importFull (fetch (record { 0 = 99 }) 0) (openBoth 8 (replicate 8 1) []) false
+    ∷ condition importFull (offer (record { 0 = 99 }) 1) (openBoth 8 (replicate 8 1) []) true
+    ∷ condition importFull (offer (record { 0 = 99 }) 1) (openBoth 8 (replicate 8 1) (99 ∷ 1 ∷ [])) true
+    ∷ condition importFull (offer (record { 0 = 99 }) 1) (openBoth 8 (replicate 8 1) (99 ∷ 3 ∷ [])) false
+    ∷ condition importFull (fetch (record { 0 = 99 }) 1) (openBoth 7 (replicate 8 1) []) false
+    ∷ condition unknownCaller (offer (record { 0 = 0 }) 0) (ofRows []) false
+    ∷ condition unknownCaller (offer (record { 0 = 0 }) 1) (ofRows []) false
+    ∷ condition unknownCaller (offer (record { 0 = 0 }) 2) (ofRows []) true
+    ∷ condition unknownCaller (fetch (record { 0 = 0 }) 2) (ofRows []) true
     ∷ []
 
 Stamps : AllHold stamps
@@ -201,9 +228,15 @@ Lengths : AllHold lengths
 unfolding known
 Lengths = Windows first (refl, (refl, (refl, (refl, (refl, (refl, tt))))))
 
+Imports : AllHold imports
+unfolding known
+Imports =
+    Lengths first
+    (refl, (refl, (refl, (refl, (refl, (refl, (refl, (refl, (refl, (refl, (refl, (refl, (refl, (refl, tt))))))))))))))
+
 Page-refusals : AllHold page-refusals
 unfolding known
-Page-refusals = Lengths first (refl, (refl, (refl, (refl, (refl, (refl, (refl, (refl, (refl, (refl, (refl, (refl, (refl, (refl, (refl, tt)))))))))))))))
+Page-refusals = Imports first (refl, (refl, (refl, (refl, (refl, (refl, (refl, (refl, (refl, (refl, (refl, (refl, (refl, (refl, (refl, tt)))))))))))))))
 
 pub sized-one : Sized one (fresh one (textOf 49 50) .images)
 unfolding known textOf
@@ -252,6 +285,8 @@ Edge-refusals : AllHold edge-refusals
 unfolding known textOf
 Edge-refusals =
     Call-refusals first counted _ _ _ _ refl refl
+    also counted _ _ _ _ refl refl
+    also counted _ _ _ _ refl refl
     also counted _ _ _ _ refl refl
     also counted _ _ _ _ refl refl
     also counted _ _ _ _ refl refl

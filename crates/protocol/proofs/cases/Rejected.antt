@@ -38,10 +38,10 @@ five = record { 0 = 5 }
 
 -- the box while it mends after a write that landed and was not flushed (P4), and after one that did not land (P3)
 unfoldable pub landedThenCut : Box
-landedThenCut = run (call (offer five) ∷ call (land five (filled 9)) ∷ lost usual ∷ []) (start usual) .box
+landedThenCut = run (call (offer five 0) ∷ call (land five (filled 9)) ∷ lost usual ∷ []) (start usual) .box
 
 unfoldable pub announcedThenCut : Box
-announcedThenCut = run (call (offer five) ∷ lost usual ∷ []) (start usual) .box
+announcedThenCut = run (call (offer five 0) ∷ lost usual ∷ []) (start usual) .box
 
 -- A box that loses a flushed page: the plain disk was fed the landing and a flush, but the box is the one whose flush stored nothing.
 unfoldable pub losesFlushed : World
@@ -77,7 +77,7 @@ mends-to-another S =
 -- A ready box that reads another page than the plain disk's.
 unfoldable pub readsAnother : World
 readsAnother = record {
-  box = run (call (offer five) ∷ call (land five (filled 9)) ∷ lost usual ∷ call step ∷ []) (start usual) .box;
+  box = run (call (offer five 0) ∷ call (land five (filled 9)) ∷ lost usual ∷ call step ∷ []) (start usual) .box;
   disk = durable (λ b. filled 9);
 }
 

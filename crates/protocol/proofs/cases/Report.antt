@@ -10,7 +10,7 @@ use Rattle.pages.specs.Pages.{padded}
 use Rattle.layout.specs.declared.Block.{Block}
 use Rattle.layout.specs.declared.Label.{Label}
 use Rattle.layout.specs.Places.{labelOf, metaPages, ssdLength, tableLength}
-use Rattle.record.specs.Record.{recordWith}
+use Rattle.record.specs.Record.{recordWith, putCallers}
 use Rattle.record.specs.declared.Record.{Record}
 use Rattle.record.specs.declared.Phase.{Phase}
 use Rattle.record.specs.declared.Phase.the-variants.{Recovering}
@@ -94,8 +94,10 @@ diskOf l = diskFrom 64 (l .blocks)
 abbrev pub rubbish : Label → Memory
 rubbish l = record {
   table = replicate (tableLength l) 4294967295;
-  state = recordWith (labelOf 0 16777217) (record { 0 = 57600 }) 4294967295 Recovering true
-      (record { slots = replicate 63 (record { 0 = 57601 }); count = 64 });
+  state = putCallers
+      (recordWith (labelOf 0 16777217) (record { 0 = 57600 }) 4294967295 Recovering true
+      (record { slots = replicate 63 (record { 0 = 57601 }); count = 64 }))
+      (replicate 63 4294967295);
 }
 
 -- "Cut means: lose record and table, reopen, mend": the first two; the steps of mending follow it in the scripts

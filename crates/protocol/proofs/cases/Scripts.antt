@@ -23,7 +23,7 @@ use Rattle.protocol.proofs.cases.Cases.{start-one, start-two, sized-usu
 abbrev pub both-open : Script
 both-open =
     scripted two (start two)
-    (call (offer (record { 0 = 2 })) ∷ call (fetch (record { 0 = 1 })) ∷ call (lookUp (record { 0 = 2 })) ∷ call
+    (call (offer (record { 0 = 2 }) 0) ∷ call (fetch (record { 0 = 1 }) 0) ∷ call (lookUp (record { 0 = 2 })) ∷ call
     (lookUp (record { 0 = 1 })) ∷ [])
     (record { 0 = 1 } ∷ record { 0 = 2 } ∷ [])
     (record {
@@ -75,8 +75,8 @@ panel =
 abbrev pub overwritten : Script
 overwritten =
     scripted one (start one)
-    (call (offer (record { 0 = 1 })) ∷ call (land (record { 0 = 1 }) (filled 9)) ∷ call flush ∷ call
-    (offer (record { 0 = 1 })) ∷ lost one ∷ [])
+    (call (offer (record { 0 = 1 }) 0) ∷ call (land (record { 0 = 1 }) (filled 9)) ∷ call flush ∷ call
+    (offer (record { 0 = 1 }) 0) ∷ lost one ∷ [])
     (record { 0 = 1 } ∷ [])
     (record {
       lines =
@@ -97,7 +97,7 @@ overwritten =
 abbrev pub unserved : Script
 unserved =
     scripted one (start one)
-    (call (offer (record { 0 = 1 })) ∷ lost one ∷ call (offer (record { 0 = 0 })) ∷ call (view (record { 0 = 1 })) ∷ call flush ∷ [])
+    (call (offer (record { 0 = 1 }) 0) ∷ lost one ∷ call (offer (record { 0 = 0 }) 0) ∷ call (view (record { 0 = 1 })) ∷ call flush ∷ [])
     (record { 0 = 1 } ∷ [])
     (record {
       lines =
@@ -133,9 +133,9 @@ clean-viewed =
 abbrev pub cuts : Script
 cuts =
     scripted one (start one)
-    (call (offer (record { 0 = 1 })) ∷ cut (land (record { 0 = 1 }) (filled 9)) new (rubbish one) ∷ call step ∷ call
-    (offer (record { 0 = 1 })) ∷ call (land (record { 0 = 1 }) (filled 9)) ∷ cut flush old (rubbish one) ∷ call step ∷ call
-    (offer (record { 0 = 1 })) ∷ call (land (record { 0 = 1 }) (filled 8)) ∷ cut flush new (rubbish one) ∷ [])
+    (call (offer (record { 0 = 1 }) 0) ∷ cut (land (record { 0 = 1 }) (filled 9)) new (rubbish one) ∷ call step ∷ call
+    (offer (record { 0 = 1 }) 0) ∷ call (land (record { 0 = 1 }) (filled 9)) ∷ cut flush old (rubbish one) ∷ call step ∷ call
+    (offer (record { 0 = 1 }) 0) ∷ call (land (record { 0 = 1 }) (filled 8)) ∷ cut flush new (rubbish one) ∷ [])
     (record { 0 = 1 } ∷ [])
     (record {
       lines =
@@ -161,8 +161,8 @@ cuts =
 abbrev pub edited : Script
 edited =
     scripted two (start two)
-    (call (offer (record { 0 = 0 })) ∷ call (land (record { 0 = 0 }) (filled 9)) ∷ call (fetch (record { 0 = 1 })) ∷ call
-    (landFetch (record { 0 = 1 })) ∷ call (offer (record { 0 = 2 })) ∷ [])
+    (call (offer (record { 0 = 0 }) 0) ∷ call (land (record { 0 = 0 }) (filled 9)) ∷ call (fetch (record { 0 = 1 }) 0) ∷ call
+    (landFetch (record { 0 = 1 })) ∷ call (offer (record { 0 = 2 }) 0) ∷ [])
     (record { 0 = 0 } ∷ [])
     (record {
       lines =
@@ -186,9 +186,9 @@ edited =
 abbrev pub mapped : Script
 mapped =
     scripted two (start two)
-    (call (fetch (record { 0 = 0 })) ∷ call (landFetch (record { 0 = 0 })) ∷ call (fetch (record { 0 = 1 })) ∷ call
+    (call (fetch (record { 0 = 0 }) 0) ∷ call (landFetch (record { 0 = 0 })) ∷ call (fetch (record { 0 = 1 }) 0) ∷ call
     (lookUpList (0 ∷ 2 ∷ 1 ∷ 0 ∷ []) 4) ∷ call (landFetch (record { 0 = 1 })) ∷ call (lookUpList [] 0) ∷ call
-    (offer (record { 0 = 2 })) ∷ [])
+    (offer (record { 0 = 2 }) 0) ∷ [])
     (record { 0 = 0 } ∷ [])
     (record {
       lines =

@@ -1,10 +1,10 @@
 -- A box that a list of events can reach, and how the crash argument sees it.
-use Prim.Native.Nat.{ℕ, _+_, _<_}
+use Prim.Native.Nat.{ℕ, _+_, _≤_, _<_}
 use mathlib.Core.Path.{_≡_}
 use mathlib.Core.Logic.{_≢_}
 use mathlib.Core.Bool.{Bool, true, false, cond}
 use mathlib.Core.List.{List, []}
-use lib.ListN.{length, getD}
+use lib.ListN.{length, getD, take}
 use lib.Dec.{ltb}
 use Rattle.pages.specs.Pages.{pageAt}
 use Rattle.layout.specs.declared.Slot.{Slot}
@@ -15,7 +15,8 @@ use Rattle.layout.specs.MetaPage.{stampOf}
 use Rattle.layout.specs.PageRule.{pageTest}
 use Rattle.record.specs.declared.Phase.{Phase}
 use Rattle.record.specs.declared.Phase.the-variants.{Recovering, Ready}
-use Rattle.record.specs.Record.{recordOf}
+use Rattle.record.specs.Callers.{openBy, namedPlaces, callersTest}
+use Rattle.record.specs.Record.{recordOf, putCallers}
 use Rattle.protocol.specs.Box.{Box}
 use Rattle.protocol.specs.Recovery.{metasOf, entryIn, newestOf}
 use Rattle.protocol.specs.ReferenceDisk.{Disk}
@@ -37,6 +38,7 @@ pub record Core : Type 0 where
   pub recovering : Bool
   pub unconfirmed : Bool
   pub window : List Slot
+  pub callers : List ℕ
 
 abbrev pub phaseFor : Bool → Phase
 phaseFor true = Recovering
@@ -46,7 +48,7 @@ abbrev pub boxOfCore : Label → Core → Box
 boxOfCore l k = record {
   images = record { ssd = k .ssd; hdd = k .hdd };
   table = k .table;
-  state = recordOf l (k .hand) (k .newest) (phaseFor (k .recovering)) (k .unconfirmed) (k .window);
+  state = putCallers (recordOf l (k .hand) (k .newest) (phaseFor (k .recovering)) (k .unconfirmed) (k .window)) (k .callers);
 }
 
 -- the stored entry of slot s
@@ -84,11 +86,17 @@ pub record ImagesKept (l : Label) (ssd hdd : List ℕ) : Type 0 where
   pub label-page : pageAt ssd 0 ≡ encodeLabel l
   pub pages : Pages l (metasOf l ssd)
 
+-- what the callers of a window's places keep, of which the crash argument sees nothing: number 3's rule, and few are the import's
+pub record CallersKept (recovering : Bool) (w : List Slot) (cs : List ℕ) : Type 0 where
+  pub rule : callersTest (namedPlaces (phaseFor recovering) (length w)) cs ≡ true
+  pub few : openBy 1 (take (length w) cs) ≤ 8
+
 pub record Shape (l : Label) (k : Core) : Type 0 where
   pub images : ImagesKept l (k .ssd) (k .hdd)
   pub table-size : length (k .table) ≡ tableLength l
   pub hand-ok : k .hand .0 < l .slots
   pub rows : Rows l (k .table)
+  pub callers : CallersKept (k .recovering) (k .window) (k .callers)
 
 -- table and window of a ready box are sound
 pub ready-sound : (l : Label) (k : Core) → Shape l k → (p : Plain) → model.Ready (abs l k) p → Sound l (k .table) (k .window)

@@ -2,10 +2,11 @@
 use Prim.Native.Nat.{ℕ, _*_, _≤_, _<_}
 use mathlib.Core.Path.{_≡_, refl, ap}
 use mathlib.Core.Bool.{Bool, true, false, not, _&&_, Bool·not-not}
+use mathlib.Core.Logic.{_≢_}
 use mathlib.Core.List.{List, [], _∷_}
 use native.Mathlib.Omega.{arith}
 use lib.Dec.{leb, ltb}
-use borrow.Author.Tests.{leb-true, le-leb, ltb-true, lt-ltb}
+use borrow.Author.Tests.{leb-true, le-leb, ltb-true, lt-ltb, eqb-true, eq-eqb}
 use Rattle.layout.specs.declared.Block.{Block}
 use Rattle.layout.specs.Places.{labelOf}
 use Rattle.layout.proofs.PlaceLaws.{within}
@@ -22,14 +23,14 @@ use Rattle.protocol.specs.Condition.{conditionOf, isOpen, isCached}
 use Rattle.protocol.specs.Plan.{Call, format, step, flush, reopen, offer, fetch, landFetch, lookUp, view, writeBack, land, lookUpList, ask, slotMap, plan, storesMeta}
 use Rattle.protocol.specs.Recovery.{labelAt, metasOf}
 use Rattle.protocol.specs.SlotMap.{mapLines, mapBytes}
-use Rattle.protocol.specs.Judge.{Reason, numberOf, lengthTest, rowsTest, isReady, test, chain}
-use Rattle.protocol.specs.Why.{BadRecord, BadLengths, BadRows, NotReady, TooHigh, SlotOpen, AllOpen, Spent, Lines, ShortSheet, Why, turns, inTurn}
+use Rattle.protocol.specs.Judge.{Reason, numberOf, lengthTest, rowsTest, isReady, importOpen, test, chain}
+use Rattle.protocol.specs.Why.{BadRecord, BadLengths, BadRows, NotReady, TooHigh, SlotOpen, ImportFull, UnknownCaller, AllOpen, Spent, Lines, ShortSheet, Why, turns, inTurn}
 use Rattle.protocol.proofs.why.Basics.{none-same, and-same, is-same}
 use Rattle.protocol.proofs.why.Records.{label-same, lengths-same, land-lengths-same}
 use Rattle.protocol.proofs.why.RowsRules.{each-same, rows-same}
 use Rattle.protocol.proofs.why.PagesRules.{pages-same}
 use Rattle.protocol.proofs.why.Slots.{cached-same, open-same, write-same, fetch-same, clean-same, writing-same, other-same}
-use Rattle.protocol.proofs.why.Counted.{count-same}
+use Rattle.protocol.proofs.why.Counted.{count-same, import-same}
 use Rattle.protocol.proofs.why.Lists.{bad-list-same, listed-some, any-high-same}
 
 -- tests in their order say numbers and conditions in theirs; a later one may rest on those before it, which do not hold where it is asked
@@ -53,6 +54,16 @@ ready-same (Formatting d) = (λ h. clash h refl, λ h. ap isReady h)
 
 step-same : (p : Phase) → not (not (isReady p)) ⇔ (p ≡ Ready)
 step-same p = rw Bool·not-not (ready-same p)
+
+-- 18
+caller-asked : (caller : ℕ) → ltb 1 caller ⇔ UnknownCaller caller
+caller-asked caller = (
+  λ h. let k = ltb-true 1 caller h in (λ e. absurd (omega arith), λ e. absurd (omega arith)),
+  λ h. lt-ltb 1 caller (other caller (h .0) (h .1)),
+)
+  where
+    other : (n : ℕ) → n ≢ 0 → n ≢ 1 → 1 < n
+    other n a b = omega arith
 
 -- what a service asks of the box
 module _ (x : Box) where
@@ -81,6 +92,10 @@ module _ (x : Box) where
         and-same (none-same (cached-same (x .table) b))
         (each-same _ (λ s k f. writing f ≡ true) (λ s k f. is-same (writing f)) (x .table))
 
+  -- and of its caller
+  import-asked : (caller : ℕ) → importOpen caller (x .state) ⇔ ImportFull caller x
+  import-asked caller = and-same (eqb-true caller 1, eq-eqb caller 1) (import-same 8 (x .state))
+
   stamps-asked : (n : ℕ) (c : Call) → (storesMeta (plan c x) && leb n (x .state .newest)) ⇔ Spent n c x
   stamps-asked n c = and-same (is-same (storesMeta (plan c x))) (most-same n (x .state .newest))
 
@@ -107,12 +122,14 @@ same reopen x =
 same step x =
     record-asked x ▸ lengths-asked x ▸ rows-asked x ▸ step-same (x .state .phase) ▸ stamps-asked x 4294967295 step ▸ end
 same flush x = record-asked x ▸ lengths-asked x ▸ rows-asked x ▸ phase-asked x ▸ stamps-asked x 4294967295 flush ▸ end
-same (offer b) x =
-    record-asked x ▸ lengths-asked x ▸ rows-asked x ▸ phase-asked x ▸ high-asked x b ▸ open-asked x b
-    ▸ and-same (clean-same (x .table) b) (count-same 63 (x .table)) ▸ all-asked x b ▸ stamps-asked x 4294967232 (offer b) ▸ end
-same (fetch b) x =
-    record-asked x ▸ lengths-asked x ▸ rows-asked x ▸ phase-asked x ▸ high-asked x b ▸ other-same (x .table) b
-    ▸ writing-same (x .table) b ▸ count-same 63 (x .table) ▸ all-asked x b ▸ stamps-asked x 4294967232 (fetch b) ▸ end
+same (offer b caller) x =
+    record-asked x ▸ lengths-asked x ▸ rows-asked x ▸ phase-asked x ▸ caller-asked caller ▸ high-asked x b ▸ open-asked x b
+    ▸ and-same (clean-same (x .table) b) (import-asked x caller) ▸ and-same (clean-same (x .table) b) (count-same 63 (x .table))
+    ▸ all-asked x b ▸ stamps-asked x 4294967232 (offer b caller) ▸ end
+same (fetch b caller) x =
+    record-asked x ▸ lengths-asked x ▸ rows-asked x ▸ phase-asked x ▸ caller-asked caller ▸ high-asked x b ▸ other-same (x .table) b
+    ▸ writing-same (x .table) b ▸ import-asked x caller ▸ count-same 63 (x .table) ▸ all-asked x b
+    ▸ stamps-asked x 4294967232 (fetch b caller) ▸ end
 same (landFetch b) x =
     record-asked x ▸ lengths-asked x ▸ rows-asked x ▸ phase-asked x ▸ high-asked x b ▸ none-same (fetch-same (x .table) b) ▸ end
 same (lookUp b) x = record-asked x ▸ lengths-asked x ▸ rows-asked x ▸ phase-asked x ▸ high-asked x b ▸ end
@@ -134,8 +151,8 @@ in-order (format slots blocks) x = refl
 in-order step x = refl
 in-order flush x = refl
 in-order reopen x = refl
-in-order (offer b) x = refl
-in-order (fetch b) x = refl
+in-order (offer b caller) x = refl
+in-order (fetch b caller) x = refl
 in-order (landFetch b) x = refl
 in-order (lookUp b) x = refl
 in-order (view b) x = refl

@@ -34,7 +34,7 @@ unfolding perform confirmed
 stored (stay p) x = nothing
 stored (uses s p) x = nothing
 stored (usesAll ss) x = nothing
-stored (opens s b f t h) x = metadata (metaOf s) (windowIn (joined s h (x .state))) (rowsOn (metaOf s) (setRow t s b f))
+stored (opens s b c f t h) x = metadata (metaOf s) (windowIn (joined s c h (x .state))) (rowsOn (metaOf s) (setRow t s b f))
 stored (lands w s page) x = slotPage s page
 stored (copies s p t h) x = diskPage (blockPlace (labelIn (x .state)) (rowBlock t s))
     (pageAt (x .images .ssd) (dataPlace (labelIn (x .state)) s))

@@ -36,6 +36,7 @@ use Rattle.protocol.specs.Calls.{decided, effectOf, resultOf}
 use Rattle.protocol.specs.Events.{steps, formatted}
 use Rattle.protocol.specs.Beside.{WholeFormat}
 use Rattle.record.proofs.WindowLaws.{length-array, zero-past}
+use Rattle.record.proofs.CallerLaws.{zeros-test}
 use Rattle.protocol.proofs.refine.Tables.{each-of}
 use Rattle.protocol.proofs.Judged.{passed, accepted}
 
@@ -110,7 +111,7 @@ module _ (l : Label) (ssd hdd : List ℕ) (d : ℕ) (L : Limits l) (hs : length 
     length-array [] (omega arith),
     no-window l (Formatting d),
     zero-past [],
-  )
+  ) (zeros-test (Formatting d) 0)
 
   length-pass : lengthTest l (record { ssd = ssd; hdd = hdd }) (freeTable l) ≡ true
   unfolding lengthTest lengthsTest

@@ -36,6 +36,7 @@ use Rattle.theorem.proofs.refine.ReadyCalls.{calledAs, called-as, world
 use Rattle.theorem.proofs.refine.Reopens.{reopenedCore, reopen-judged, reopen-box, reopen-shape, reopen-abs}
 use Rattle.theorem.proofs.refine.Passes.{mending-left, step-judged, pending-rule, some-pending}
 use Rattle.theorem.proofs.refine.Views.{read-view}
+use Rattle.protocol.proofs.refine.Callers.{mended-kept}
 use Rattle.protocol.proofs.refine.Abstract.{Core, phaseFor, boxOfCore, abs, ImagesKept, Shape, Agrees, Phased, is-ready, is-mending, Inv}
 
 -- the images of either phase
@@ -133,7 +134,7 @@ fewer w e =
 abbrev pub mendedCore : Core → Core
 mendedCore k =
     let q = lowestPage (k .window) in
-    storedCore k (k .table) (k .hand) (offPage q (k .window)) q (not (isEmpty (offPage q (k .window))))
+    storedCore k (k .table) (k .hand) (offPage q (k .window)) (k .callers) q (not (isEmpty (offPage q (k .window))))
 
 module _ (l : Label) (k : Core) (S : Shape l k) (p : Plain) (M : Mending (abs l k) p) (on : k .recovering ≡ true) where
   pend : Pending (k .window) (lowestPage (k .window))
@@ -165,16 +166,16 @@ module _ (l : Label) (k : Core) (S : Shape l k) (p : Plain) (M : Mending (abs l 
   pub mended-core-shape : Shape l (mendedCore k)
   mended-core-shape =
       stored-shape l k S newest-is (mending-left l k S p M on) (k .table) (S .table-size) (S .rows) (k .hand) (S .hand-ok) _ rest-rule
-      (lowestPage (k .window)) on-page _
+      (k .callers) (lowestPage (k .window)) on-page _ (mended-kept (rw on at (S .callers)) _ _)
 
   pub mended-core-abs : abs l (mendedCore k) ≡ mended (lowestPage (k .window)) (abs l k)
   mended-core-abs =
       mended-abs l k S newest-is (mending-left l k S p M on) (k .table) (S .table-size) (S .rows) (k .hand) (S .hand-ok) _ rest-rule
-      (lowestPage (k .window)) on-page _ refl refl refl
+      (k .callers) (lowestPage (k .window)) on-page _ refl refl refl
 
   pub step-plan : plan step (boxOfCore l k) ≡ mends (lowestPage (k .window))
   unfolding plan
-  step-plan = rw (on, window-in l (k .hand) (k .newest) (phaseFor true) (k .unconfirmed) (k .window))
+  step-plan = rw (on, window-in l (k .hand) (k .newest) (phaseFor true) (k .unconfirmed) (k .window) (k .callers))
 
   mends-as : (d : Disk) (q : ℕ) → calledAs step (perform (mends q) (boxOfCore l k)) (worldOf l k d) ≡ finishedWorld (after l k (mends q)) d
   unfolding calledAs perform confirmed

@@ -64,7 +64,7 @@ module _ (l : Label) (k : Core) (S : Shape l k) (W : Window (l .slots) (nums (k 
   steps-pass false = refl
 
   window-is : windowIn (boxOfCore l k .state) ≡ k .window
-  window-is = window-in l (k .hand) (k .newest) (phaseFor (k .recovering)) (k .unconfirmed) (k .window)
+  window-is = window-in l (k .hand) (k .newest) (phaseFor (k .recovering)) (k .unconfirmed) (k .window) (k .callers)
 
   core-legal : Legal (boxOfCore l k)
   core-legal = record {
@@ -73,6 +73,7 @@ module _ (l : Label) (k : Core) (S : Shape l k) (W : Window (l .slots) (nums (k 
     steps = steps-pass (k .recovering);
     count-is = sym (ap length window-is);
     array-is = sym (ap arrayOf window-is);
+    named = S .callers .rule;
     window-rule = rw window-is W;
     ssd-size = S .images .ssd-size;
     hdd-size = S .images .hdd-size;

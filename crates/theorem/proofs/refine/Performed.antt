@@ -6,7 +6,7 @@ use mathlib.Core.List.{List, [], _∷_, _++_}
 use native.Mathlib.Omega.{arith}
 use native.Mathlib.Numerals.{add-one}
 use native.Mathlib.Decide.{ℕ-discrete}
-use lib.ListN.{length, getD, set, length-set}
+use lib.ListN.{length, getD, set, take, length-set}
 use lib.Dec.{eqb}
 use Rattle.pages.specs.Pages.{pageAt, putPage}
 use Rattle.pages.proofs.PageLaws.{length-page}
@@ -19,8 +19,9 @@ use Rattle.record.specs.declared.Record.{Record}
 use Rattle.record.specs.declared.Phase.{Phase}
 use Rattle.protocol.specs.Reply.{Reply}
 use Rattle.protocol.specs.Rows.{rowFlags, setFlags, setRow, valid, dirty, writing, withUsed, withoutDirty}
-use Rattle.record.specs.Record.{windowIn, recordOf, largestStamp}
-use Rattle.record.specs.Window.{without}
+use Rattle.record.specs.Callers.{callerArray}
+use Rattle.record.specs.Record.{windowIn, callersIn, recordOf, putCallers, largestStamp}
+use Rattle.record.specs.Window.{without, beside}
 use Rattle.protocol.specs.Box.{Box, left, boxAfter}
 use Rattle.protocol.specs.Recovery.{metasOf, Newest, newestOf, phaseOf, offPage}
 use Rattle.protocol.specs.Plan.{Move, uses, usesAll, opens, lands, copies, confirms, mends}
@@ -36,7 +37,7 @@ use Rattle.protocol.proofs.refine.Flags.{rowOf, Changed, changed-row, changed-c
 use Rattle.protocol.proofs.refine.Tables.{rowAt, Rows, flags-at, flags-rows, at-open, at-block}
 use Rattle.protocol.proofs.refine.Sweeps.{Alike, alike-flags, alike-same}
 use Rattle.theorem.proofs.refine.Stores.{put-kept, put-entry, put-newest, put-page, data-kept, data-metas, data-page, disk-kept, disk-page}
-use Rattle.protocol.proofs.refine.Abstract.{Core, phaseFor, boxOfCore, entryRow, abs, Shape}
+use Rattle.protocol.proofs.refine.Abstract.{Core, phaseFor, boxOfCore, entryRow, abs, CallersKept, Shape}
 
 -- the box that a move leaves
 abbrev pub after : Label → Core → Move → Box
@@ -53,6 +54,7 @@ tabled k v hand = record {
   recovering = k .recovering;
   unconfirmed = k .unconfirmed;
   window = k .window;
+  callers = k .callers;
 }
 
 module _ (l : Label) (k : Core) (S : Shape l k) where
@@ -75,7 +77,7 @@ module _ (l : Label) (k : Core) (S : Shape l k) where
       }
 
   pub tabled-shape : (v : List ℕ) (hand : Slot) → Alike l (k .table) v → hand .0 < l .slots → Shape l (tabled k v hand)
-  tabled-shape v hand A h = record { images = S .images; table-size = A .size; hand-ok = h; rows = A .legal }
+  tabled-shape v hand A h = record { images = S .images; table-size = A .size; hand-ok = h; rows = A .legal; callers = S .callers }
 
   -- a look-up sets a used flag
   pub uses-box : (s : ℕ) (said : Reply) → after l k (uses (record { 0 = s }) said) ≡ boxOfCore l
@@ -92,9 +94,9 @@ module _ (l : Label) (k : Core) (S : Shape l k) where
   uses-alike s h v =
       alike-flags l (k .table) (k .table) (alike-same l (k .table) (S .table-size) (S .rows)) s _ h (changed-used (S .rows s h .flags) _ v)
 
--- a metadata store: page p, of the table v, with the window w
-abbrev pub storedCore : Core → List ℕ → Slot → List Slot → ℕ → Bool → Core
-storedCore k v hand w p r = record {
+-- a metadata store: page p, of the table v, with the window w, whose places have these callers
+abbrev pub storedCore : Core → List ℕ → Slot → List Slot → List ℕ → ℕ → Bool → Core
+storedCore k v hand w cs p r = record {
   ssd = putPage (k .ssd) (1 + p) (encodeMeta (k .newest + 1) w (rowsOn p v));
   hdd = k .hdd;
   table = v;
@@ -103,6 +105,7 @@ storedCore k v hand w p r = record {
   recovering = r;
   unconfirmed = false;
   window = w;
+  callers = cs;
 }
 
 module _
@@ -118,6 +121,7 @@ module _
     (hand-ok : hand .0 < l .slots)
     (w : List Slot)
     (W : Window (l .slots) (nums w))
+    (cs : List ℕ)
     (p : ℕ)
     (p-page : p < metaPages l)
     (r : Bool)
@@ -128,12 +132,13 @@ module _
     fits : k .newest + 1 < 2 ^ 32
     fits = omega arith
 
-    pub stored-shape : Shape l (storedCore k v hand w p r)
-    stored-shape = record {
+    pub stored-shape : CallersKept r w cs → Shape l (storedCore k v hand w cs p r)
+    stored-shape C = record {
       images = put-kept l (k .ssd) (k .hdd) (S .images) v size R (k .newest + 1) fits newer w W p p-page;
       table-size = size;
       hand-ok = hand-ok;
       rows = R;
+      callers = C;
     }
 
     ents : (s : ℕ) → entryRow l (metasOf l (putPage (k .ssd) (1 + p) (encodeMeta (k .newest + 1) w (rowsOn p v)))) s ≡ cond (eqb (s / 240) p)
@@ -148,7 +153,7 @@ module _
         record { stamp = k .newest + 1; window = w }
     news = put-newest l (k .ssd) (k .hdd) (S .images) v size R (k .newest + 1) fits newer w W p p-page
 
-    pub stored-abs : r ≡ k .recovering → abs l (storedCore k v hand w p r) ≡ stored p (rowAt v) (nums w) (abs l k)
+    pub stored-abs : r ≡ k .recovering → abs l (storedCore k v hand w cs p r) ≡ stored p (rowAt v) (nums w) (abs l k)
     unfolding abs stored metaNo
     stored-abs e =
         same-path _ _ record {
@@ -167,7 +172,7 @@ module _
         }
 
     pub mended-abs : v ≡ k .table → w ≡ offPage p (k .window) → r ≡ not (isEmpty (offPage p (k .window)))
-        → abs l (storedCore k v hand w p r) ≡ mended p (abs l k)
+        → abs l (storedCore k v hand w cs p r) ≡ mended p (abs l k)
     unfolding abs mended metaNo
     mended-abs ev ew e =
         same-path _ _ record {
@@ -186,37 +191,41 @@ module _
         }
 
 -- what a metadata store leaves, with the window of the record and that of the page
-abbrev twoWindows : Label → Core → List ℕ → Slot → ℕ → Phase → List Slot → List Slot → Box
-twoWindows l k v hand p ph w z = record {
+abbrev twoWindows : Label → Core → List ℕ → Slot → ℕ → Phase → List ℕ → List Slot → List Slot → Box
+twoWindows l k v hand p ph cs w z = record {
   images = record { ssd = putPage (k .ssd) (1 + p) (encodeMeta (k .newest + 1) z (rowsOn p v)); hdd = k .hdd };
   table = v;
-  state = recordOf l hand (k .newest + 1) ph false w;
+  state = putCallers (recordOf l hand (k .newest + 1) ph false w) cs;
 }
 
 -- an offer or a fetch opens a slot
-pub opens-box : (l : Label) (k : Core) (s b f : ℕ) (v : List ℕ) (hand : Slot)
-    → after l k (opens (record { 0 = s }) (record { 0 = b }) f v hand)
-    ≡ boxOfCore l (storedCore k (setRow v (record { 0 = s }) (record { 0 = b }) f) hand (k .window ++ (record { 0 = s } ∷ [])) (s / 240)
-    (k .recovering))
-unfolding perform confirmed
-opens-box l k s b f v hand =
+abbrev pub joinedCallers : Core → ℕ → List ℕ
+joinedCallers k c = callerArray (take (length (k .window)) (k .callers) ++ (c ∷ []))
+
+pub opens-box : (l : Label) (k : Core) (s b c f : ℕ) (v : List ℕ) (hand : Slot)
+    → after l k (opens (record { 0 = s }) (record { 0 = b }) c f v hand)
+    ≡ boxOfCore l (storedCore k (setRow v (record { 0 = s }) (record { 0 = b }) f) hand (k .window ++ (record { 0 = s } ∷ []))
+    (joinedCallers k c) (s / 240) (k .recovering))
+unfolding perform confirmed callersIn
+opens-box l k s b c f v hand =
     let v′ : List ℕ = setRow v (record { 0 = s }) (record { 0 = b }) f in
     let ph : Phase = phaseFor (k .recovering) in
     let join : List Slot → List Slot = λ w. w ++ (record { 0 = s } ∷ []) in
-    ap (λ (w : List Slot). twoWindows l k v′ hand (s / 240) ph (join w)
-    (windowIn (recordOf l hand (k .newest) ph (k .unconfirmed) (join w))))
-    (window-in l (k .hand) (k .newest) ph (k .unconfirmed) (k .window))
-    ∙ ap (λ (z : List Slot). twoWindows l k v′ hand (s / 240) ph (join (k .window)) z)
-    (window-in l hand (k .newest) ph (k .unconfirmed) (join (k .window)))
+    let cs : List ℕ = joinedCallers k c in
+    ap (λ (w : List Slot). twoWindows l k v′ hand (s / 240) ph cs (join w)
+    (windowIn (putCallers (recordOf l hand (k .newest) ph (k .unconfirmed) (join w)) cs)))
+    (window-in l (k .hand) (k .newest) ph (k .unconfirmed) (k .window) (k .callers))
+    ∙ ap (λ (z : List Slot). twoWindows l k v′ hand (s / 240) ph cs (join (k .window)) z)
+    (window-in l hand (k .newest) ph (k .unconfirmed) (join (k .window)) cs)
 
 -- a flush stores page 0
 pub confirms-box : (l : Label) (k : Core)
-    → after l k confirms ≡ boxOfCore l (storedCore k (k .table) (k .hand) (k .window) 0 (k .recovering))
+    → after l k confirms ≡ boxOfCore l (storedCore k (k .table) (k .hand) (k .window) (k .callers) 0 (k .recovering))
 unfolding perform confirmed
 confirms-box l k =
     let ph : Phase = phaseFor (k .recovering) in
-    ap (λ (z : List Slot). twoWindows l k (k .table) (k .hand) 0 ph (k .window) z)
-    (window-in l (k .hand) (k .newest) ph (k .unconfirmed) (k .window))
+    ap (λ (z : List Slot). twoWindows l k (k .table) (k .hand) 0 ph (k .callers) (k .window) z)
+    (window-in l (k .hand) (k .newest) ph (k .unconfirmed) (k .window) (k .callers))
 
 pub phase-empty : (w : List Slot) → phaseOf w ≡ phaseFor (not (isEmpty w))
 phase-empty [] = refl
@@ -224,23 +233,27 @@ phase-empty (s ∷ w) = refl
 
 -- a mending step
 pub mends-box : (l : Label) (k : Core) (p : ℕ)
-    → after l k (mends p) ≡ boxOfCore l (storedCore k (k .table) (k .hand) (offPage p (k .window)) p
+    → after l k (mends p) ≡ boxOfCore l (storedCore k (k .table) (k .hand) (offPage p (k .window)) (k .callers) p
     (not (isEmpty (offPage p (k .window)))))
 unfolding perform confirmed
 mends-box l k p =
     let ph : Phase = phaseFor (k .recovering) in
     let rest : List Slot = offPage p (k .window) in
-    ap (λ (w : List Slot). twoWindows l k (k .table) (k .hand) p (phaseOf (offPage p w)) (offPage p w)
-    (windowIn (recordOf l (k .hand) (k .newest) (phaseOf (offPage p w)) (k .unconfirmed) (offPage p w))))
-    (window-in l (k .hand) (k .newest) ph (k .unconfirmed) (k .window))
-    ∙ ap (λ (z : List Slot). twoWindows l k (k .table) (k .hand) p (phaseOf rest) rest z)
-    (window-in l (k .hand) (k .newest) (phaseOf rest) (k .unconfirmed) rest)
-    ∙ ap (λ (q : Phase). twoWindows l k (k .table) (k .hand) p q rest rest) (phase-empty rest)
+    ap (λ (w : List Slot). twoWindows l k (k .table) (k .hand) p (phaseOf (offPage p w)) (k .callers) (offPage p w)
+    (windowIn (putCallers (recordOf l (k .hand) (k .newest) (phaseOf (offPage p w)) (k .unconfirmed) (offPage p w)) (k .callers))))
+    (window-in l (k .hand) (k .newest) ph (k .unconfirmed) (k .window) (k .callers))
+    ∙ ap (λ (z : List Slot). twoWindows l k (k .table) (k .hand) p (phaseOf rest) (k .callers) rest z)
+    (window-in l (k .hand) (k .newest) (phaseOf rest) (k .unconfirmed) rest (k .callers))
+    ∙ ap (λ (q : Phase). twoWindows l k (k .table) (k .hand) p q (k .callers) rest rest) (phase-empty rest)
 
 -- a landing: the page and the row's flags; of an open slot the window and unsettled too
 abbrev pub leftWindow : Bool → ℕ → List Slot → List Slot
 leftWindow true s w = without (record { 0 = s }) w
 leftWindow false s w = w
+
+abbrev pub leftCallers : Bool → ℕ → List Slot → List ℕ → List ℕ
+leftCallers true s w cs = callerArray (beside (record { 0 = s }) w (take (length w) cs))
+leftCallers false s w cs = cs
 
 abbrev pub leftUnconfirmed : Bool → Bool → Bool
 leftUnconfirmed true u = true
@@ -256,11 +269,12 @@ landedCore o write l k s d = record {
   recovering = k .recovering;
   unconfirmed = leftUnconfirmed o (k .unconfirmed);
   window = leftWindow o s (k .window);
+  callers = leftCallers o s (k .window) (k .callers);
 }
 
 pub lands-box : (l : Label) (k : Core) (s : ℕ) (d : List ℕ) (o write : Bool) → writing (getD (k .table) (2 * s + 1) 0) ≡ o
     → after l k (lands write (record { 0 = s }) d) ≡ boxOfCore l (landedCore o write l k s d)
-unfolding perform
+unfolding perform callersIn
 lands-box l k s d o write e = ap (λ (b : Bool). landing (landedState b (record { 0 = s }) (boxOfCore l k .state))) e ∙ by o
   where
     landing : Record → Box
@@ -271,11 +285,12 @@ lands-box l k s d o write e = ap (λ (b : Bool). landing (landedState b (record 
     }
 
     closing : List Slot → Record
-    closing w = recordOf l (k .hand) (k .newest) (phaseFor (k .recovering)) true (without (record { 0 = s }) w)
+    closing w = putCallers (recordOf l (k .hand) (k .newest) (phaseFor (k .recovering)) true (without (record { 0 = s }) w))
+        (callerArray (beside (record { 0 = s }) w (take (length (k .window)) (k .callers))))
 
     by : (o : Bool) → landing (landedState o (record { 0 = s }) (boxOfCore l k .state)) ≡ boxOfCore l (landedCore o write l k s d)
     by true = ap (λ (w : List Slot). landing (closing w))
-        (window-in l (k .hand) (k .newest) (phaseFor (k .recovering)) (k .unconfirmed) (k .window))
+        (window-in l (k .hand) (k .newest) (phaseFor (k .recovering)) (k .unconfirmed) (k .window) (k .callers))
     by false = refl
 
 module _
@@ -293,12 +308,14 @@ module _
         (shut (rowOf (getD (k .table) (2 * s) 0) (getD (k .table) (2 * s + 1) 0 % 8)))
     landed-row = changed-landed write (S .rows s s-slot .flags) _ is-valid
 
-    pub lands-shape : (o : Bool) → Shape l (landedCore o write l k s d)
-    lands-shape o = record {
+    pub lands-shape : (o : Bool) → CallersKept (k .recovering) (leftWindow o s (k .window)) (leftCallers o s (k .window) (k .callers))
+        → Shape l (landedCore o write l k s d)
+    lands-shape o C = record {
       images = data-kept l (k .ssd) (k .hdd) (S .images) s s-slot d d-size;
       table-size = length-set (k .table) (2 * s + 1) _ ∙ S .table-size;
       hand-ok = S .hand-ok;
       rows = flags-rows l (k .table) (S .table-size) s _ s-slot (S .rows) (changed-row (S .rows s s-slot) landed-row);
+      callers = C;
     }
 
     landed-metas : metasOf l (putPage (k .ssd) (1 + metaPages l + s) d) ≡ metasOf l (k .ssd)
@@ -347,6 +364,7 @@ copiedCore l k s v hand = record {
   recovering = k .recovering;
   unconfirmed = k .unconfirmed;
   window = k .window;
+  callers = k .callers;
 }
 
 pub copies-box : (l : Label) (k : Core) (s : ℕ) (said : Reply) (v : List ℕ) (hand : Slot)
@@ -383,6 +401,7 @@ module _
       table-size = length-set v (2 * s + 1) _ ∙ A .size;
       hand-ok = hand-ok;
       rows = flags-rows l v (A .size) s _ s-slot (A .legal) (changed-row (A .legal s s-slot) clean-row);
+      callers = S .callers;
     }
 
     block-is : blockOf (rowAt (k .table) s) ≡ getD v (2 * s) 0

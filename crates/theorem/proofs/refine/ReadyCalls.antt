@@ -23,7 +23,7 @@ use Rattle.protocol.specs.Recovery.{metasOf, newestOf}
 use Rattle.protocol.specs.Plan.{Call, Move, stay, uses, usesAll, opens, lands, copies, confirms}
 use Rattle.protocol.specs.Kinds.{Aim, aService, kind}
 use Rattle.protocol.specs.Perform.{confirmed, usedAll, perform}
-use Rattle.record.specs.Record.{largestStamp}
+use Rattle.record.specs.Record.{callersIn, largestStamp}
 use Rattle.protocol.specs.Judge.{Reason, judged, isReady}
 use Rattle.protocol.specs.Calls.{decided, effectOf}
 use Rattle.protocol.specs.ReferenceDisk.{Disk, durable, written, fedCall, fed}
@@ -34,15 +34,16 @@ use Rattle.protocol.proofs.model.Model.{Row, Plain, dirtyRow, openRow, blockOf,
 use Rattle.protocol.proofs.model.Rows.{dirty-valid}
 use Rattle.theorem.proofs.model.Moves.{Opens, Copies, Lands, landing as modelLanding, opens-ready, copies-ready, lands-ready, fetch-ready}
 use Rattle.theorem.proofs.model.Flushed.{flushed-ready, settled-ready}
-use Rattle.protocol.proofs.refine.Windows.{nums, nums-append, nums-one, distinct-nums}
+use Rattle.protocol.proofs.refine.Windows.{nums, length-nums, nums-append, nums-one, distinct-nums}
 use Rattle.protocol.proofs.refine.Flags.{rowOf}
 use Rattle.protocol.proofs.refine.Tables.{rowAt, set-at, at-open, at-block, at-valid, at-dirty}
 use Rattle.protocol.proofs.refine.Sweeps.{Alike}
 use Rattle.protocol.proofs.refine.Conditions.{Held, is-dirty}
 use Rattle.protocol.proofs.Sound.{Sound, writing-is, room}
 use Rattle.protocol.proofs.Does.{Absent, Opening, Copying, Quiet, Does, does-nothing, does-use, does-use-all, does-open, does-copy, does-land, does-fetch, does-rest, does-confirm, opening-sound}
-use Rattle.theorem.proofs.refine.Performed.{after, tabled-abs, tabled-shape, uses-box, all-box, uses-alike, storedCore, stored-shape, stored-abs, opens-box, confirms-box, landedCore, lands-box, lands-shape, lands-abs, copiedCore, copies-box, copies-shape, copies-abs}
-use Rattle.protocol.proofs.refine.Abstract.{Core, boxOfCore, abs, Shape, ready-sound, Agrees, is-ready, Inv}
+use Rattle.theorem.proofs.refine.Performed.{after, tabled-abs, tabled-shape, uses-box, all-box, uses-alike, storedCore, stored-shape, stored-abs, joinedCallers, opens-box, confirms-box, leftWindow, leftCallers, landedCore, lands-box, lands-shape, lands-abs, copiedCore, copies-box, copies-shape, copies-abs}
+use Rattle.protocol.proofs.refine.Abstract.{Core, boxOfCore, abs, CallersKept, Shape, ready-sound, Agrees, is-ready, Inv}
+use Rattle.protocol.proofs.refine.Callers.{joined-kept, left-kept}
 
 -- a call that did this
 unfoldable pub calledAs : Call → Effect → World → World
@@ -88,6 +89,9 @@ module _ (l : Label) (k : Core) (S : Shape l k) (p : Plain) (R : model.Ready (ab
   fresh-row {s} (inr H) t n v e = let r = held-row H in n (R .once t s v (r .0) (e ∙ sym (r .1)))
 
 module _ (l : Label) (k : Core) (S : Shape l k) (d : Disk) (p : Plain) (A : Agrees l d p) (R : model.Ready (abs l k) p) where
+  on : k .recovering ≡ false
+  on = unfold abs in R .phase
+
   -- a service that leaves this core
   module _ (c : Call) {a : Aim} (K : kind c ≡ aService a) where
     next : (v : Move) (k′ : Core) (p′ : Plain) → refused (perform v (boxOfCore l k) .said) ≡ false → after l k v ≡ boxOfCore l k′
@@ -129,7 +133,8 @@ module _ (l : Label) (k : Core) (S : Shape l k) (d : Disk) (p : Plain) (A : Agre
         (rw (tabled-abs l k S _ (k .hand) T) R)
 
     -- a slot is opened
-    module _ (z : Quiet a) {s : Slot} {b : Block} {f : ℕ} {v : List ℕ} {hand : Slot} (O : Opening (boxOfCore l k) s b f v hand) where
+    module _ (z : Quiet a) {s : Slot} {b : Block} {by f : ℕ} {v : List ℕ} {hand : Slot}
+        (O : Opening (boxOfCore l k) s b by f v hand) where
       v′ : List ℕ
       v′ = setRow v s b f
 
@@ -144,7 +149,7 @@ module _ (l : Label) (k : Core) (S : Shape l k) (d : Disk) (p : Plain) (A : Agre
       left-over = omega (arith, O .stamps)
 
       core′ : Core
-      core′ = storedCore k v′ hand w′ (s .0 / 240) (k .recovering)
+      core′ = storedCore k v′ hand w′ (joinedCallers k by) (s .0 / 240) (k .recovering)
 
       row′ : (u : ℕ) → rowAt v′ u ≡ upd (rowAt (k .table)) (s .0) (rowOf (b .0) (f % 8)) u
       unfolding v′ upd
@@ -155,16 +160,23 @@ module _ (l : Label) (k : Core) (S : Shape l k) (d : Disk) (p : Plain) (A : Agre
       unfolding w′
       win′ = nums-append (k .window) (s ∷ []) ∙ ap (λ (r : List ℕ). nums (k .window) ++ r) (nums-one s)
 
+      kept : CallersKept (k .recovering) w′ (joinedCallers k by)
+      unfolding w′ callersIn
+      kept =
+          let open-few = room (ready-sound l k S p R) (O .few) in
+          let few : length (k .window) < 63 = omega (arith, open-few, length-nums (k .window)) in
+          rw on (joined-kept (rw on at (S .callers)) (omega arith) s by few (O .known) (O .import-few))
+
       shape′ : Shape l core′
       unfolding core′
-      shape′ = stored-shape l k S (newest-is l k S p R) left-over v′ (T .size) (T .legal) hand (O .hand-low) w′ (T .rule) (s .0 / 240)
-          (meta-of-low l s (O .low)) (k .recovering)
+      shape′ = stored-shape l k S (newest-is l k S p R) left-over v′ (T .size) (T .legal) hand (O .hand-low) w′ (T .rule)
+          (joinedCallers k by) (s .0 / 240) (meta-of-low l s (O .low)) (k .recovering) kept
 
       abs′ : abs l core′ ≡ opened (s .0) (rowOf (b .0) (f % 8)) (abs l k)
       unfolding core′ abs metaNo
       abs′ =
-          stored-abs l k S (newest-is l k S p R) left-over v′ (T .size) (T .legal) hand (O .hand-low) w′ (T .rule) (s .0 / 240)
-          (meta-of-low l s (O .low)) (k .recovering) refl
+          stored-abs l k S (newest-is l k S p R) left-over v′ (T .size) (T .legal) hand (O .hand-low) w′ (T .rule)
+          (joinedCallers k by) (s .0 / 240) (meta-of-low l s (O .low)) (k .recovering) refl
           ∙ (λ i. stored (s .0 / 240) (λ u. row′ u i) (win′ i) (abs l k))
 
       asks : Opens (abs l k) (s .0) (rowOf (b .0) (f % 8))
@@ -180,9 +192,9 @@ module _ (l : Label) (k : Core) (S : Shape l k) (d : Disk) (p : Plain) (A : Agre
         stamps-left = O .stamps;
       }
 
-      opens-next : Inv l (calledAs c (perform (opens s b f v hand) (boxOfCore l k)) (worldOf l k d))
+      opens-next : Inv l (calledAs c (perform (opens s b by f v hand) (boxOfCore l k)) (worldOf l k d))
       unfolding perform confirmed v′ w′ core′
-      opens-next = next (opens s b f v hand) core′ p refl (opens-box l k (s .0) (b .0) f v hand) shape′ (quiet z)
+      opens-next = next (opens s b by f v hand) core′ p refl (opens-box l k (s .0) (b .0) by f v hand) shape′ (quiet z)
           (rw abs′ (opens-ready (abs l k) p R asks))
 
     -- a dirty slot is copied
@@ -225,9 +237,15 @@ module _ (l : Label) (k : Core) (S : Shape l k) (d : Disk) (p : Plain) (A : Agre
     lands-next write {b} {s} page p′ o H size e A′ R′ =
         let T = ready-sound l k S p R in
         next (lands write (record { 0 = s }) page) (landedCore o write l k s page) p′ refl (lands-box l k s page o write e)
-        (lands-shape l k S s (H .low) page size write (H .held) o) A′
+        (lands-shape l k S s (H .low) page size write (H .held) o (closed-kept o)) A′
         (rw (lands-abs l k S s (H .low) page size write (H .held) o e (sym (distinct-nums (k .window)) ∙ T .rule .apart)
         (sym (writing-is T s (H .low)) ∙ e)) R′)
+      where
+        closed-kept : (o : Bool) → CallersKept (k .recovering) (leftWindow o s (k .window)) (leftCallers o s (k .window) (k .callers))
+        closed-kept true =
+            let few = ready-sound l k S p R .rule .fits in
+            rw on (left-kept (rw on at (S .callers)) (omega (arith, few, length-nums (k .window))) (record { 0 = s }))
+        closed-kept false = S .callers
 
     fetched-ready : {b s : ℕ} → Held l (k .table) b s → b < l .blocks → writing (getD (k .table) (2 * s + 1) 0) ≡ true
         → model.Ready (landed s (pageAt (k .hdd) b) (abs l k)) p
@@ -248,13 +266,13 @@ module _ (l : Label) (k : Core) (S : Shape l k) (d : Disk) (p : Plain) (A : Agre
     confirms-next u h A′ =
         let T = ready-sound l k S p R in
         let first : 0 < metaPages l = omega (arith, meta-of-low l (record { 0 = 0 }) (S .images .limits .some-slot)) in
-        let e : abs l (storedCore k (k .table) (k .hand) (k .window) 0 (k .recovering)) ≡ flushed (abs l k) =
-        stored-abs l k S (newest-is l k S p R) h (k .table) (T .size) (T .legal) (k .hand) (S .hand-ok) (k .window) (T .rule) 0 first
-        (k .recovering) refl ∙ (unfold abs in refl)
+        let e : abs l (storedCore k (k .table) (k .hand) (k .window) (k .callers) 0 (k .recovering)) ≡ flushed (abs l k) =
+        stored-abs l k S (newest-is l k S p R) h (k .table) (T .size) (T .legal) (k .hand) (S .hand-ok) (k .window) (T .rule)
+        (k .callers) 0 first (k .recovering) refl ∙ (unfold abs in refl)
         in
-        next confirms (storedCore k (k .table) (k .hand) (k .window) 0 (k .recovering)) (settle p) refl (confirms-box l k)
-        (stored-shape l k S (newest-is l k S p R) h (k .table) (T .size) (T .legal) (k .hand) (S .hand-ok) (k .window) (T .rule) 0 first
-        (k .recovering)) A′ (rw e (flushed-ready (abs l k) p R (unfold abs in u)))
+        next confirms (storedCore k (k .table) (k .hand) (k .window) (k .callers) 0 (k .recovering)) (settle p) refl (confirms-box l k)
+        (stored-shape l k S (newest-is l k S p R) h (k .table) (T .size) (T .legal) (k .hand) (S .hand-ok) (k .window) (T .rule)
+        (k .callers) 0 first (k .recovering) (S .callers)) A′ (rw e (flushed-ready (abs l k) p R (unfold abs in u)))
 
   agrees-written : (b : Block) (page : List ℕ) → Agrees l (written b page d) (modelLanding (b .0) page p)
   unfolding modelLanding upd

@@ -7,7 +7,7 @@ use mathlib.Core.List.{List}
 use mathlib.Core.Option.{none}
 use native.Mathlib.Omega.{arith}
 use native.Mathlib.Decide.{decLt}
-use lib.ListN.{length, getD}
+use lib.ListN.{length, getD, replicate}
 use borrow.Author.Tests.{le-leb, eq-eqb, le-ltb}
 use Rattle.pages.specs.Pages.{pageAt}
 use Rattle.layout.specs.declared.Slot.{Slot}
@@ -39,6 +39,7 @@ use Rattle.protocol.proofs.refine.Metas.{length-metas}
 use Rattle.protocol.proofs.refine.Entries.{length-rows, rows-block, rows-flags, LegalEntry, legal-entry, SameEntry, same-entry, entry-in, recovered-row, recovered-legal, each-legal, stamps-differ, none-twice, all-open}
 use Rattle.protocol.proofs.Judged.{accepted}
 use Rattle.theorem.proofs.refine.Performed.{phase-empty}
+use Rattle.protocol.proofs.refine.Callers.{nobody-kept}
 use Rattle.protocol.proofs.refine.Abstract.{Core, boxOfCore, entryRow, abs, ImagesKept, Shape}
 
 revived-free : (h : Bool) → revived h Row.free ≡ Row.free
@@ -58,6 +59,7 @@ reopenedCore l k =
       recovering = not (isEmpty (n .window));
       unconfirmed = false;
       window = n .window;
+      callers = replicate 63 0;
     }
 
 module _ (l : Label) (k : Core) (p : Plain) (K : ImagesKept l (k .ssd) (k .hdd)) (St : Stored (abs l k) p) where
@@ -226,7 +228,7 @@ module _ (l : Label) (k : Core) (p : Plain) (K : ImagesKept l (k .ssd) (k .hdd))
       (unfold recover-entry in (recovered-legal l window s (entry s) (legal s h)))
 
   pub reopen-shape : Shape l (reopenedCore l k)
-  reopen-shape = record { images = K; table-size = table-size; hand-ok = K .limits .some-slot; rows = rows-legal }
+  reopen-shape = record { images = K; table-size = table-size; hand-ok = K .limits .some-slot; rows = rows-legal; callers = nobody-kept _ _ }
 
   row-is : (s : ℕ) → rowAt (reopenedCore l k .table) s ≡ revived (has (nums window) s) (entryRow l (metasOf l (k .ssd)) s)
   row-is s = go (decLt s (l .slots))

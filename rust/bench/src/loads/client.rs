@@ -4,7 +4,7 @@ use super::counted::{fill, Counted};
 use super::orders::Events;
 use super::trace::Request;
 use crate::image::PAGE;
-use crate::world::Call;
+use crate::world::{Call, PEOPLE};
 use std::collections::VecDeque;
 
 /// An open slot's block, and the number to land for a write.
@@ -124,7 +124,7 @@ impl Client {
         self.hits += self.flags_at(block).is_some() as u64;
         self.next += 1;
         let number = self.next;
-        if self.announce(Call::Offer(block)) {
+        if self.announce(Call::Offer(block, PEOPLE)) {
             self.open.push_back((block, Some(number)));
         } else {
             self.land(block, number);
@@ -137,7 +137,7 @@ impl Client {
         if [108, 109].contains(&self.cache.call(Call::LookUp(block))) {
             self.hits += 1;
         } else {
-            self.announce(Call::Fetch(block));
+            self.announce(Call::Fetch(block, PEOPLE));
             self.open.push_back((block, None));
         }
         assert!(

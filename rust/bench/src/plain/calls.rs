@@ -1,6 +1,6 @@
 //! The calls of a ready box: the result code, or a refusal's number as the error.
 
-use super::judge::serves;
+use super::judge::{called, room, serves};
 use super::moves::{close, copy_out, data_at, open, store_meta};
 use super::record::pack;
 use super::sweep::sweep_for;
@@ -14,10 +14,10 @@ fn flags_at(w: &World, slot: u32) -> u32 {
 }
 
 #[inline(never)]
-pub fn offer(w: &mut World, block: u32) -> Answer {
-    let mut judged = serves(w, PAGE, Some(block))?;
+pub fn offer(w: &mut World, block: u32, caller: u32) -> Answer {
+    let mut judged = called(w, block, caller)?;
     let Some(slot) = judged.at else {
-        return sweep_for(w, judged, block, 7);
+        return sweep_for(w, judged, block, caller, 7);
     };
     let flags = flags_at(w, slot);
     if flags / 4 % 2 == 1 {
@@ -28,20 +28,18 @@ pub fn offer(w: &mut World, block: u32) -> Answer {
         w.name_none();
         return Ok(102);
     }
-    if judged.writing >= 63 {
-        return Err(11);
-    }
+    room(&judged, caller)?;
     if judged.record.newest >= 4_294_967_232 {
         return Err(13);
     }
-    Ok(open(w, &mut judged.record, slot, block, flags + 6))
+    Ok(open(w, &mut judged.record, slot, block, caller, flags + 6))
 }
 
 #[inline(never)]
-pub fn fetch(w: &mut World, block: u32) -> Answer {
-    let judged = serves(w, PAGE, Some(block))?;
+pub fn fetch(w: &mut World, block: u32, caller: u32) -> Answer {
+    let judged = called(w, block, caller)?;
     match judged.at {
-        None => sweep_for(w, judged, block, 5),
+        None => sweep_for(w, judged, block, caller, 5),
         Some(slot) if flags_at(w, slot) / 2 % 4 == 3 => Err(8),
         Some(_) => Err(10),
     }

@@ -1,8 +1,8 @@
-//! Numbers 3 to 7: record, lengths, table, phase and block.
+//! Numbers 3 to 7: record, lengths, table, phase and block; 18 between 6 and 7, and 17 and 11: room for another open slot.
 
-use super::record::{record_ok, unpack, Record};
+use super::record::{open_by_import, record_ok, unpack, Record};
 use crate::image::PAGE;
-use crate::world::{meta_pages, World, READY};
+use crate::world::{meta_pages, World, IMPORT, READY};
 
 pub fn lengths_ok(w: &World, slots: u32, blocks: u32) -> bool {
     w.ssd.len() == PAGE * (1 + meta_pages(slots) as usize + slots as usize)
@@ -79,14 +79,43 @@ pub fn sound(w: &World, page_len: usize, block: u32) -> Result<Judged, u32> {
     })
 }
 
-/// 3 to 6, and 7 where a block is named.
-pub fn serves(w: &World, page_len: usize, block: Option<u32>) -> Result<Judged, u32> {
-    let judged = sound(w, page_len, block.unwrap_or(0))?;
+/// 3 to 6.
+fn ready(w: &World, page_len: usize, block: u32) -> Result<Judged, u32> {
+    let judged = sound(w, page_len, block)?;
     if judged.record.phase != READY {
         return Err(6);
     }
+    Ok(judged)
+}
+
+/// 3 to 6, and 7 where a block is named.
+pub fn serves(w: &World, page_len: usize, block: Option<u32>) -> Result<Judged, u32> {
+    let judged = ready(w, page_len, block.unwrap_or(0))?;
     if block.is_some_and(|b| b >= judged.record.blocks) {
         return Err(7);
     }
     Ok(judged)
+}
+
+/// 3 to 6, 18 of the caller, and 7 of the block.
+pub fn called(w: &World, block: u32, caller: u32) -> Result<Judged, u32> {
+    let judged = ready(w, PAGE, block)?;
+    if caller > IMPORT {
+        return Err(18);
+    }
+    if block >= judged.record.blocks {
+        return Err(7);
+    }
+    Ok(judged)
+}
+
+/// 17 and 11: whether a caller may have another slot open.
+pub fn room(judged: &Judged, caller: u32) -> Result<(), u32> {
+    if caller == IMPORT && open_by_import(&judged.record) >= 8 {
+        return Err(17);
+    }
+    if judged.writing >= 63 {
+        return Err(11);
+    }
+    Ok(())
 }

@@ -2,8 +2,8 @@
 
 mod calls;
 mod judge;
-mod map;
 mod list;
+mod map;
 mod moves;
 pub mod record;
 mod reopen;
@@ -23,8 +23,8 @@ impl Side for Plain {
         let answer = match call {
             Call::Format(slots, blocks) => steps::format(w, slots, blocks),
             Call::Step => steps::step(w),
-            Call::Offer(block) => calls::offer(w, block),
-            Call::Fetch(block) => calls::fetch(w, block),
+            Call::Offer(block, caller) => calls::offer(w, block, caller),
+            Call::Fetch(block, caller) => calls::fetch(w, block, caller),
             Call::Land(block, page) => calls::land(w, block, page),
             Call::LandFetch(block) => calls::land_fetch(w, block),
             Call::LookUp(block) => calls::look_up(w, block),

@@ -42,11 +42,12 @@ pub fn data_at(r: &Record, slot: u32) -> usize {
     PAGE * (1 + meta_pages(r.slots) as usize + slot as usize)
 }
 
-/// Opens a slot: row, window, metadata store.
-pub fn open(w: &mut World, r: &mut Record, slot: u32, block: u32, flags: u32) -> u32 {
+/// Opens a slot for a caller: row, window, metadata store.
+pub fn open(w: &mut World, r: &mut Record, slot: u32, block: u32, caller: u32, flags: u32) -> u32 {
     w.table[2 * slot as usize] = block;
     w.table[2 * slot as usize + 1] = flags;
     r.window[r.count] = slot;
+    r.callers[r.count] = caller;
     r.count += 1;
     store_meta(w, r, slot as usize / 240);
     pack(&mut w.record, r);
@@ -59,8 +60,10 @@ pub fn close(w: &mut World, r: &mut Record, slot: u32) {
     w.table[2 * slot as usize + 1] -= 4;
     let at = r.window[..r.count].iter().position(|s| *s == slot).unwrap();
     r.window.copy_within(at + 1..r.count, at);
+    r.callers.copy_within(at + 1..r.count, at);
     r.count -= 1;
     r.window[r.count] = 0;
+    r.callers[r.count] = 0;
     r.unconfirmed = true;
 }
 

@@ -1,6 +1,6 @@
-//! The record as a struct, its 71 words, and number 3.
+//! The record as a struct, its 134 words, and number 3.
 
-use crate::world::{meta_pages, RECORD};
+use crate::world::{meta_pages, CALLERS, IMPORT, RECORD, RECOVERING, WINDOW};
 
 pub struct Record {
     pub slots: u32,
@@ -12,6 +12,7 @@ pub struct Record {
     pub unconfirmed: bool,
     pub window: [u32; 63],
     pub count: usize,
+    pub callers: [u32; 63],
 }
 
 /// A record with an empty window.
@@ -26,6 +27,7 @@ pub fn begun(slots: u32, blocks: u32, newest: u32, phase: u32) -> Record {
         unconfirmed: false,
         window: [0; 63],
         count: 0,
+        callers: [0; 63],
     }
 }
 
@@ -36,7 +38,9 @@ pub fn unpack(words: &[u32]) -> Option<Record> {
         return None;
     }
     let mut window = [0; 63];
-    window.copy_from_slice(&words[8..]);
+    window.copy_from_slice(&words[WINDOW..CALLERS]);
+    let mut callers = [0; 63];
+    callers.copy_from_slice(&words[CALLERS..]);
     Some(Record {
         slots: words[0],
         blocks: words[1],
@@ -47,6 +51,7 @@ pub fn unpack(words: &[u32]) -> Option<Record> {
         unconfirmed: words[6] == 1,
         window,
         count: words[7] as usize,
+        callers,
     })
 }
 
@@ -61,7 +66,8 @@ pub fn pack(words: &mut [u32], r: &Record) {
         r.unconfirmed as u32,
         r.count as u32,
     ]);
-    words[8..].copy_from_slice(&r.window);
+    words[WINDOW..CALLERS].copy_from_slice(&r.window);
+    words[CALLERS..].copy_from_slice(&r.callers);
 }
 
 pub fn within(slots: u32, blocks: u32) -> bool {
@@ -78,5 +84,18 @@ pub fn record_ok(r: &Record) -> bool {
     }
     let (window, past) = r.window.split_at(r.count);
     let apart = |(i, s): (usize, &u32)| *s < r.slots && !window[i + 1..].contains(s);
-    window.iter().enumerate().all(apart) && past.iter().all(|s| *s == 0)
+    window.iter().enumerate().all(apart) && past.iter().all(|s| *s == 0) && callers_ok(r)
+}
+
+/// Whether each place's caller is known, and 0 where it is pending or past the length.
+fn callers_ok(r: &Record) -> bool {
+    let named = if r.phase == RECOVERING { 0 } else { r.count };
+    let (callers, past) = r.callers.split_at(named);
+    callers.iter().all(|c| *c <= IMPORT) && past.iter().all(|c| *c == 0)
+}
+
+/// How many places are the import's.
+pub fn open_by_import(r: &Record) -> usize {
+    let callers = r.callers[..r.count].iter();
+    callers.filter(|c| **c == IMPORT).count()
 }

@@ -1,6 +1,6 @@
 //! An offer or a fetch that sweeps for a slot.
 
-use super::judge::Judged;
+use super::judge::{room, Judged};
 use super::moves::{copy_out, open};
 use super::record::pack;
 use crate::world::World;
@@ -29,12 +29,16 @@ fn wrapped(s: u32, slots: u32) -> u32 {
     }
 }
 
-/// 11 to 13, or "copied out", or the slot that is opened with these flags.
-pub fn sweep_for(w: &mut World, judged: Judged, block: u32, flags: u32) -> Result<u32, u32> {
+/// 17, or 11 to 13, or "copied out", or the slot that is opened with these flags.
+pub fn sweep_for(
+    w: &mut World,
+    judged: Judged,
+    block: u32,
+    caller: u32,
+    flags: u32,
+) -> Result<u32, u32> {
+    room(&judged, caller)?;
     let mut r = judged.record;
-    if judged.writing >= 63 {
-        return Err(11);
-    }
     let (slot, passed) = sweep(&w.table, r.slots, r.hand).ok_or(12u32)?;
     let dirty = w.table[2 * slot as usize + 1] / 2 % 2 == 1;
     if !dirty && r.newest >= 4_294_967_232 {
@@ -53,5 +57,5 @@ pub fn sweep_for(w: &mut World, judged: Judged, block: u32, flags: u32) -> Resul
         return Ok(103);
     }
     r.hand = wrapped(slot + 1, r.slots);
-    Ok(open(w, &mut r, slot, block, flags))
+    Ok(open(w, &mut r, slot, block, caller, flags))
 }

@@ -3,7 +3,7 @@
 use cases::random::Random;
 use cases::rig::{word, Call, Rig};
 use cases::stored::page;
-use ferjulm::{Block, Geometry, PAGE};
+use ferjulm::{Block, Caller, Geometry, PAGE};
 
 /// A box, and a call's arguments.
 #[derive(Clone)]
@@ -17,6 +17,7 @@ pub struct Input {
     pub slots: u32,
     pub blocks: u32,
     pub block: u32,
+    pub caller: u32,
     pub list: Vec<u32>,
     pub room: usize,
 }
@@ -33,6 +34,7 @@ impl Input {
             slots: geometry.slots,
             blocks: geometry.blocks,
             block: 0,
+            caller: 0,
             list: vec![0],
             room: 1,
         }
@@ -153,13 +155,13 @@ pub fn boxes(geometry: Geometry) -> Vec<Input> {
     rig.finish();
     boxes.push(rig.clone());
     for call in [
-        Call::Offer(Block(0)),
+        Call::Offer(Block(0), Caller::People),
         Call::Land(Block(0), page(1 << 51)),
-        Call::Fetch(Block(1)),
+        Call::Fetch(Block(1), Caller::People),
         Call::LandFetch(Block(1)),
         Call::LookUp(Block(1)),
-        Call::Offer(Block(2)),
-        Call::Fetch(Block(3)),
+        Call::Offer(Block(2), Caller::People),
+        Call::Fetch(Block(3), Caller::People),
     ] {
         // a box of one slot refuses some of these
         let _ = rig.make(&call);
@@ -174,15 +176,16 @@ pub fn boxes(geometry: Geometry) -> Vec<Input> {
         .collect()
 }
 
-/// Sixty-three open slots: the box of number 11.
-pub fn full() -> Input {
+/// So many open slots of a caller: 63 are the box of number 11, 8 of the import that of 17.
+pub fn opened(count: u32, caller: Caller) -> Input {
     let geometry = Geometry {
         slots: 64,
         blocks: 66,
     };
     let mut rig = Rig::formatted(geometry);
-    for block in 0..63 {
-        rig.make(&Call::Offer(Block(block))).said.expect("an offer");
+    for block in 0..count {
+        let offer = Call::Offer(Block(block), caller);
+        rig.make(&offer).said.expect("an offer");
     }
     Input::of(rig, geometry)
 }

@@ -138,14 +138,14 @@ impl Lent {
         let (ssd, hdd, table) = (self.ssd.lent(), self.hdd.lent(), self.table.lent());
         let (record, slot) = (self.record.lent(), &mut self.slot.lent()[0]);
         let (image, offset) = (&mut self.image.lent()[0], &mut self.offset.lent()[0]);
-        let (block, page) = (input.block, self.page.lent());
+        let (block, caller, page) = (input.block, input.caller, self.page.lent());
         match kind.name {
             "format" => calls::format(ssd, hdd, table, record, input.slots, input.blocks),
             "step" => calls::step(ssd, hdd, table, record, image, offset),
             "reopen" => calls::reopen(ssd, hdd, table, record),
-            "offer" => calls::offer(ssd, hdd, table, record, block, slot, image, offset),
+            "offer" => calls::offer(ssd, hdd, table, record, block, caller, slot, image, offset),
             "land" => calls::land(ssd, hdd, table, record, block, page, image, offset),
-            "fetch" => calls::fetch(ssd, hdd, table, record, block, slot, image, offset),
+            "fetch" => calls::fetch(ssd, hdd, table, record, block, caller, slot, image, offset),
             "land a fetch" => calls::land_fetch(ssd, hdd, table, record, block, image, offset),
             "look up" => calls::look_up(ssd, hdd, table, record, block, slot),
             "look up a list" => {

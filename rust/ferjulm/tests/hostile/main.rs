@@ -10,8 +10,8 @@ use cases::mapped;
 use cases::random::Random;
 use cases::rig::{word, Rig};
 use cases::stored::{label, label_page};
-use ferjulm::{Block, Condition, Geometry, Slot, PAGE};
-use input::{boxes, full, late, Input};
+use ferjulm::{Block, Caller, Condition, Geometry, Slot, PAGE};
+use input::{boxes, late, opened, Input};
 use kinds::{Kind, KINDS};
 use lent::{Lent, UNSET};
 use std::collections::BTreeMap;
@@ -72,7 +72,7 @@ fn check_fits(kind: &Kind, lent: &mut Lent, input: &Input) {
         (1..=57_600).contains(&slots) && (1..=16_777_216).contains(&blocks),
         "{name}: limits"
     );
-    assert_eq!(record.len(), 71, "{name}: record");
+    assert_eq!(record.len(), 134, "{name}: record");
     assert_eq!(input.ssd.len(), geometry.ssd_bytes(), "{name}: SSD");
     assert_eq!(input.hdd.len(), geometry.hdd_bytes(), "{name}: HDD");
     assert_eq!(input.table.len(), geometry.table_words(), "{name}: table");
@@ -190,7 +190,8 @@ fn any_input_is_refused_or_served_within() {
             inputs.push(late(&inputs[k], stamp));
         }
     }
-    inputs.push(full());
+    inputs.push(opened(63, Caller::People));
+    inputs.push(opened(8, Caller::Import));
     let mut random = Random(20);
     let mut counts: BTreeMap<(&str, u32), u32> = BTreeMap::new();
     for _ in 0..150_000 {
@@ -199,6 +200,7 @@ fn any_input_is_refused_or_served_within() {
             input.spoil(&mut random);
         }
         input.block = random.of(&[0, 1, 2, 3, 4, 7, 8, 65, 66, u32::MAX]);
+        input.caller = random.of(&[0, 1, 1, 2, u32::MAX]);
         input.list_anew(&mut random);
         if random.once_in(4) {
             input.slots = random.of(&[0, 1, 4, 5, 240, 57_600, 57_601, u32::MAX]);
@@ -314,6 +316,9 @@ fn words_that_are_no_record() {
         (7, 64),
         (8, 1),
         (70, 1),
+        (71, 1),
+        (71, 2),
+        (133, 1),
     ];
     for (at, word) in wrong {
         let mut input = Input::of(Rig::formatted(SMALL), SMALL);

@@ -4,7 +4,7 @@ use cases::beside::Beside;
 use cases::random::Random;
 use cases::rig::{Answer, Call, Said};
 use cases::stored::{page, LANDED_PAGES};
-use ferjulm::{Block, Condition, Geometry, Slot, PAGE};
+use ferjulm::{Block, Caller, Condition, Geometry, Slot, PAGE};
 use std::collections::{BTreeMap, BTreeSet};
 
 /// How often each call is made, in hundredths: offer, land, fetch, land a fetch, look up, view or map, write back, flush; the rest
@@ -71,8 +71,8 @@ impl<'a> List<'a> {
         for block in (0..filled(geometry, &mut list.random)).map(Block) {
             let page = list.new_page();
             let (open, land) = match block.0 % 2 {
-                0 => (Call::Offer(block), Call::Land(block, page)),
-                _ => (Call::Fetch(block), Call::LandFetch(block)),
+                0 => (Call::Offer(block, Caller::People), Call::Land(block, page)),
+                _ => (Call::Fetch(block, Caller::People), Call::LandFetch(block)),
             };
             list.must(open);
             list.must(land);
@@ -111,6 +111,14 @@ impl<'a> List<'a> {
         Block(self.b.rig.table[2 * slot.0 as usize])
     }
 
+    /// People, or now and then the import.
+    fn caller(&mut self) -> Caller {
+        match self.random.once_in(3) {
+            true => Caller::Import,
+            false => Caller::People,
+        }
+    }
+
     fn new_page(&mut self) -> Vec<u8> {
         self.landed += 1;
         page(LANDED_PAGES + self.landed)
@@ -123,7 +131,7 @@ impl<'a> List<'a> {
         }
         match self.last.take()? {
             (call, Ok(Answer::CopiedOut)) => Some(call),
-            (Call::WriteBack(block), Ok(Answer::Done)) => Some(Call::Offer(block)),
+            (Call::WriteBack(block), Ok(Answer::Done)) => Some(Call::Offer(block, Caller::People)),
             _ => None,
         }
     }
@@ -140,9 +148,9 @@ impl<'a> List<'a> {
             kind += 1;
         }
         match kind {
-            0 => Call::Offer(self.block()),
+            0 => Call::Offer(self.block(), self.caller()),
             1 => Call::Land(self.open_block(), self.new_page()),
-            2 => Call::Fetch(self.block()),
+            2 => Call::Fetch(self.block(), self.caller()),
             3 => Call::LandFetch(self.open_block()),
             4 if self.random.once_in(3) => self.list(),
             4 => Call::LookUp(self.block()),
@@ -172,7 +180,7 @@ impl<'a> List<'a> {
                 vec![high; self.random.of(&[0, 2, 65])],
                 65 - 64 * self.random.below(2) as usize,
             ),
-            0 => Call::Offer(high),
+            0 => Call::Offer(high, Caller::People),
             1 => Call::View(high),
             2 => Call::Land(self.open_block(), vec![0; PAGE - 1]),
             3 => Call::Step,
@@ -188,7 +196,7 @@ impl<'a> List<'a> {
     /// Which of `fetched_again` a fetch of a ready box will be, and the number that refuses it: 8 where the block is open for
     /// writing, else 10 (document 02, N9).
     fn fetched_again(&self, call: &Call) -> Option<(usize, u32)> {
-        let Call::Fetch(block) = call else {
+        let Call::Fetch(block, _) = call else {
             return None;
         };
         let slot = self.b.rig.slot_of(*block).filter(|_| self.b.rig.ready())?;
@@ -263,7 +271,7 @@ impl<'a> List<'a> {
         let uncut = self.random.once_in(15);
         while self.b.recovering() {
             match self.random.below(20) {
-                0 => self.make(Call::Offer(Block(0))),
+                0 => self.make(Call::Offer(Block(0), Caller::People)),
                 1..=3 => self.must(Call::Step),
                 _ if uncut => self.must(Call::Step),
                 4..=6 => return self.cut_and_reopen(None),

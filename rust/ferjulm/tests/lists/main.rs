@@ -75,7 +75,7 @@ fn random_lists_beside_the_plain_disk() {
     assert!(all.mapped > 100);
     println!("lists looked up: {}", all.looked_up_lists);
     assert!(all.looked_up_lists > 100);
-    for number in [1, 4, 6, 7, 8, 9, 10, 11, 12, 14, 16] {
+    for number in [1, 4, 6, 7, 8, 9, 10, 11, 12, 14, 16, 17] {
         assert!(
             all.refused.contains_key(&number),
             "no call was refused by {number}"

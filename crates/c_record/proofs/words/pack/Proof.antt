@@ -1,6 +1,6 @@
 use mathlib.Core.Path.{_∙_}
-use Rattle.c_record.proofs.WordLaws.{head-packed}
 use lib.ListN.{length-set}
+use Rattle.c_record.proofs.WordLaws.{all-packed}
 use Rattle.c_record.specs.Words.{numbersOf, wordsOf}
 use native.Mathlib.Omega.{arith}
 use borrow.Author.Needs.{needs}
@@ -41,19 +41,27 @@ slice-write-words-8 : tie.Need-slice-write-words-8
 slice-write-words-8 c = simp length-set (omega arith)
 
 pack-window-requires : tie.Need-pack-window-requires
-pack-window-requires c κs = search needs
+pack-window-requires c κs = simp length-set (omega arith)
+
+pack-callers-requires : tie.Need-pack-callers-requires
+pack-callers-requires c κs =
+    let p = c .before .before .before in
+    p .pack-window .kept .0 ∙ simp length-set (omega arith)
 
 same-length : tie.Need-same-length
-same-length c = c .before .before .pack-window .kept .0 ∙ simp length-set
+same-length c =
+    let q = c .before .before in
+    q .pack-callers .kept .0 ∙ q .before .before .before .before .pack-window .kept .0 ∙ simp length-set
 
 returns : tie.Need-returns
 unfolding wordsOf
 returns c =
-    let p = c .before .before in
+    let q = c .before .before in
+    let p = q .before .before .before .before in
     let f = p .before .before in
-    let s = f .before .before .before .before .before .before .before in
-    p .pack-window .ensures
-    ∙ head-packed (s .args .words .now) (numbersOf (s .args .r .window)) _ _ _ _ _ _ _ _ (s .pre)
+    let s = f .before .before .before .before .before .before .before .before in
+    all-packed (s .args .words .now) (numbersOf (s .args .r .window)) (s .args .r .callers) _ _ _ _ _ _ _ _ _ _ (s .pre) (p .pack-window .ensures)
+    (p .pack-window .kept .0) (q .pack-callers .ensures)
     ∙ rw (f .flag-word .ensures, f .before .steps-word .ensures, f .before .before .phase-word .ensures)
 
 pub pack-spec : {M : Type 1} → statement M
@@ -72,5 +80,6 @@ pack-spec =
     slice-write-words-7
     slice-write-words-8
     pack-window-requires
+    pack-callers-requires
     same-length
     returns)

@@ -1,20 +1,21 @@
 use Prim.Native.Nat.{_-_}
-use mathlib.Core.Path.{_≡_}
+use mathlib.Core.Path.{_≡_, sym, _∙_}
 use lib.ListN.{length}
-use Rattle.c_record.proofs.WordLaws.{Packed, packed-none, packed-more, packed-all}
+use Rattle.c_record.specs.Words.{numbersOf}
+use Rattle.c_record.proofs.WordLaws.{numbers-length, numbers-at, Packed, packed-none, packed-more, packed-all}
 use borrow.Author.Needs.{needs}
 use native.Mathlib.Omega.{arith}
 use Rattle.c_record.proofs.words.pack_window.Statement.{statement}
 use Rattle.c_record.proofs.words.pack_window.Tie as tie
 
 abbrev Inv-loop : tie.InvT-loop
-Inv-loop words₀ window i₀ words i = Packed words₀ window words i
+Inv-loop words₀ window i₀ words i = Packed words₀ 8 (numbersOf window) words i
 
 abbrev μ-loop : tie.MeasureT-loop
 μ-loop words₀ window i₀ words i = 63 - i
 
 loop-holds : tie.Need-loop-holds Inv-loop μ-loop
-loop-holds c = packed-none (c .args .words .now) (c .args .t2) (c .pre)
+loop-holds c = packed-none (c .args .words .now) 8 (numbersOf (c .args .t2)) (c .pre)
 
 mul-s : tie.Need-mul-s Inv-loop μ-loop
 mul-s c = search needs
@@ -42,7 +43,8 @@ loop-again c =
     let l = c .before .before .loop in
     let s = c .before .before .before in
     let all : length (s .args .t2) ≡ 63 = search needs in
-    packed-more (s .args .words .now) (s .args .t2) (s .pre) (l .words) (l .i) all (l .inv) (omega arith)
+    packed-more (s .args .words .now) 8 (numbersOf (s .args .t2)) (s .pre) (numbers-length (s .args .t2) ∙ all) (omega arith) (l .words) (l .i) _
+    (sym (numbers-at (s .args .t2) (l .i) (record { 0 = 0 }))) (l .inv) (omega arith)
 
 same-length : tie.Need-same-length Inv-loop μ-loop
 same-length c = search needs
@@ -52,7 +54,8 @@ returns c =
     let l = c .before .loop in
     let s = c .before .before in
     let all : length (s .args .t2) ≡ 63 = search needs in
-    packed-all (s .args .words .now) (s .args .t2) (s .pre) (l .words) (l .i) all (l .inv) (omega arith)
+    packed-all (s .args .words .now) 8 (numbersOf (s .args .t2)) (s .pre) (numbers-length (s .args .t2) ∙ all) (omega arith) (l .words) (l .i) (l .inv)
+    (omega arith)
 
 pub pack-window-spec : {M : Type 1} → statement M
 pack-window-spec =

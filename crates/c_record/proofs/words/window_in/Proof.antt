@@ -1,13 +1,15 @@
 use Prim.Native.Nat.{_-_}
 use mathlib.Core.Path.{refl}
-use Rattle.c_record.proofs.WordLaws.{Filled, filled-more, filled-all}
+use lib.ListN.{take, drop}
+use Rattle.c_record.specs.Words.{slotsOf}
+use Rattle.c_record.proofs.WordLaws.{Filled, filled-more, filled-all, window-length, window-at}
 use borrow.Author.Needs.{needs}
 use native.Mathlib.Omega.{arith}
 use Rattle.c_record.proofs.words.window_in.Statement.{statement}
 use Rattle.c_record.proofs.words.window_in.Tie as tie
 
 abbrev Inv-loop : tie.InvT-loop
-Inv-loop words window₀ i₀ window i = Filled words window i
+Inv-loop words window₀ i₀ window i = Filled (slotsOf (take 63 (drop 8 words))) window i
 
 abbrev μ-loop : tie.MeasureT-loop
 μ-loop words window₀ i₀ window i = 63 - i
@@ -40,13 +42,14 @@ loop-again : tie.Need-loop-again Inv-loop μ-loop
 loop-again c =
     let l = c .before .before .loop in
     let s = c .before .before .before in
-    filled-more (s .args .words .now) (s .pre) (l .window) (l .i) (l .inv) (omega arith)
+    filled-more _ (window-length (s .args .words .now) (s .pre)) _ (l .window) (l .i) _
+    (window-at (s .args .words .now) (s .pre) (l .i) (omega arith)) (l .inv) (omega arith)
 
 returns : tie.Need-returns Inv-loop μ-loop
 returns c =
     let l = c .before .loop in
     let s = c .before .before in
-    filled-all (s .args .words .now) (s .pre) (l .window) (l .i) (l .inv) (omega arith)
+    filled-all _ (window-length (s .args .words .now) (s .pre)) (record { 0 = 0 }) (l .window) (l .i) (l .inv) (omega arith)
 
 pub window-in-spec : {M : Type 1} → statement M
 window-in-spec =

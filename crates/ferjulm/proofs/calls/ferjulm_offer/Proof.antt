@@ -19,7 +19,7 @@ returns : tie.Need-returns
 returns c =
     let r = c .before in
     let a = r .before .before .before .before .before .before .args in
-    let b = barred (offer (record { 0 = a .block })) (a .ssd .now) (a .hdd .now) (a .table .now) (a .words .now) (sym (r .is-record .ensures) ∙ not-true _ (c .if1 .taken)) in
+    let b = barred (offer (record { 0 = a .block }) (a .caller)) (a .ssd .now) (a .hdd .now) (a .table .now) (a .words .now) (sym (r .is-record .ensures) ∙ not-true _ (c .if1 .taken)) in
     (b .left, b .slot (a .slot .now), b .place (record { image = a .image .now; offset = a .offset .now }))
 
 -- past the first test the words are a record
@@ -63,7 +63,7 @@ returns-2 c =
     let u = p .before .before .before .before in
     let e = u .before .before in
     let a = e .before .before .before .before .before .before .before .args in
-    let k = past (offer (record { 0 = a .block })) (a .ssd .now) (a .hdd .now) (a .table .now) (a .words .now)
+    let k = past (offer (record { 0 = a .block }) (a .caller)) (a .ssd .now) (a .hdd .now) (a .table .now) (a .words .now)
     (u .unpack .result) (o .result) (u .unpack .ensures) (o .ensures) (legal e) in
     (k .left (q .closed .ensures), k .slot _ (t .slot-of .ensures), k .place _ (m .name .ensures))
 

@@ -17,9 +17,9 @@ abbrev start : tie.Else1 → tie.Start
 start c = c .before .before .before .before .before .before
 
 known : (c : tie.Else1) → let a = start c .args in
-    Served (a .ssd .now) (a .hdd .now) 4096 (a .table .now) (a .state) (a .block) (c .before .judge-block .result)
+    Served (a .ssd .now) (a .hdd .now) 4096 (a .table .now) (a .state) (a .block) (a .caller) (c .before .judge-block .result)
 known c = let a = start c .args in
-    served (a .ssd .now) (a .hdd .now) 4096 (a .table .now) (a .state) (a .block) (c .before .judge-block .ensures) (c .if1 .left)
+    served (a .ssd .now) (a .hdd .now) 4096 (a .table .now) (a .state) (a .block) (a .caller) (c .before .judge-block .ensures) (c .if1 .left)
 
 judge-block-requires : tie.Need-judge-block-requires
 judge-block-requires c κs = search needs
@@ -35,21 +35,21 @@ returns c =
     let e = c .before .before in
     let a = e .before .before .before .before .before .args in
     rw (c .refused .ensures)
-    (refused-by (fetch (a .block)) (boxOf (a .ssd .now) (a .hdd .now) (a .table .now) (a .state)) _ _ (fetch-judges (a .ssd .now) (a .hdd .now) (a .table .now) (a .state) (a .block)) (e .judge-block .result .number)
+    (refused-by (fetch (a .block) (a .caller)) (boxOf (a .ssd .now) (a .hdd .now) (a .table .now) (a .state)) _ _ (fetch-judges (a .ssd .now) (a .hdd .now) (a .table .now) (a .state) (a .block) (a .caller)) (e .judge-block .result .number)
     (found _ (a .table .now) (a .block) (e .judge-block .ensures)) (c .before .if1 .taken))
 
 fetch-requires : tie.Need-fetch-requires
 fetch-requires c κs =
     let e = c .before in
     let a = start e .args in
-    seen (a .ssd .now) (a .hdd .now) 4096 (a .table .now) (a .state) (a .block) _ (known e)
+    seen (a .ssd .now) (a .hdd .now) 4096 (a .table .now) (a .state) (a .block) (a .caller) _ (known e)
 
 perform-requires : tie.Need-perform-requires
 perform-requires c κs =
     let e = c .before .before .before .before .before in
     let a = start e .args in
     let B = known e .box .box in
-    let p = fetch-performs (a .ssd .now) (a .hdd .now) (a .table .now) (a .state) (a .block) (known e .none) (e .before .judge-block .result .condition) in
+    let p = fetch-performs (a .ssd .now) (a .hdd .now) (a .table .now) (a .state) (a .block) (a .caller) (known e .none) (e .before .judge-block .result .condition) in
     (B .fits, (B .sound .hdd-size, (B .record-kept, (B .rows, rw (c .before .before .before .fetch .ensures) p))))
 
 same-length-2 : tie.Need-same-length-2
@@ -68,9 +68,9 @@ returns-2 c =
     let a = start e .args in
     let x = boxOf (a .ssd .now) (a .hdd .now) (a .table .now) (a .state) in
     c .before .before .before .before .before .before .perform .ensures
-    ∙ ap (λ (T : Turn). left (turned T (a .block) x) (x .images))
-    (d .fetch .ensures ∙ ap (fetchTurn (a .table .now) (a .state)) (sym (known e .is _ refl)))
-    ∙ ap (λ (f : Effect). left f (x .images)) (sym (fetch-turned (a .ssd .now) (a .hdd .now) (a .table .now) (a .state) (a .block) (known e .none)))
+    ∙ ap (λ (T : Turn). left (turned T (a .block) (a .caller) x) (x .images))
+    (d .fetch .ensures ∙ ap (fetchTurn (a .table .now) (a .state) (a .caller)) (sym (known e .is _ refl)))
+    ∙ ap (λ (f : Effect). left f (x .images)) (sym (fetch-turned (a .ssd .now) (a .hdd .now) (a .table .now) (a .state) (a .block) (a .caller) (known e .none)))
 
 pub fetch-spec : {M : Type 1} → statement M
 fetch-spec =

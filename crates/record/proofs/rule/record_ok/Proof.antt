@@ -1,8 +1,17 @@
-use mathlib.Core.Path.{_≡_, sym, _∙_}
-use mathlib.Core.Bool.{Bool, true, _&&_}
-use lib.Dec.{ltb}
+use Prim.Native.Nat.{ℕ, _≤_}
+use mathlib.Core.Path.{_≡_, refl, sym, _∙_}
+use native.Mathlib.Omega.{arith}
+use mathlib.Core.Bool.{Bool, true, false, _&&_}
+use lib.ListN.{length, drop}
+use lib.Dec.{eqb, ltb, leb}
 use borrow.Author.Tests.{not-true, not-false, lt-ltb, le-ltb, le-leb, lt-leb}
 use Rattle.layout.specs.Places.{withinLimits}
+use Rattle.layout.specs.PageRule.{distinct, inRange}
+use Rattle.record.specs.declared.Record.{Record}
+use Rattle.record.specs.declared.Phase.{Phase}
+use Rattle.record.specs.declared.Phase.the-variants.{Formatting, Recovering, Ready}
+use Rattle.record.specs.Window.{zeroSlots}
+use Rattle.record.specs.Callers.{namedPlaces}
 use Rattle.record.specs.Record.{windowIn}
 use Rattle.record.specs.Rule.{recordTest, stepsTest}
 use borrow.Author.Needs.{needs}
@@ -54,11 +63,64 @@ window-of-requires c κs = search needs
 window-ok-requires : tie.Need-window-ok-requires
 window-ok-requires c κs = rw (c .window-of .ensures) (c .before .if4 .left)
 
-returns-5 : tie.Need-returns-5
-unfolding recordTest windowIn
-returns-5 c =
+-- the window's tests, and what comes after them
+then-window : (r : Record) (ok rest : Bool)
+    → ok ≡ (eqb (length (r .window)) 63 && (inRange (r .label) (windowIn r) && (distinct (windowIn r) && zeroSlots (drop (r .count) (r .window)))))
+    → (eqb (length (r .window)) 63
+    && (inRange (r .label) (windowIn r) && (distinct (windowIn r) && (zeroSlots (drop (r .count) (r .window)) && rest)))) ≡ (ok && rest)
+then-window r ok rest e =
+    rw e
+    (grouped (eqb (length (r .window)) 63) (inRange (r .label) (windowIn r)) (distinct (windowIn r)) (zeroSlots (drop (r .count) (r .window)))
+    rest)
+  where
+    grouped : (a b d z rest : Bool) → (a && (b && (d && (z && rest)))) ≡ ((a && (b && (d && z))) && rest)
+    grouped true true true z rest = refl
+    grouped true true false z rest = refl
+    grouped true false d z rest = refl
+    grouped false b d z rest = refl
+
+-- what the first four tests leave, once the window is judged
+four : (c : tie.After-window-ok) (rest : Bool)
+    → let r = c .before .before .before .before .before .before .before .before .before .before .before .before .before .args .r in
+    (withinLimits (r .label)
+    && (ltb (r .hand .0) (r .label .slots)
+    && (stepsTest (r .label) (r .phase)
+    && (leb (r .count) 63
+    && (eqb (length (r .window)) 63
+    && (inRange (r .label) (windowIn r) && (distinct (windowIn r) && (zeroSlots (drop (r .count) (r .window)) && rest)))))))) ≡
+    (c .window-ok .result && rest)
+unfolding windowIn
+four c rest =
     let e = c .before .before in
-    rw (first-three (e .before .before) _, le-leb _ _ (e .if4 .left)) (rw (c .before .window-of .ensures) at (c .window-ok .ensures))
+    let r = e .before .before .before .before .before .before .before .before .before .before .before .args .r in
+    rw (first-three (e .before .before) _, le-leb _ _ (e .if4 .left))
+    (then-window r (c .window-ok .result) rest (rw (c .before .window-of .ensures) at (c .window-ok .ensures)))
+
+returns-5 : tie.Need-returns-5
+unfolding recordTest
+returns-5 c = sym (four (c .before) _ ∙ rw (not-true (c .before .window-ok .result) (c .if5 .taken)))
+
+named-places-requires : tie.Need-named-places-requires
+named-places-requires c κs = search needs
+
+callers-ok-requires : tie.Need-callers-ok-requires
+callers-ok-requires c κs =
+    let e = c .before .before .before .before .before in
+    let r = e .before .before .before .before .before .before .before .before .before .before .before .args .r in
+    rw (c .named-places .ensures) (few (r .phase) (e .if4 .left))
+  where
+    few : (p : Phase) {n : ℕ} → n ≤ 63 → namedPlaces p n ≤ 63
+    few (Formatting d) h = h
+    few Recovering h = omega arith
+    few Ready h = h
+
+returns-6 : tie.Need-returns-6
+unfolding recordTest
+returns-6 c =
+    let n = c .before in
+    let e = n .before .before in
+    let t = rw (n .named-places .ensures) at (c .callers-ok .ensures) in
+    sym (four (e .before) _ ∙ rw (not-false (e .before .window-ok .result) (e .if5 .left)) (sym t))
 
 pub record-ok-spec : {M : Type 1} → statement M
 record-ok-spec =
@@ -73,4 +135,7 @@ record-ok-spec =
     returns-4
     window-of-requires
     window-ok-requires
-    returns-5)
+    returns-5
+    named-places-requires
+    callers-ok-requires
+    returns-6)

@@ -71,7 +71,7 @@ returns c =
     let n = c .before .before in
     let x = box (entry (n .before)) in
     rw (c .refused2 .ensures, n .before .before .turn2 .given .1)
-    (ap (λ (e : Effect). left e (x .images)) (turn-spent _ _ _ _ (entry (n .before) .args .b) x (sym (n .is-spent .ensures) ∙ c .before .if1 .taken)))
+    (ap (λ (e : Effect). left e (x .images)) (turn-spent _ _ _ _ (entry (n .before) .args .b) (entry (n .before) .args .caller) x (sym (n .is-spent .ensures) ∙ c .before .if1 .taken)))
 
 clear-used-requires : tie.Need-clear-used-requires
 clear-used-requires c κs =
@@ -143,7 +143,7 @@ returns-4 c =
     let e = k .before .before in
     let x = box (entry (e .before .before)) in
     rw (z .0, z .1, z .2, k .clear-used .ensures, e .before .before .before .turn2 .given .1)
-    (ap (λ (e : Effect). left e (x .images)) (turn-opens _ _ _ _ (entry (e .before .before) .args .b) x (sym (e .before .is-spent .ensures) ∙ e .if1 .left)))
+    (ap (λ (e : Effect). left e (x .images)) (turn-opens _ _ _ _ (entry (e .before .before) .args .b) (entry (e .before .before) .args .caller) x (sym (e .before .is-spent .ensures) ∙ e .if1 .left)))
 
 same-length-3 : tie.Need-same-length-3
 same-length-3 c = search needs

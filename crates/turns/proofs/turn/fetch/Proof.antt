@@ -23,19 +23,19 @@ enum-told-5 : tie.Need-enum-told-5
 enum-told-5 c = search needs
 
 returns : tie.Need-returns
-returns c = let a = c .before .before .before .before .args in c .sweeps .ensures ∙ ap (fetchTurn (a .table .now) (a .state)) (sym (c .before .enum-told .given .1))
+returns c = let a = c .before .before .before .before .args in c .sweeps .ensures ∙ ap (fetchTurn (a .table .now) (a .state) (a .caller)) (sym (c .before .enum-told .given .1))
 
 returns-2 : tie.Need-returns-2
-returns-2 c = let a = c .before .before .before .args in ap (fetchTurn (a .table .now) (a .state)) (sym (c .enum-told2 .given .1))
+returns-2 c = let a = c .before .before .before .args in ap (fetchTurn (a .table .now) (a .state) (a .caller)) (sym (c .enum-told2 .given .1))
 
 returns-3 : tie.Need-returns-3
-returns-3 c = let a = c .before .before .before .args in ap (fetchTurn (a .table .now) (a .state)) (sym (c .enum-told3 .given .1))
+returns-3 c = let a = c .before .before .before .args in ap (fetchTurn (a .table .now) (a .state) (a .caller)) (sym (c .enum-told3 .given .1))
 
 returns-4 : tie.Need-returns-4
-returns-4 c = let a = c .before .before .before .args in ap (fetchTurn (a .table .now) (a .state)) (sym (c .enum-told4 .given .1))
+returns-4 c = let a = c .before .before .before .args in ap (fetchTurn (a .table .now) (a .state) (a .caller)) (sym (c .enum-told4 .given .1))
 
 returns-5 : tie.Need-returns-5
-returns-5 c = let a = c .before .before .before .args in ap (fetchTurn (a .table .now) (a .state)) (sym (c .enum-told5 .given .1))
+returns-5 c = let a = c .before .before .before .args in ap (fetchTurn (a .table .now) (a .state) (a .caller)) (sym (c .enum-told5 .given .1))
 
 pub fetch-spec : {M : Type 1} → statement M
 fetch-spec =

@@ -28,19 +28,19 @@ enum-told-4 : tie.Need-enum-told-4
 enum-told-4 c = search needs
 
 returns : tie.Need-returns
-returns c = let a = c .before .before .before .before .args in c .sweeps .ensures ∙ ap (offerTurn (a .table .now) (a .state)) (sym (c .before .enum-told .given .1))
+returns c = let a = c .before .before .before .before .args in c .sweeps .ensures ∙ ap (offerTurn (a .table .now) (a .state) (a .caller)) (sym (c .before .enum-told .given .1))
 
 returns-2 : tie.Need-returns-2
-returns-2 c = let a = c .before .before .before .before .before .args in c .opens-clean .ensures ∙ ap (offerTurn (a .table .now) (a .state)) (sym (c .before .before .condition .given .1))
+returns-2 c = let a = c .before .before .before .before .before .args in c .opens-clean .ensures ∙ ap (offerTurn (a .table .now) (a .state) (a .caller)) (sym (c .before .before .condition .given .1))
 
 returns-3 : tie.Need-returns-3
-returns-3 c = search needs
+returns-3 c = let a = c .before .before .before .args in ap (offerTurn (a .table .now) (a .state) (a .caller)) (sym (c .enum-told2 .given .1))
 
 returns-4 : tie.Need-returns-4
-returns-4 c = let a = c .before .before .before .args in ap (offerTurn (a .table .now) (a .state)) (sym (c .enum-told3 .given .1))
+returns-4 c = let a = c .before .before .before .args in ap (offerTurn (a .table .now) (a .state) (a .caller)) (sym (c .enum-told3 .given .1))
 
 returns-5 : tie.Need-returns-5
-returns-5 c = let a = c .before .before .before .args in ap (offerTurn (a .table .now) (a .state)) (sym (c .enum-told4 .given .1))
+returns-5 c = let a = c .before .before .before .args in ap (offerTurn (a .table .now) (a .state) (a .caller)) (sym (c .enum-told4 .given .1))
 
 pub offer-spec : {M : Type 1} → statement M
 offer-spec =

@@ -1,4 +1,4 @@
-use borrow.Author.Tests.{le-leb, lt-leb}
+use mathlib.Core.Path.{sym, _∙_}
 use native.Mathlib.Omega.{arith}
 use Rattle.judging.proofs.SlotLaws.{flags-low}
 use Rattle.turns.proofs.TurnLaws.{turn-full, turn-room}
@@ -6,11 +6,11 @@ use borrow.Author.Needs.{needs}
 use Rattle.turns.proofs.turn.opens_clean.Statement.{statement}
 use Rattle.turns.proofs.turn.opens_clean.Tie as tie
 
-cast-if1 : tie.Need-cast-if1
-cast-if1 c = search needs
+crowded-requires : tie.Need-crowded-requires
+crowded-requires c κs = search needs
 
 returns : tie.Need-returns
-returns c = turn-full (c .before .args .table .now) _ (le-leb _ _ (rw (c .before .pre .0 .counted) at (c .if1 .taken)))
+returns c = let k = c .before .crowded .ensures in rw k (turn-full _ _ (λ z. c .if1 .taken (k ∙ z)))
 
 cast-flags : tie.Need-cast-flags
 cast-flags c = search needs
@@ -29,20 +29,18 @@ shared-slice-read-flags c = search needs
 
 add-flags-2 : tie.Need-add-flags-2
 add-flags-2 c =
-    let s = c .before .before .before in
+    let s = c .before .before .before .before .before in
     let f = flags-low (s .args .state) (s .args .table .now) (s .pre .0 .size) (s .pre .0 .rows) (s .args .s) (s .pre .1) in
     omega (arith, f)
 
 returns-2 : tie.Need-returns-2
-returns-2 c =
-    let n = c .before .before .before in
-    turn-room (n .before .args .table .now) _ (lt-leb _ _ (rw (n .before .pre .0 .counted) at (n .if1 .left)))
+returns-2 c = let n = c .before .before .before in turn-room _ _ (sym (n .before .crowded .ensures) ∙ n .if1 .left)
 
 pub opens-clean-spec : {M : Type 1} → statement M
 opens-clean-spec =
     tie.close
     (tie.spec
-    cast-if1
+    crowded-requires
     returns
     cast-flags
     mul-flags

@@ -18,9 +18,9 @@ abbrev start : tie.Else1 → tie.Start
 start c = c .before .before .before .before .before .before
 
 known : (c : tie.Else1) → let a = start c .args in
-    Served (a .ssd .now) (a .hdd .now) 4096 (a .table .now) (a .state) (a .block) (c .before .judge-block .result)
+    Served (a .ssd .now) (a .hdd .now) 4096 (a .table .now) (a .state) (a .block) (a .caller) (c .before .judge-block .result)
 known c = let a = start c .args in
-    served (a .ssd .now) (a .hdd .now) 4096 (a .table .now) (a .state) (a .block) (c .before .judge-block .ensures) (c .if1 .left)
+    served (a .ssd .now) (a .hdd .now) 4096 (a .table .now) (a .state) (a .block) (a .caller) (c .before .judge-block .ensures) (c .if1 .left)
 
 -- the slot that the block's condition names
 within : (c : tie.Else1) → Within (start c .args .state .label .slots) (c .before .judge-block .result .condition)
@@ -43,27 +43,27 @@ returns c =
     let e = c .before .before in
     let a = e .before .before .before .before .before .args in
     rw (c .refused .ensures)
-    (refused-by (offer (a .block)) (boxOf (a .ssd .now) (a .hdd .now) (a .table .now) (a .state)) _ _ (offer-judges (a .ssd .now) (a .hdd .now) (a .table .now) (a .state) (a .block)) (e .judge-block .result .number)
+    (refused-by (offer (a .block) (a .caller)) (boxOf (a .ssd .now) (a .hdd .now) (a .table .now) (a .state)) _ _ (offer-judges (a .ssd .now) (a .hdd .now) (a .table .now) (a .state) (a .block) (a .caller)) (e .judge-block .result .number)
     (found _ (a .table .now) (a .block) (e .judge-block .ensures)) (c .before .if1 .taken))
 
 offer-requires : tie.Need-offer-requires
 offer-requires c κs =
     let e = c .before in
     let a = start e .args in (
-      seen (a .ssd .now) (a .hdd .now) 4096 (a .table .now) (a .state) (a .block) _ (known e),
+      seen (a .ssd .now) (a .hdd .now) 4096 (a .table .now) (a .state) (a .block) (a .caller) _ (known e),
       within e,
     )
 
 -- what its turn leaves is what the call does
 offered : (d : tie.After-offer) → let a = start (d .before .before) .args in let x = boxOf (a .ssd .now) (a .hdd .now) (a .table .now) (a .state) in
-    left (turned (d .offer .result) (a .block) x) (x .images) ≡ offerOf (a .ssd .now) (a .hdd .now) (a .table .now) (a .state) (a .block)
+    left (turned (d .offer .result) (a .block) (a .caller) x) (x .images) ≡ offerOf (a .ssd .now) (a .hdd .now) (a .table .now) (a .state) (a .block) (a .caller)
 offered d =
     let e = d .before .before in
     let a = start e .args in
     let x = boxOf (a .ssd .now) (a .hdd .now) (a .table .now) (a .state) in
-    ap (λ (T : Turn). left (turned T (a .block) x) (x .images))
-    (d .offer .ensures ∙ ap (offerTurn (a .table .now) (a .state)) (sym (known e .is _ refl)))
-    ∙ ap (λ (f : Effect). left f (x .images)) (sym (offer-turned (a .ssd .now) (a .hdd .now) (a .table .now) (a .state) (a .block) (known e .none)))
+    ap (λ (T : Turn). left (turned T (a .block) (a .caller) x) (x .images))
+    (d .offer .ensures ∙ ap (offerTurn (a .table .now) (a .state) (a .caller)) (sym (known e .is _ refl)))
+    ∙ ap (λ (f : Effect). left f (x .images)) (sym (offer-turned (a .ssd .now) (a .hdd .now) (a .table .now) (a .state) (a .block) (a .caller) (known e .none)))
 
 passes-requires : tie.Need-passes-requires
 passes-requires c κs = search needs
@@ -82,7 +82,7 @@ returns-2 c =
     let a = start (d .before .before) .args in
     let x = boxOf (a .ssd .now) (a .hdd .now) (a .table .now) (a .state) in
     rw (c .answered .ensures)
-    (ap (λ (T : Turn). left (turned T (a .block) x) (x .images)) (sym (pass-is (d .offer .result) (sym (p .passes .ensures) ∙ c .before .if2 .taken))) ∙ offered d)
+    (ap (λ (T : Turn). left (turned T (a .block) (a .caller) x) (x .images)) (sym (pass-is (d .offer .result) (sym (p .passes .ensures) ∙ c .before .if2 .taken))) ∙ offered d)
 
 perform-requires : tie.Need-perform-requires
 perform-requires c κs =
@@ -90,7 +90,7 @@ perform-requires c κs =
     let e = d .before .before in
     let a = start e .args in
     let B = known e .box .box in
-    let p = offer-performs (a .ssd .now) (a .hdd .now) (a .table .now) (a .state) (a .block) (known e .none) (e .before .judge-block .result .condition) (within e) in
+    let p = offer-performs (a .ssd .now) (a .hdd .now) (a .table .now) (a .state) (a .block) (a .caller) (known e .none) (e .before .judge-block .result .condition) (within e) in
     (B .fits, (B .sound .hdd-size, (B .record-kept, (B .rows, rw (d .offer .ensures) p))))
 
 same-length-3 : tie.Need-same-length-3
