@@ -1,3 +1,4 @@
+pub mod Examples
 pub mod WordLaws
 pub mod RoundTrip
 pub mod ClosedLaws

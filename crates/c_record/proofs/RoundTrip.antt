@@ -16,6 +16,7 @@ use Rattle.record.specs.declared.Phase.the-variants.{Formatting, Recovering, Re
 use Rattle.layout.proofs.Booleans.{clash, and-parts}
 use Rattle.c_record.specs.Words.{phaseWord, stepsWord, flagWord, phaseIn, isPhase, numbersOf, slotsOf, wordsOf, unpacked, isRecord, recordIn}
 use Rattle.c_record.proofs.WordLaws.{numbers-length}
+use Rattle.c_record.proofs.Examples as computed-first
 
 slots-back : (w : List Slot) → slotsOf (numbersOf w) ≡ w
 unfolding numbersOf slotsOf

@@ -8,6 +8,7 @@ use lib.ListN.{length, getD, set, take, drop, length-map, List·getD-map, length
 use lib.Seq.{take-all, take-suc, take-suc-set, take-at, getD-take, getD-drop, sets-eq, paste, paste-zero, paste-suc}
 use Rattle.layout.specs.declared.Slot.{Slot}
 use Rattle.c_record.specs.Words.{numbersOf, slotsOf}
+use Rattle.c_record.proofs.Examples as computed-first
 
 -- slots and numbers, place by place
 pub numbers-length : (w : List Slot) → length (numbersOf w) ≡ length w

@@ -163,7 +163,8 @@ named =
     ∷ names (lookUp (record { 0 = 1 })) (held (1 ∷ 3 ∷ 0 ∷ 0 ∷ []) 2 true []) Nothing
     ∷ []
 
--- document 02, N7: a slot joins the window with its caller, and leaves it with its caller
+-- document 02, N7: a slot joins the window with its caller, swept for or not, and leaves it with its caller; a copy-out and a store
+-- leave the callers of the others
 abbrev pub by : List ℕ → Box → Box
 by callers x = record { images = x .images; table = x .table; state = withCallers (x .state) callers }
 
@@ -179,6 +180,26 @@ shared =
     (by (0 ∷ 1 ∷ []) (four (5 ∷ 7 ∷ 6 ∷ 7 ∷ 0 ∷ 0 ∷ 0 ∷ 0 ∷ []) 2 3 Ready false (record { 0 = 0 } ∷ record { 0 = 1 } ∷ [])))
     (leaving done (stores ssdImage 2 (filled 9))
     (by (1 ∷ []) (four (5 ∷ 11 ∷ 6 ∷ 7 ∷ 0 ∷ 0 ∷ 0 ∷ 0 ∷ []) 2 3 Ready true (record { 0 = 1 } ∷ []))))
+    ∷ move (fetch (record { 0 = 7 }) 1) (by (0 ∷ []) (four (5 ∷ 7 ∷ 6 ∷ 1 ∷ 0 ∷ 0 ∷ 0 ∷ 0 ∷ []) 1 2 Ready false (record { 0 = 0 } ∷ [])))
+    (leaving (announced (record { 0 = 1 }))
+    (stores ssdImage 1
+    (metaPage (3 ∷ 0 ∷ 0 ∷ 0 ∷ 2 ∷ 0 ∷ []) (0 ∷ 0 ∷ 0 ∷ 0 ∷ 1 ∷ 0 ∷ 0 ∷ 0 ∷ [])
+    (5 ∷ 0 ∷ 0 ∷ 0 ∷ 7 ∷ 0 ∷ 0 ∷ 0 ∷ 7 ∷ 0 ∷ 0 ∷ 0 ∷ 5 ∷ 0 ∷ 0 ∷ 0 ∷ [])))
+    (by (0 ∷ 1 ∷ []) (four (5 ∷ 7 ∷ 7 ∷ 5 ∷ 0 ∷ 0 ∷ 0 ∷ 0 ∷ []) 2 3 Ready false (record { 0 = 0 } ∷ record { 0 = 1 } ∷ []))))
+    ∷ move (offer (record { 0 = 7 }) 1) (by (0 ∷ []) (four (5 ∷ 7 ∷ 6 ∷ 1 ∷ 0 ∷ 0 ∷ 0 ∷ 0 ∷ []) 1 2 Ready false (record { 0 = 0 } ∷ [])))
+    (leaving (announced (record { 0 = 1 }))
+    (stores ssdImage 1
+    (metaPage (3 ∷ 0 ∷ 0 ∷ 0 ∷ 2 ∷ 0 ∷ []) (0 ∷ 0 ∷ 0 ∷ 0 ∷ 1 ∷ 0 ∷ 0 ∷ 0 ∷ [])
+    (5 ∷ 0 ∷ 0 ∷ 0 ∷ 7 ∷ 0 ∷ 0 ∷ 0 ∷ 7 ∷ 0 ∷ 0 ∷ 0 ∷ 7 ∷ 0 ∷ 0 ∷ 0 ∷ [])))
+    (by (0 ∷ 1 ∷ []) (four (5 ∷ 7 ∷ 7 ∷ 7 ∷ 0 ∷ 0 ∷ 0 ∷ 0 ∷ []) 2 3 Ready false (record { 0 = 0 } ∷ record { 0 = 1 } ∷ []))))
+    ∷ move (fetch (record { 0 = 2 }) 0) (by (1 ∷ []) (held (1 ∷ 7 ∷ 0 ∷ 3 ∷ []) 2 false (record { 0 = 0 } ∷ [])))
+    (leaving copiedOut (stores hddImage 0 (filled 4)) (by (1 ∷ []) (held (1 ∷ 7 ∷ 0 ∷ 1 ∷ []) 2 false (record { 0 = 0 } ∷ []))))
+    ∷ move flush (by (1 ∷ []) (four (5 ∷ 7 ∷ 6 ∷ 3 ∷ 0 ∷ 0 ∷ 0 ∷ 0 ∷ []) 2 2 Ready true (record { 0 = 0 } ∷ [])))
+    (leaving done
+    (stores ssdImage 1
+    (metaPage (3 ∷ 0 ∷ 0 ∷ 0 ∷ 1 ∷ 0 ∷ []) (0 ∷ 0 ∷ 0 ∷ 0 ∷ [])
+    (5 ∷ 0 ∷ 0 ∷ 0 ∷ 7 ∷ 0 ∷ 0 ∷ 0 ∷ 6 ∷ 0 ∷ 0 ∷ 0 ∷ 3 ∷ 0 ∷ 0 ∷ 0 ∷ [])))
+    (by (1 ∷ []) (four (5 ∷ 7 ∷ 6 ∷ 3 ∷ 0 ∷ 0 ∷ 0 ∷ 0 ∷ []) 2 3 Ready false (record { 0 = 0 } ∷ []))))
     ∷ []
 
 Moves : AllHold moves
@@ -207,4 +228,4 @@ Named = Listed first (refl, (refl, (refl, tt)))
 
 pub Shared : AllHold shared
 unfolding known
-Shared = Named first (refl, (refl, tt))
+Shared = Named first (refl, (refl, (refl, (refl, (refl, (refl, tt))))))
