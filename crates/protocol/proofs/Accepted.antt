@@ -21,8 +21,8 @@ use Rattle.protocol.specs.Box.{Box}
 use Rattle.protocol.specs.Plan.{Call, step}
 use Rattle.protocol.specs.Kinds.{Aim, aService, kind}
 use Rattle.protocol.specs.Judge.{badRecord, wrongLength, badRows, wrongPhase, lengthsTest, lengthTest, rowTest, agreeTest, rowsTest, isReady, pageLengthTest, test, askedFirst, judged}
-use Rattle.record.specs.Window.{zeroSlots}
-use Rattle.record.specs.Callers.{eachCaller, namedPlaces, callersTest}
+use Rattle.record.specs.Window.{eachPlace, zeroSlots}
+use Rattle.record.specs.Callers.{namedPlaces, callersTest}
 use Rattle.record.proofs.CallerLaws.{Named, named-of}
 use Rattle.record.specs.Rule.{stepsTest, recordTest}
 use Rattle.record.proofs.WindowLaws.{length-array, zero-past}
@@ -119,7 +119,7 @@ module _ (x : Box) (L : Legal x) where
   unfolding callersIn
   callers-size = omega (arith, length-take (x .state .count) (x .state .callers), named-callers .size, L .count-is, few)
 
-  pub callers-known : eachCaller (λ c. leb c 1) (callersIn (x .state)) ≡ true
+  pub callers-known : eachPlace (λ c. leb c 1) (callersIn (x .state)) ≡ true
   unfolding callersIn
   callers-known = named-callers .known
 

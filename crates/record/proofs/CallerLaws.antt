@@ -4,56 +4,37 @@ use mathlib.Core.Path.{_≡_, refl, sym, ap, _∙_}
 use mathlib.Core.Bool.{Bool, true, false, _&&_}
 use mathlib.Core.List.{List, [], _∷_, _++_}
 use native.Mathlib.Omega.{arith}
-use lib.ListN.{length, getD, set, take, drop, replicate, length-append, length-take, length-drop, length-replicate, take-append-drop}
+use lib.ListN.{length, take, drop, replicate, length-append, length-take, length-drop, length-replicate, take-append-drop}
 use lib.Seq.{take-at, drop-at}
 use lib.Dec.{eqb, leb}
 use borrow.Author.Tests.{eqb-true, eq-eqb, le-leb}
 use Rattle.layout.specs.declared.Slot.{Slot}
-use Rattle.layout.proofs.Booleans.{Told, told, told-true, told-false, and-of, and-parts, and-assoc}
-use Rattle.layout.proofs.Loops.{left}
-use Rattle.record.specs.Window.{without, beside}
+use Rattle.layout.proofs.Booleans.{and-of, and-parts, and-assoc}
+use Rattle.record.specs.Window.{eachPlace, without, beside}
 use Rattle.record.specs.declared.Phase.{Phase}
 use Rattle.record.specs.declared.Phase.the-variants.{Formatting, Recovering, Ready}
-use Rattle.record.specs.Callers.{openBy, callerArray, eachCaller, namedPlaces, callersTest}
-use Rattle.record.proofs.WindowLaws.{padded, padded-more, length-without}
+use Rattle.record.specs.Callers.{openBy, callerArray, namedPlaces, callersTest}
+use Rattle.record.proofs.WindowLaws.{padded, length-without}
 use Rattle.record.proofs.LeaveLaws.{length-beside}
 use Rattle.record.proofs.Examples as computed-first
-
--- a test of what is left is the test at hand and a test of the rest
-pub each-caller : (t : ℕ → Bool) (cs : List ℕ) (i d : ℕ) → i < length cs
-    → eachCaller t (drop i cs) ≡ (t (getD cs i d) && eachCaller t (drop (i + 1) cs))
-unfolding eachCaller
-each-caller t cs i d h = rw (left cs i d h)
 
 -- what was passed and what is left make up the whole, one place further too
 pub one-further : {whole now : Bool} (ok ok' t rest : Bool) → (ok && now) ≡ whole → now ≡ (t && rest) → ok' ≡ (ok && t)
     → (ok' && rest) ≡ whole
 one-further ok ok' t rest inv e p = rw (p, and-assoc ok t rest, ← e) inv
 
--- a test at every place
-pub caller-get : (t : ℕ → Bool) (cs : List ℕ) → eachCaller t cs ≡ true → (k : ℕ) → k < length cs → t (getD cs k 0) ≡ true
-unfolding eachCaller
-caller-get t [] e k h = absurd (omega arith)
-caller-get t (c ∷ cs) e zero h = and-parts (t c) (eachCaller t cs) e .0
-caller-get t (c ∷ cs) e (suc k) h = caller-get t cs (and-parts (t c) (eachCaller t cs) e .1) k (omega arith)
-
-pub caller-of : (t : ℕ → Bool) (cs : List ℕ) → ((k : ℕ) → k < length cs → t (getD cs k 0) ≡ true) → eachCaller t cs ≡ true
-unfolding eachCaller
-caller-of t [] h = refl
-caller-of t (c ∷ cs) h = and-of (h 0 (omega arith)) (caller-of t cs (λ k q. h (suc k) (omega arith)))
-
 -- callers that are 0 are as many zeros
-pub nobody-all : (cs : List ℕ) → eachCaller (λ c. eqb c 0) cs ≡ true → cs ≡ replicate (length cs) 0
-unfolding eachCaller
+pub nobody-all : (cs : List ℕ) → eachPlace (λ c. eqb c 0) cs ≡ true → cs ≡ replicate (length cs) 0
+unfolding eachPlace
 nobody-all [] h = refl
 nobody-all (c ∷ cs) h =
-    let p = and-parts (eqb c 0) (eachCaller (λ c. eqb c 0) cs) h in
+    let p = and-parts (eqb c 0) (eachPlace (λ c. eqb c 0) cs) h in
     let e : c ≡ 0 = eqb-true _ _ (p .0) in
     let f = nobody-all cs (p .1) in
     (λ i. e i ∷ f i)
 
-pub nobody-zeros : (n : ℕ) → eachCaller (λ c. eqb c 0) (replicate n 0) ≡ true
-unfolding eachCaller
+pub nobody-zeros : (n : ℕ) → eachPlace (λ c. eqb c 0) (replicate n 0) ≡ true
+unfolding eachPlace
 nobody-zeros zero = refl
 nobody-zeros (suc n) = nobody-zeros n
 
@@ -108,50 +89,50 @@ by-less caller s (t ∷ w) (c ∷ cs) = go (eqb (t .0) (s .0)) (by-less caller s
     go false h = one (eqb c caller) _ _ h
 
 -- a test passed by all of a list is passed by what is taken, dropped or left of it, and by one more that passes it
-pub each-take : (t : ℕ → Bool) (n : ℕ) (cs : List ℕ) → eachCaller t cs ≡ true → eachCaller t (take n cs) ≡ true
-unfolding eachCaller
+pub each-take : (t : ℕ → Bool) (n : ℕ) (cs : List ℕ) → eachPlace t cs ≡ true → eachPlace t (take n cs) ≡ true
+unfolding eachPlace
 each-take t zero cs h = refl
 each-take t (suc n) [] h = refl
-each-take t (suc n) (c ∷ cs) h = let p = and-parts (t c) (eachCaller t cs) h in and-of (p .0) (each-take t n cs (p .1))
+each-take t (suc n) (c ∷ cs) h = let p = and-parts (t c) (eachPlace t cs) h in and-of (p .0) (each-take t n cs (p .1))
 
-pub each-drop : (t : ℕ → Bool) (n : ℕ) (cs : List ℕ) → eachCaller t cs ≡ true → eachCaller t (drop n cs) ≡ true
-unfolding eachCaller
+pub each-drop : (t : ℕ → Bool) (n : ℕ) (cs : List ℕ) → eachPlace t cs ≡ true → eachPlace t (drop n cs) ≡ true
+unfolding eachPlace
 each-drop t zero cs h = h
 each-drop t (suc n) [] h = refl
-each-drop t (suc n) (c ∷ cs) h = each-drop t n cs (and-parts (t c) (eachCaller t cs) h .1)
+each-drop t (suc n) (c ∷ cs) h = each-drop t n cs (and-parts (t c) (eachPlace t cs) h .1)
 
-pub each-more : (t : ℕ → Bool) (c : ℕ) (cs : List ℕ) → eachCaller t cs ≡ true → t c ≡ true → eachCaller t (cs ++ (c ∷ [])) ≡ true
-unfolding eachCaller
+pub each-more : (t : ℕ → Bool) (c : ℕ) (cs : List ℕ) → eachPlace t cs ≡ true → t c ≡ true → eachPlace t (cs ++ (c ∷ [])) ≡ true
+unfolding eachPlace
 each-more t c [] h e = rw e
-each-more t c (d ∷ cs) h e = let p = and-parts (t d) (eachCaller t cs) h in and-of (p .0) (each-more t c cs (p .1) e)
+each-more t c (d ∷ cs) h e = let p = and-parts (t d) (eachPlace t cs) h in and-of (p .0) (each-more t c cs (p .1) e)
 
-pub each-beside : (t : ℕ → Bool) (s : Slot) (w : List Slot) (cs : List ℕ) → eachCaller t cs ≡ true → eachCaller t (beside s w cs) ≡ true
-unfolding eachCaller beside
+pub each-beside : (t : ℕ → Bool) (s : Slot) (w : List Slot) (cs : List ℕ) → eachPlace t cs ≡ true → eachPlace t (beside s w cs) ≡ true
+unfolding eachPlace beside
 each-beside t s [] cs h = h
 each-beside t s (u ∷ w) [] h = refl
 each-beside t s (u ∷ w) (c ∷ cs) h =
-    let p = and-parts (t c) (eachCaller t cs) h in go (eqb (u .0) (s .0)) (p .0) (p .1) (each-beside t s w cs (p .1))
+    let p = and-parts (t c) (eachPlace t cs) h in go (eqb (u .0) (s .0)) (p .0) (p .1) (each-beside t s w cs (p .1))
   where
-    go : (b : Bool) → t c ≡ true → eachCaller t cs ≡ true → eachCaller t (beside s w cs) ≡ true
-        → eachCaller t (elim b [ true ↦ cs | false ↦ c ∷ beside s w cs ]) ≡ true
+    go : (b : Bool) → t c ≡ true → eachPlace t cs ≡ true → eachPlace t (beside s w cs) ≡ true
+        → eachPlace t (elim b [ true ↦ cs | false ↦ c ∷ beside s w cs ]) ≡ true
     go true x y z = y
     go false x y z = and-of x z
 
-each-imp : (t u : ℕ → Bool) → ((c : ℕ) → t c ≡ true → u c ≡ true) → (cs : List ℕ) → eachCaller t cs ≡ true → eachCaller u cs ≡ true
-unfolding eachCaller
+each-imp : (t u : ℕ → Bool) → ((c : ℕ) → t c ≡ true → u c ≡ true) → (cs : List ℕ) → eachPlace t cs ≡ true → eachPlace u cs ≡ true
+unfolding eachPlace
 each-imp t u f [] h = refl
-each-imp t u f (c ∷ cs) h = let p = and-parts (t c) (eachCaller t cs) h in and-of (f c (p .0)) (each-imp t u f cs (p .1))
+each-imp t u f (c ∷ cs) h = let p = and-parts (t c) (eachPlace t cs) h in and-of (f c (p .0)) (each-imp t u f cs (p .1))
 
 -- callers that keep their rule beside a window of n slots
 pub record Named (n : ℕ) (cs : List ℕ) : Type 0 where
   pub size : length cs ≡ 63
-  pub known : eachCaller (λ c. leb c 1) (take n cs) ≡ true
-  pub past : eachCaller (λ c. eqb c 0) (drop n cs) ≡ true
+  pub known : eachPlace (λ c. leb c 1) (take n cs) ≡ true
+  pub past : eachPlace (λ c. eqb c 0) (drop n cs) ≡ true
 
 pub named-at : (n : ℕ) (cs : List ℕ) → callersTest n cs ≡ true → Named n cs
 named-at n cs h =
     let p = and-parts (eqb (length cs) 63) _ h in
-    let q = and-parts (eachCaller (λ c. leb c 1) (take n cs)) _ (p .1) in
+    let q = and-parts (eachPlace (λ c. leb c 1) (take n cs)) _ (p .1) in
     record { size = eqb-true _ _ (p .0); known = q .0; past = q .1 }
 
 -- while mending all of them are 0
@@ -198,7 +179,7 @@ pub length-callers : (cs : List ℕ) → length cs ≤ 63 → length (callerArra
 unfolding callerArray
 length-callers cs few = length-append cs _ ∙ rw length-replicate (omega arith)
 
-pub array-named : (cs : List ℕ) → length cs ≤ 63 → eachCaller (λ c. leb c 1) cs ≡ true → Named (length cs) (callerArray cs)
+pub array-named : (cs : List ℕ) → length cs ≤ 63 → eachPlace (λ c. leb c 1) cs ≡ true → Named (length cs) (callerArray cs)
 array-named cs few h = record {
   size = length-callers cs few;
   known = rw (take-callers cs) h;
@@ -206,7 +187,7 @@ array-named cs few h = record {
 }
 
 -- callers beside a window, as their array, keep the rule: with one more, and without one
-module _ (w : List Slot) (cs : List ℕ) (size : length cs ≡ length w) (known : eachCaller (λ c. leb c 1) cs ≡ true) where
+module _ (w : List Slot) (cs : List ℕ) (size : length cs ≡ length w) (known : eachPlace (λ c. leb c 1) cs ≡ true) where
   pub joins-test : (s : Slot) (caller : ℕ) → caller ≤ 1 → length w < 63
       → callersTest (length (w ++ (s ∷ []))) (callerArray (cs ++ (caller ∷ []))) ≡ true
   joins-test s caller h few =

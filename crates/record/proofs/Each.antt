@@ -1,35 +1,45 @@
--- A test at every slot of a window: by its places, and by its slots.
-use Prim.Native.Nat.{ℕ, zero, suc, _<_}
+-- A test at every place of a list, place by place, and at every slot of a window, by its slots.
+use Prim.Native.Nat.{ℕ, zero, suc, _+_, _<_}
 use mathlib.Core.Path.{_≡_, refl, sym, ap, _∙_}
 use mathlib.Core.Logic.{_≢_}
 use mathlib.Core.Bool.{Bool, true, false, not, _&&_, _||_, or-true}
 use mathlib.Core.List.{List, [], _∷_}
 use native.Mathlib.Omega.{arith}
-use lib.ListN.{length, getD}
+use lib.ListN.{length, getD, drop}
 use lib.Dec.{eqb, ltb}
 use borrow.Author.Tests.{eqb-true, eqb-false, not-true, eq-eqb, ne-eqb}
 use Rattle.layout.specs.declared.Slot.{Slot}
 use Rattle.layout.specs.declared.Label.{Label}
 use Rattle.layout.specs.PageRule.{listed, distinct, inRange}
 use Rattle.layout.proofs.Booleans.{Told, told, told-true, told-false, clash, and-of, and-parts, not-of}
+use Rattle.layout.proofs.Loops.{left}
 use Rattle.layout.proofs.RuleLaws.{_⇔_}
-use Rattle.record.specs.Window.{zeroSlots, eachSlot}
+use Rattle.record.specs.Window.{zeroSlots, eachPlace, eachSlot}
 use Rattle.record.proofs.Examples as computed-first
+
+-- a test of what is left is the test at hand and a test of the rest
+pub each-at : {A : Type 0} (t : A → Bool) (xs : List A) (i : ℕ) (d : A) → i < length xs
+    → eachPlace t (drop i xs) ≡ (t (getD xs i d) && eachPlace t (drop (i + 1) xs))
+unfolding eachPlace
+each-at t xs i d h = rw (left xs i d h)
+
+-- a test at every place
+pub place-get : {A : Type 0} (t : A → Bool) (xs : List A) (d : A) → eachPlace t xs ≡ true
+    → (k : ℕ) → k < length xs → t (getD xs k d) ≡ true
+unfolding eachPlace
+place-get t [] d e k h = absurd (omega arith)
+place-get t (x ∷ xs) d e zero h = and-parts (t x) (eachPlace t xs) e .0
+place-get t (x ∷ xs) d e (suc k) h = place-get t xs d (and-parts (t x) (eachPlace t xs) e .1) k (omega arith)
+
+pub place-of : {A : Type 0} (t : A → Bool) (xs : List A) (d : A) → ((k : ℕ) → k < length xs → t (getD xs k d) ≡ true)
+    → eachPlace t xs ≡ true
+unfolding eachPlace
+place-of t [] d h = refl
+place-of t (x ∷ xs) d h = and-of (h 0 (omega arith)) (place-of t xs d (λ k q. h (suc k) (omega arith)))
 
 -- the slot at a place of a window (0 past its end)
 abbrev pub at : List Slot → ℕ → Slot
 at w k = getD w k (record { 0 = 0 })
-
-pub place-get : (t : Slot → Bool) (w : List Slot) → eachSlot t w ≡ true → (k : ℕ) → k < length w → t (at w k) ≡ true
-unfolding eachSlot
-place-get t [] e k h = absurd (omega arith)
-place-get t (s ∷ w) e zero h = and-parts (t s) (eachSlot t w) e .0
-place-get t (s ∷ w) e (suc k) h = place-get t w (and-parts (t s) (eachSlot t w) e .1) k (omega arith)
-
-pub place-of : (t : Slot → Bool) (w : List Slot) → ((k : ℕ) → k < length w → t (at w k) ≡ true) → eachSlot t w ≡ true
-unfolding eachSlot
-place-of t [] h = refl
-place-of t (s ∷ w) h = and-of (h 0 (omega arith)) (place-of t w (λ k q. h (suc k) (omega arith)))
 
 -- a listed slot has a place, and a place's slot is listed
 pub place-listed : (w : List Slot) (k : ℕ) → k < length w → listed (at w k) w ≡ true
@@ -50,13 +60,13 @@ listed-place s (u ∷ w) e = go (told (eqb (s .0) (u .0))) (listed-place s w)
 
 pub listed-same : (t : Slot → Bool) (w : List Slot) → eachSlot t w ⇔ ((s : Slot) → listed s w ≡ true → t s ≡ true)
 listed-same t w = (
-  λ e s h. let r = listed-place s w h in ap t (sym (r .2)) ∙ place-get t w e (r .0) (r .1),
-  λ h. place-of t w (λ k q. h (at w k) (place-listed w k q)),
+  λ e s h. let r = listed-place s w h in ap t (sym (r .2)) ∙ place-get t w (record { 0 = 0 }) e (r .0) (r .1),
+  λ h. place-of t w (record { 0 = 0 }) (λ k q. h (at w k) (place-listed w k q)),
 )
 
 -- the tests of a window that are such tests
 pub range-each : (l : Label) (w : List Slot) → inRange l w ≡ eachSlot (λ s. ltb (s .0) (l .slots)) w
-unfolding inRange eachSlot
+unfolding inRange eachPlace
 range-each l [] = refl
 range-each l (s ∷ w) = rw (range-each l w)
 
@@ -72,7 +82,7 @@ zero-of [] h = refl
 zero-of (s ∷ w) h = and-of (eq-eqb _ _ (h 0)) (zero-of w (λ k. h (suc k)))
 
 unlisted-each : (s : Slot) (w : List Slot) → not (listed s w) ≡ eachSlot (λ u. not (eqb (s .0) (u .0))) w
-unfolding listed eachSlot
+unfolding listed eachPlace
 unlisted-each s [] = refl
 unlisted-each s (u ∷ w) = morgan (eqb (s .0) (u .0)) (listed s w) ∙ rw (unlisted-each s w)
   where
@@ -86,7 +96,8 @@ distinct-get [] e k m h q = absurd (omega arith)
 distinct-get (s ∷ w) e k zero h q = absurd (omega arith)
 distinct-get (s ∷ w) e zero (suc m) h q =
     let p = and-parts (not (listed s w)) (distinct w) e in
-    eqb-false _ _ (not-true _ (place-get (λ u. not (eqb (s .0) (u .0))) w (sym (unlisted-each s w) ∙ p .0) m (omega arith)))
+    eqb-false _ _
+    (not-true _ (place-get (λ u. not (eqb (s .0) (u .0))) w (record { 0 = 0 }) (sym (unlisted-each s w) ∙ p .0) m (omega arith)))
 distinct-get (s ∷ w) e (suc k) (suc m) h q = distinct-get w (and-parts (not (listed s w)) (distinct w) e .1) k m (omega arith) (omega arith)
 
 pub distinct-of : (w : List Slot) → ((k m : ℕ) → k < m → m < length w → at w k .0 ≢ at w m .0) → distinct w ≡ true
@@ -94,5 +105,6 @@ unfolding distinct
 distinct-of [] h = refl
 distinct-of (s ∷ w) h =
     and-of
-    (unlisted-each s w ∙ place-of (λ u. not (eqb (s .0) (u .0))) w (λ k q. not-of _ (ne-eqb _ _ (h 0 (suc k) (omega arith) (omega arith)))))
+    (unlisted-each s w
+    ∙ place-of (λ u. not (eqb (s .0) (u .0))) w (record { 0 = 0 }) (λ k q. not-of _ (ne-eqb _ _ (h 0 (suc k) (omega arith) (omega arith)))))
     (distinct-of w (λ k m p q. h (suc k) (suc m) (omega arith) (omega arith)))

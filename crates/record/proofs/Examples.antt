@@ -11,8 +11,8 @@ use Rattle.layout.specs.Window.{windowFrom, arrayOf}
 use Rattle.record.specs.declared.Record.{Record}
 use Rattle.record.specs.declared.Phase.{Phase}
 use Rattle.record.specs.declared.Phase.the-variants.{Formatting, Recovering, Ready}
-use Rattle.record.specs.Window.{zeroSlots, without, beside}
-use Rattle.record.specs.Callers.{openBy, callerArray, eachCaller}
+use Rattle.record.specs.Window.{eachPlace, zeroSlots, without, beside}
+use Rattle.record.specs.Callers.{openBy, callerArray}
 use Rattle.record.specs.Record.{windowIn, callersIn, recordWith, recordOf, withHand, withPhase, withStamp, withWindow, withCallers}
 use Rattle.record.specs.Rule.{recordTest}
 
@@ -52,31 +52,31 @@ others = refl
 
 -- "hand 4 with slots 4"; a window repeated; a slot out of range; not zero past its length; more steps than a format has
 taken : recordTest (boxed (slot 3) Ready (slot 2 ∷ slot 0 ∷ [])) ≡ true
-unfolding recordTest windowIn arrayOf withinLimits inRange distinct listed zeroSlots eachCaller
+unfolding recordTest windowIn arrayOf withinLimits inRange distinct listed zeroSlots eachPlace
 taken = refl
 
 hand-high : recordTest (boxed (slot 4) Ready []) ≡ false
-unfolding recordTest windowIn arrayOf withinLimits inRange distinct listed zeroSlots eachCaller
+unfolding recordTest windowIn arrayOf withinLimits inRange distinct listed zeroSlots eachPlace
 hand-high = refl
 
 twice : recordTest (boxed (slot 3) Ready (slot 2 ∷ slot 2 ∷ [])) ≡ false
-unfolding recordTest windowIn arrayOf withinLimits inRange distinct listed zeroSlots eachCaller
+unfolding recordTest windowIn arrayOf withinLimits inRange distinct listed zeroSlots eachPlace
 twice = refl
 
 slot-high : recordTest (boxed (slot 3) Ready (slot 4 ∷ [])) ≡ false
-unfolding recordTest windowIn arrayOf withinLimits inRange distinct listed zeroSlots eachCaller
+unfolding recordTest windowIn arrayOf withinLimits inRange distinct listed zeroSlots eachPlace
 slot-high = refl
 
 past-length : recordTest (recordWith (labelOf 4 8) (slot 3) 7 Ready true (record { slots = replicate 63 (slot 2); count = 1 })) ≡ false
-unfolding recordTest windowIn arrayOf withinLimits inRange distinct listed zeroSlots eachCaller
+unfolding recordTest windowIn arrayOf withinLimits inRange distinct listed zeroSlots eachPlace
 past-length = refl
 
 steps-most : recordTest (boxed (slot 3) (Formatting 2) []) ≡ true
-unfolding recordTest windowIn arrayOf withinLimits metaPages inRange distinct listed zeroSlots eachCaller
+unfolding recordTest windowIn arrayOf withinLimits metaPages inRange distinct listed zeroSlots eachPlace
 steps-most = refl
 
 steps-high : recordTest (boxed (slot 3) (Formatting 3) []) ≡ false
-unfolding recordTest windowIn arrayOf withinLimits metaPages inRange distinct listed zeroSlots eachCaller
+unfolding recordTest windowIn arrayOf withinLimits metaPages inRange distinct listed zeroSlots eachPlace
 steps-high = refl
 
 -- callers: another than 0 or 1; one past the window's length; one while mending
@@ -88,19 +88,19 @@ unfolding callersIn arrayOf callerArray
 reads-callers = refl
 
 callers-taken : recordTest (named Ready (slot 2 ∷ slot 0 ∷ []) (1 ∷ 0 ∷ [])) ≡ true
-unfolding recordTest windowIn arrayOf callerArray withinLimits inRange distinct listed zeroSlots eachCaller
+unfolding recordTest windowIn arrayOf callerArray withinLimits inRange distinct listed zeroSlots eachPlace
 callers-taken = refl
 
 caller-high : recordTest (named Ready (slot 2 ∷ slot 0 ∷ []) (1 ∷ 2 ∷ [])) ≡ false
-unfolding recordTest windowIn arrayOf callerArray withinLimits inRange distinct listed zeroSlots eachCaller
+unfolding recordTest windowIn arrayOf callerArray withinLimits inRange distinct listed zeroSlots eachPlace
 caller-high = refl
 
 caller-past : recordTest (named Ready (slot 2 ∷ []) (0 ∷ 1 ∷ [])) ≡ false
-unfolding recordTest windowIn arrayOf callerArray withinLimits inRange distinct listed zeroSlots eachCaller
+unfolding recordTest windowIn arrayOf callerArray withinLimits inRange distinct listed zeroSlots eachPlace
 caller-past = refl
 
 caller-pending : recordTest (named Recovering (slot 2 ∷ []) (1 ∷ [])) ≡ false
-unfolding recordTest windowIn arrayOf callerArray withinLimits inRange distinct listed zeroSlots eachCaller
+unfolding recordTest windowIn arrayOf callerArray withinLimits inRange distinct listed zeroSlots eachPlace
 caller-pending = refl
 
 -- "Reopening starts with nothing open": a new record names no caller

@@ -1,5 +1,5 @@
 -- A window without one of its slots, and what stands beside its slots, place by place.
-use Prim.Native.Nat.{ℕ, zero, suc, _+_, _-_, _≤_, _<_}
+use Prim.Native.Nat.{ℕ, zero, suc, _+_, _≤_, _<_}
 use mathlib.Core.Path.{_≡_, refl, sym, ap, _∙_}
 use mathlib.Core.Bool.{Bool, true, false, _||_, or-false}
 use mathlib.Core.List.{List, [], _∷_}
@@ -11,9 +11,7 @@ use lib.Dec.{eqb}
 use borrow.Author.Tests.{eqb-true, eqb-false, ne-eqb}
 use Rattle.layout.specs.declared.Slot.{Slot}
 use Rattle.layout.specs.PageRule.{listed}
-use Rattle.layout.specs.Window.{arrayOf}
 use Rattle.record.specs.Window.{without, beside}
-use Rattle.record.specs.Callers.{callerArray}
 use Rattle.layout.proofs.Booleans.{Told, told, told-true, told-false, clash}
 use Rattle.layout.specs.Numbers.{choose}
 use Rattle.record.proofs.WindowLaws.{padded, padded-more}

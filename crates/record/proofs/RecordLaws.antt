@@ -16,8 +16,8 @@ use Rattle.layout.specs.Window.{slotsIn, arrayOf, windowFrom, ZeroPast}
 use Rattle.layout.proofs.Booleans.{and-parts}
 use Rattle.record.specs.declared.Record.{Record}
 use Rattle.record.specs.declared.Phase.{Phase}
-use Rattle.record.specs.Window.{zeroSlots, without}
-use Rattle.record.specs.Callers.{callerArray, eachCaller, namedPlaces, callersTest}
+use Rattle.record.specs.Window.{eachPlace, zeroSlots, without}
+use Rattle.record.specs.Callers.{callerArray, namedPlaces, callersTest}
 use Rattle.record.specs.Record.{windowOf, windowIn, callersIn, recordOf, putWindow, putCallers, withWindow}
 use Rattle.record.specs.Rule.{stepsTest, recordTest}
 use Rattle.record.proofs.WindowLaws.{take-array, padded-more}
@@ -116,7 +116,7 @@ module _ (r : Record) (P : Parts r) where
   unfolding callersIn
   callers-length = length-take (r .count) (r .callers) ∙ omega (arith, P .most, callers-named .size)
 
-  pub callers-known : eachCaller (λ c. leb c 1) (callersIn r) ≡ true
+  pub callers-known : eachPlace (λ c. leb c 1) (callersIn r) ≡ true
   unfolding callersIn
   callers-known = callers-named .known
 

@@ -20,11 +20,10 @@ use Rattle.layout.proofs.RuleLaws.{_⇔_}
 use Rattle.record.specs.declared.Record.{Record}
 use Rattle.record.specs.declared.Phase.{Phase}
 use Rattle.record.specs.declared.Phase.the-variants.{Formatting, Recovering, Ready}
-use Rattle.record.specs.Window.{zeroSlots}
-use Rattle.record.specs.Callers.{eachCaller, namedPlaces, callersTest}
+use Rattle.record.specs.Window.{eachPlace, zeroSlots}
+use Rattle.record.specs.Callers.{namedPlaces, callersTest}
 use Rattle.record.specs.Record.{windowIn}
 use Rattle.record.specs.Rule.{stepsTest, recordTest, RecordRule}
-use Rattle.record.proofs.CallerLaws.{caller-get, caller-of}
 use Rattle.record.proofs.Each.{at, place-get, place-of, range-each, zero-get, zero-of, distinct-get, distinct-of}
 
 -- a phase's steps
@@ -46,13 +45,13 @@ module _ (r : Record) (few : r .count ≤ 63) (size : length (r .window) ≡ 63)
   range-same : inRange (r .label) (windowIn r) ⇔ ((k : ℕ) → k < r .count → at (r .window) k .0 < r .label .slots)
   range-same = (
     λ h k q.
-        let e = place-get (λ s. ltb (s .0) (r .label .slots)) (windowIn r) (sym (range-each (r .label) (windowIn r)) ∙ h) k
-        (omega (arith, length-in)) in
+        let e = place-get (λ s. ltb (s .0) (r .label .slots)) (windowIn r) (record { 0 = 0 })
+        (sym (range-each (r .label) (windowIn r)) ∙ h) k (omega (arith, length-in)) in
         rw (in-at k q) at (ltb-true (at (windowIn r) k .0) (r .label .slots) e),
     λ h.
         range-each (r .label) (windowIn r)
-        ∙ place-of (λ s. ltb (s .0) (r .label .slots)) (windowIn r) λ k q. let m : k < r .count = omega (arith, length-in) in
-        rw (in-at k m) (lt-ltb _ _ (h k m)),
+        ∙ place-of (λ s. ltb (s .0) (r .label .slots)) (windowIn r) (record { 0 = 0 }) λ k q.
+        let m : k < r .count = omega (arith, length-in) in rw (in-at k m) (lt-ltb _ _ (h k m)),
   )
 
   apart-same : distinct (windowIn r) ⇔ ((k m : ℕ) → k < m → m < r .count → at (r .window) k .0 ≢ at (r .window) m .0)
@@ -74,28 +73,28 @@ module _ (r : Record) (few : r .count ≤ 63) (size : length (r .window) ≡ 63)
 
 -- callers, place by place
 places-same : (n : ℕ) (cs : List ℕ) → length cs ≡ 63 → n ≤ 63
-    → (eachCaller (λ c. leb c 1) (take n cs) && eachCaller (λ c. eqb c 0) (drop n cs))
+    → (eachPlace (λ c. leb c 1) (take n cs) && eachPlace (λ c. eqb c 0) (drop n cs))
     ⇔ (((k : ℕ) → k < n → getD cs k 0 ≤ 1) × ((k : ℕ) → n ≤ k → getD cs k 0 ≡ 0))
 places-same n cs size few = (
   λ h.
-      let p = and-parts (eachCaller (λ c. leb c 1) (take n cs)) _ h in
+      let p = and-parts (eachPlace (λ c. leb c 1) (take n cs)) _ h in
       let z = length-take n cs in (
-        λ k q. leb-true _ _ (rw (getD-take n cs k 0 q) at (caller-get (λ c. leb c 1) (take n cs) (p .0) k (omega arith))),
+        λ k q. leb-true _ _ (rw (getD-take n cs k 0 q) at (place-get (λ c. leb c 1) (take n cs) 0 (p .0) k (omega arith))),
         λ k q. past (p .1) k q (decLt k 63),
       ),
   λ h.
       let z = length-take n cs in
       let y = length-drop n cs in
       and-of
-      (caller-of (λ c. leb c 1) (take n cs) λ k q. let m : k < n = omega arith in rw (getD-take n cs k 0 m) (le-leb _ _ (h .0 k m)))
-      (caller-of (λ c. eqb c 0) (drop n cs) λ k q. rw (getD-drop n cs k 0) (eq-eqb _ _ (h .1 (n + k) (omega arith)))),
+      (place-of (λ c. leb c 1) (take n cs) 0 λ k q. let m : k < n = omega arith in rw (getD-take n cs k 0 m) (le-leb _ _ (h .0 k m)))
+      (place-of (λ c. eqb c 0) (drop n cs) 0 λ k q. rw (getD-drop n cs k 0) (eq-eqb _ _ (h .1 (n + k) (omega arith)))),
 )
   where
-    past : eachCaller (λ c. eqb c 0) (drop n cs) ≡ true → (k : ℕ) → n ≤ k → Dec (k < 63) → getD cs k 0 ≡ 0
+    past : eachPlace (λ c. eqb c 0) (drop n cs) ≡ true → (k : ℕ) → n ≤ k → Dec (k < 63) → getD cs k 0 ≡ 0
     past h k q (yes m) =
         let i : n + (k - n) ≡ k = omega arith in
         let y = length-drop n cs in
-        rw i at (sym (getD-drop n cs (k - n) 0) ∙ eqb-true _ _ (caller-get (λ c. eqb c 0) (drop n cs) h (k - n) (omega arith)))
+        rw i at (sym (getD-drop n cs (k - n) 0) ∙ eqb-true _ _ (place-get (λ c. eqb c 0) (drop n cs) 0 h (k - n) (omega arith)))
     past h k q (no m) = List·getD-eq-default cs 0 {n = k} (omega arith)
 
 -- what the rule says of callers, in a phase

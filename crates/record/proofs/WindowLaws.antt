@@ -16,7 +16,7 @@ use Rattle.layout.specs.Places.{tableLength}
 use Rattle.layout.specs.PageRule.{listed, distinct, inRange}
 use Rattle.layout.specs.Window.{slotsIn, arrayOf, windowFrom, ZeroPast}
 use Rattle.layout.proofs.Loops.{left}
-use Rattle.record.specs.Window.{zeroSlots, eachSlot, without}
+use Rattle.record.specs.Window.{zeroSlots, eachPlace, eachSlot, without}
 use Rattle.record.proofs.Examples as computed-first
 
 -- of a test that one place passes: the search stops there, and goes on where not
@@ -51,7 +51,7 @@ module _ (w : List Slot) (n i : ℕ) (d : Slot) (h : i < n) (m : n ≤ length w)
   distinct-left = rw window-left
 
   pub each-left : (test : Slot → Bool) → eachSlot test (drop i (take n w)) ≡ (test (getD w i d) && eachSlot test (drop (i + 1) (take n w)))
-  unfolding eachSlot
+  unfolding eachPlace
   each-left test = rw window-left
 
 -- a slot of a window in range

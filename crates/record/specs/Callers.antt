@@ -5,6 +5,7 @@ use mathlib.Core.List.{List, [], _∷_, _++_}
 use lib.ListN.{length, take, drop, replicate}
 use lib.Dec.{eqb, leb}
 use Rattle.layout.specs.Window.{windowMost}
+use Rattle.record.specs.Window.{eachPlace}
 use Rattle.record.specs.declared.Phase.{Phase}
 use Rattle.record.specs.declared.Phase.the-variants.{Formatting, Recovering, Ready}
 
@@ -25,11 +26,6 @@ openBy caller (c ∷ cs) = elim (eqb c caller) [ true ↦ suc (openBy caller cs)
 unfoldable pub callerArray : List ℕ → List ℕ
 callerArray cs = cs ++ replicate (windowMost - length cs) 0
 
--- a test at each caller
-unfoldable pub eachCaller : (ℕ → Bool) → List ℕ → Bool
-eachCaller test [] = true
-eachCaller test (c ∷ cs) = test c && eachCaller test cs
-
 -- how many places may name another caller than 0: those up to the length, but none "where pending", which all are while mending
 abbrev pub namedPlaces : Phase → ℕ → ℕ
 namedPlaces (Formatting d) count = count
@@ -40,4 +36,4 @@ namedPlaces Ready count = count
 abbrev pub callersTest : ℕ → List ℕ → Bool
 callersTest named cs =
     eqb (length cs) windowMost
-    && (eachCaller (λ c. leb c importCaller) (take named cs) && eachCaller (λ c. eqb c 0) (drop named cs))
+    && (eachPlace (λ c. leb c importCaller) (take named cs) && eachPlace (λ c. eqb c 0) (drop named cs))

@@ -1,13 +1,16 @@
--- Windows of slots: a test at each slot, slots that are zero, a window without a slot, and what stands beside its slots.
+-- Windows of slots: a test at each place, slots that are zero, a window without a slot, and what stands beside its slots.
 use mathlib.Core.Bool.{Bool, true, false, _&&_}
 use mathlib.Core.List.{List, [], _∷_}
 use lib.Dec.{eqb}
 use Rattle.layout.specs.declared.Slot.{Slot}
 
--- a test at each slot of a window
-unfoldable pub eachSlot : (Slot → Bool) → List Slot → Bool
-eachSlot test [] = true
-eachSlot test (s ∷ w) = test s && eachSlot test w
+-- a test at each place of a list; at each slot of a window
+unfoldable pub eachPlace : {A : Type 0} → (A → Bool) → List A → Bool
+eachPlace test [] = true
+eachPlace test (x ∷ xs) = test x && eachPlace test xs
+
+abbrev pub eachSlot : (Slot → Bool) → List Slot → Bool
+eachSlot test w = eachPlace test w
 
 -- every slot is zero
 unfoldable pub zeroSlots : List Slot → Bool

@@ -16,8 +16,8 @@ ghost use lib.ListN.{length, take, drop};
 ghost use lib.Dec.{eqb, leb};
 ghost use Rattle.layout.specs.PageRule.{listed, distinct, inRange};
 ghost use Rattle.layout.specs.Window.{windowMost, slotsIn};
-ghost use Rattle.record.specs.Window.{zeroSlots};
-ghost use Rattle.record.specs.Callers.{importCaller, eachCaller, namedPlaces, callersTest};
+ghost use Rattle.record.specs.Window.{eachPlace, zeroSlots};
+ghost use Rattle.record.specs.Callers.{importCaller, namedPlaces, callersTest};
 ghost use Rattle.record.specs.Rule.{stepsTest, recordTest};
 
 // Whether the window's slots are in range.
@@ -131,7 +131,7 @@ fn both(a: bool, b: bool) -> bool
 // Whether the callers of the first `n` places are 0 or 1.
 fn known(callers: [u32; WINDOW], n: usize) -> bool
     requires { ⌜ n ≤ windowMost ⌝ }
-    ensures { λ r. ⌜ r ≡ eachCaller (λ c. leb c importCaller) (take n callers) ⌝ }
+    ensures { λ r. ⌜ r ≡ eachPlace (λ c. leb c importCaller) (take n callers) ⌝ }
 {
     let mut ok = true;
     let mut i: usize = 0;
@@ -145,7 +145,7 @@ fn known(callers: [u32; WINDOW], n: usize) -> bool
 // Whether the callers from place `n` on are 0.
 fn nobody_from(callers: [u32; WINDOW], n: usize) -> bool
     requires { ⌜ n ≤ windowMost ⌝ }
-    ensures { λ r. ⌜ r ≡ eachCaller (λ c. eqb c 0) (drop n callers) ⌝ }
+    ensures { λ r. ⌜ r ≡ eachPlace (λ c. eqb c 0) (drop n callers) ⌝ }
 {
     let mut ok = true;
     let mut at: usize = n;

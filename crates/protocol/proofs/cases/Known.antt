@@ -21,9 +21,9 @@ use Rattle.protocol.specs.Condition.{conditionOf, slotFrom, closedSlots}
 use Rattle.protocol.specs.Plan.{Call, reopen, view, lowestFrom, plan}
 use Rattle.protocol.specs.Kinds.{kind, aim, highest}
 use Rattle.record.specs.Record.{labelIn, windowIn, callersIn}
-use Rattle.record.specs.Callers.{openBy, callerArray, eachCaller}
+use Rattle.record.specs.Callers.{openBy, callerArray}
 use Rattle.layout.specs.Window.{arrayOf}
-use Rattle.record.specs.Window.{without, beside, eachSlot, zeroSlots}
+use Rattle.record.specs.Window.{without, beside, eachPlace, zeroSlots}
 use Rattle.protocol.specs.Rows.{eachRow, openRows}
 use Rattle.protocol.specs.Judge.{Reason, noLabel, wrongLength, numberOf, isLabel, labelFor, lengthsTest, lengthTest, pageLengthTest, test, chain, firstOf, judged, labelTest, rowTest, rowsTest}
 use Rattle.record.specs.Rule.{recordTest}
@@ -228,8 +228,8 @@ unfolding sameLabel within storeWithin testKnown judgedKnown effectKnown reopens
     firsts windowOf entryPart decodeEntry rowsFrom countTest zeroTest listed distinct inRange windowTest legalFlags pairTest entryTest
     entriesFrom entriesTest passes pageTest windowIn arrayOf without slotFrom conditionOf closedSlots sweepFrom lowestFrom plan highest
     metasOf entryIn newestFrom eachLegal stampIn stampsDiffer blockIn noneTwice allOpenIn pagesTest recover recoverFrom offPage confirmed
-    usedAll perform labelTest zeroSlots recordTest rowTest eachRow eachSlot rowsTest openRows test firstOf
-    beside openBy callerArray eachCaller callersIn
+    usedAll perform labelTest zeroSlots recordTest rowTest eachRow eachPlace rowsTest openRows test firstOf
+    beside openBy callerArray callersIn
 known l es bs x =
     let ssd : List ℕ = x .images .ssd in
     let hdd : List ℕ = x .images .hdd in

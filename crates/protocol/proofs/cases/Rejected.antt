@@ -24,10 +24,10 @@ use Rattle.protocol.specs.Plan.{step, flush, reopen, offer, land, lookUp
 use Rattle.protocol.specs.Kinds.{kind}
 use Rattle.protocol.specs.Judge.{isReady, labelTest, test, firstOf, judged}
 use Rattle.protocol.specs.Calls.{effectOf, resultOf, viewOf}
-use Rattle.protocol.specs.ReferenceDisk.{Disk, durable, fed}
-use Rattle.protocol.specs.Events.{World, Event, call, readOf, mayFinish, called, run, steps, startOf}
-use Rattle.protocol.specs.Demand3.{finishes, storedWindow, Place, slotSaid, place, own, Mends, Kept, Safe}
-use Rattle.protocol.proofs.cases.Report.{nothing, meta, Line, line, linesOf, Report, readsOf, report, lost, start, filled}
+use Rattle.protocol.specs.ReferenceDisk.{durable, fed}
+use Rattle.protocol.specs.Events.{World, call, mayFinish, called, run, steps, startOf}
+use Rattle.protocol.specs.Demand3.{storedWindow, Place, slotSaid, place, own, Mends, Kept, Safe}
+use Rattle.protocol.proofs.cases.Report.{nothing, Line, line, linesOf, Report, readsOf, report, lost, start, filled}
 use Rattle.protocol.proofs.cases.Known.{known}
 use Rattle.protocol.proofs.cases.Case.{Script, scripted, Computed, shows, usual, one, textOf, fresh}
 use Rattle.protocol.proofs.cases.Refusals.{sized-one}

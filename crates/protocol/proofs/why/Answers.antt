@@ -10,7 +10,6 @@ use Rattle.record.specs.declared.Phase.{Phase}
 use Rattle.record.specs.declared.Phase.the-variants.{Formatting, Recovering, Ready}
 use Rattle.protocol.specs.declared.Answer.{Answer}
 use Rattle.protocol.specs.declared.Answer.the-variants.{Refused, Announced, Overwrite, CopiedOut, Looked, NothingToDo, Done}
-use Rattle.protocol.specs.declared.Condition.{Condition}
 use Rattle.protocol.specs.declared.Condition.the-variants.{NotCached, Clean, Dirty, Writing, Fetching}
 use Rattle.protocol.specs.Reply.{Reply, refusal, answer, replyOf, refused}
 use Rattle.protocol.specs.Box.{Box}

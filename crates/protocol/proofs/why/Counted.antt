@@ -5,12 +5,11 @@ use mathlib.Core.Logic.{_≢_}
 use mathlib.Core.Bool.{Bool, true, false}
 use mathlib.Core.List.{List, [], _∷_, map}
 use native.Mathlib.Omega.{arith}
-use native.Mathlib.Decide.{ℕ-discrete, decLt}
-use lib.ListN.{length, getD, take, length-take}
-use lib.Seq.{getD-take}
+use native.Mathlib.Decide.{ℕ-discrete}
+use lib.ListN.{length, getD, take}
 use lib.Dec.{eqb, leb}
 use borrow.Author.Tests.{leb-true, le-leb, eqb-true, eq-eqb}
-use Rattle.layout.proofs.Booleans.{Told, told, told-true, told-false, clash}
+use Rattle.layout.proofs.Booleans.{clash}
 use Rattle.layout.proofs.RuleLaws.{_⇔_}
 use Rattle.record.specs.declared.Record.{Record}
 use Rattle.record.specs.Callers.{openBy}

@@ -20,7 +20,7 @@ use Rattle.layout.proofs.Booleans.{clash, and-of, and-parts, or-use, or-neither
 use Rattle.layout.proofs.RuleLaws.{_⇔_, page-rule}
 use Rattle.protocol.specs.Rows.{valid, writing}
 use Rattle.protocol.specs.Recovery.{entryIn, Newest, newer, newestFrom, newestOf, eachLegal, stampIn, stampsDiffer, blockIn, noneTwice, allOpenIn, storedRows, pagesTest}
-use Rattle.record.specs.Window.{eachSlot}
+use Rattle.record.specs.Window.{eachPlace, eachSlot}
 use Rattle.protocol.specs.Why.{PagesRule}
 use Rattle.protocol.proofs.refine.Metas.{stamp-most}
 use Rattle.protocol.proofs.refine.Entries.{length-rows, rows-block, rows-flags, each-legal, stamps-differ, none-twice}
@@ -115,7 +115,7 @@ module _ (l : Label) (pages : List (List ℕ)) where
 -- the newest window
 open-each : (pages : List (List ℕ)) (w : List Slot)
     → allOpenIn pages w ≡ eachSlot (λ s. valid (entryIn pages s .flags) && writing (entryIn pages s .flags)) w
-unfolding allOpenIn eachSlot
+unfolding allOpenIn eachPlace
 open-each pages [] = refl
 open-each pages (s ∷ w) = rw (open-each pages w)
 
@@ -162,9 +162,11 @@ window-same : (pages : List (List ℕ)) (p : ℕ)
 unfolding windowOf
 window-same pages p = (
   λ e k h.
-      let a = place-get t w (sym (open-each pages w) ∙ e) k (omega (arith, size)) in
+      let a = place-get t w (record { 0 = 0 }) (sym (open-each pages w) ∙ e) k (omega (arith, size)) in
       and-parts _ _ (rw (is-at k h) at a),
-  λ r. open-each pages w ∙ place-of t w λ k q. let h : k < countOf (getD pages p []) = omega (arith, size) in let b = r k h in
+  λ r. open-each pages w ∙ place-of t w (record { 0 = 0 }) λ k q.
+      let h : k < countOf (getD pages p []) = omega (arith, size) in
+      let b = r k h in
       rw (is-at k h) (and-of (b .0) (b .1)),
 )
   where

@@ -6,8 +6,9 @@ use lib.ListN.{length, getD, take, drop, length-take, drop-of-length-le}
 use lib.Seq.{getD-take}
 use lib.Dec.{leb}
 use Rattle.layout.proofs.Booleans.{and-last}
-use Rattle.record.specs.Callers.{eachCaller}
-use Rattle.record.proofs.CallerLaws.{each-caller, one-further}
+use Rattle.record.specs.Window.{eachPlace}
+use Rattle.record.proofs.Each.{each-at}
+use Rattle.record.proofs.CallerLaws.{one-further}
 use borrow.Author.Needs.{needs}
 use native.Mathlib.Omega.{arith}
 use Rattle.record.proofs.rule.known.Statement.{statement}
@@ -15,7 +16,7 @@ use Rattle.record.proofs.rule.known.Tie as tie
 
 abbrev Inv-loop : tie.InvT-loop
 Inv-loop n callers ok₀ i₀ ok i =
-    (i ≤ n) × ((ok && eachCaller (λ c. leb c 1) (drop i (take n callers))) ≡ eachCaller (λ c. leb c 1) (take n callers))
+    (i ≤ n) × ((ok && eachPlace (λ c. leb c 1) (drop i (take n callers))) ≡ eachPlace (λ c. leb c 1) (take n callers))
 
 abbrev μ-loop : tie.MeasureT-loop
 μ-loop n callers ok₀ i₀ ok i = n - i
@@ -48,18 +49,18 @@ loop-again c =
     let e : getD (take (a .n) (a .t1)) i 0 ≡ getD (a .t1) i 0 = getD-take (a .n) (a .t1) i 0 (omega arith) in (
       omega arith,
       one-further (b .loop .ok) _ (leb (getD (a .t1) i 0) 1) _ (b .loop .inv .1)
-          (rw e at (each-caller (λ x. leb x 1) (take (a .n) (a .t1)) i 0 (omega arith))) (c .both .ensures),
+          (rw e at (each-at (λ x. leb x 1) (take (a .n) (a .t1)) i 0 (omega arith))) (c .both .ensures),
     )
 
 returns : tie.Need-returns Inv-loop μ-loop
-unfolding eachCaller
+unfolding eachPlace
 returns c =
     let b = c .before in
     let a = b .before .args in
     let all : length (a .t1) ≡ 63 = search needs in
     let z = length-take (a .n) (a .t1) in
     and-last (b .loop .ok)
-    ∙ ap (λ (l : List ℕ). b .loop .ok && eachCaller (λ x. leb x 1) l) (sym (drop-of-length-le (take (a .n) (a .t1)) {i = b .loop .i} (omega arith)))
+    ∙ ap (λ (l : List ℕ). b .loop .ok && eachPlace (λ x. leb x 1) l) (sym (drop-of-length-le (take (a .n) (a .t1)) {i = b .loop .i} (omega arith)))
     ∙ b .loop .inv .1
 
 pub known-spec : {M : Type 1} → statement M

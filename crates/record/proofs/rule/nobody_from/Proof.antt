@@ -5,8 +5,9 @@ use mathlib.Core.List.{List}
 use lib.ListN.{length, getD, drop, drop-of-length-le}
 use lib.Dec.{eqb}
 use Rattle.layout.proofs.Booleans.{and-last}
-use Rattle.record.specs.Callers.{eachCaller}
-use Rattle.record.proofs.CallerLaws.{each-caller, one-further}
+use Rattle.record.specs.Window.{eachPlace}
+use Rattle.record.proofs.Each.{each-at}
+use Rattle.record.proofs.CallerLaws.{one-further}
 use borrow.Author.Needs.{needs}
 use native.Mathlib.Omega.{arith}
 use Rattle.record.proofs.rule.nobody_from.Statement.{statement}
@@ -14,7 +15,7 @@ use Rattle.record.proofs.rule.nobody_from.Tie as tie
 
 abbrev Inv-loop : tie.InvT-loop
 Inv-loop n callers ok₀ i₀ ok i =
-    (i ≤ 63) × ((ok && eachCaller (λ c. eqb c 0) (drop i callers)) ≡ eachCaller (λ c. eqb c 0) (drop n callers))
+    (i ≤ 63) × ((ok && eachPlace (λ c. eqb c 0) (drop i callers)) ≡ eachPlace (λ c. eqb c 0) (drop n callers))
 
 abbrev μ-loop : tie.MeasureT-loop
 μ-loop n callers ok₀ i₀ ok i = 63 - i
@@ -43,18 +44,18 @@ loop-again c =
     let cs = b .before .args .t1 in
     let all : length cs ≡ 63 = search needs in (
       omega arith,
-      one-further (b .loop .ok) _ (eqb (getD cs (b .loop .at) 0) 0) _ (b .loop .inv .1) (each-caller (λ x. eqb x 0) cs (b .loop .at) 0 (omega arith))
-          (c .both .ensures),
+      one-further (b .loop .ok) _ (eqb (getD cs (b .loop .at) 0) 0) _ (b .loop .inv .1)
+          (each-at (λ x. eqb x 0) cs (b .loop .at) 0 (omega arith)) (c .both .ensures),
     )
 
 returns : tie.Need-returns Inv-loop μ-loop
-unfolding eachCaller
+unfolding eachPlace
 returns c =
     let b = c .before in
     let cs = b .before .args .t1 in
     let all : length cs ≡ 63 = search needs in
     and-last (b .loop .ok)
-    ∙ ap (λ (l : List ℕ). b .loop .ok && eachCaller (λ x. eqb x 0) l) (sym (drop-of-length-le cs {i = b .loop .at} (omega arith)))
+    ∙ ap (λ (l : List ℕ). b .loop .ok && eachPlace (λ x. eqb x 0) l) (sym (drop-of-length-le cs {i = b .loop .at} (omega arith)))
     ∙ b .loop .inv .1
 
 pub nobody-from-spec : {M : Type 1} → statement M

@@ -1,4 +1,4 @@
-use mathlib.Core.Path.{_≡_, sym, _∙_}
+use mathlib.Core.Path.{sym, _∙_}
 use borrow.Author.Tests.{le-leb, lt-leb}
 use Rattle.turns.proofs.TurnLaws.{crowd-import, crowd-full, crowd-none}
 use borrow.Author.Needs.{needs}

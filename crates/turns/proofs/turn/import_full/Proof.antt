@@ -1,11 +1,6 @@
-use mathlib.Core.Path.{_≡_, ap, _∙_}
-use mathlib.Core.Bool.{_&&_}
-use lib.ListN.{take}
-use lib.Dec.{eqb, leb}
 use borrow.Author.Tests.{eq-eqb, ne-eqb}
 use Rattle.record.specs.Record.{callersIn}
 use Rattle.record.proofs.RecordLaws.{parts}
-use borrow.Author.Needs.{needs}
 use Rattle.turns.proofs.turn.import_full.Statement.{statement}
 use Rattle.turns.proofs.turn.import_full.Tie as tie
 
