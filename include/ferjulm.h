@@ -9,7 +9,7 @@
  *     ferjulm_format(...), then ferjulm_step(...) until record[FERJULM_PHASE] == FERJULM_READY
  *
  * What a caller holds to:
- * - One caller at a time: no two calls on one box at once, and nobody else reads or writes what a call was lent meanwhile.
+ * - One call at a time: no two calls on one box at once, and nobody else reads or writes what a call was lent meanwhile.
  * - No pointer is null, not even one with length 0. Pointers to 32-bit words are aligned to 4 bytes, `offset` to 8. Each
  *   pointer with length n points to n elements.
  * - What is lent to one call does not overlap: images, table, record, page, sheet, lists and out-parameters.
@@ -22,9 +22,9 @@
  * valid, 2 dirty, 4 writing (the slot is open) and 8 used (looked up, or landed by a write, since a sweep last passed). A free
  * row is zero.
  *
- * Lengths are counted in elements: bytes of an image, page or sheet, 32-bit words of table and record. Nothing else has to hold of
- * what is lent: any length, any bytes and any words are judged, and refused by number where they break a rule. What is lent
- * `const` is only read. A refusal changes nothing that was lent, out-parameters included.
+ * Lengths are counted in elements: bytes of an image, page or sheet, 32-bit words of table, record and lists. Nothing else has
+ * to hold of what is lent: any length, any bytes and any words are judged, and refused by number where they break a rule. What
+ * is lent `const` is only read. A refusal changes nothing that was lent, out-parameters included.
  *
  * The page that a call stored is told by the last two out-parameters of every call that may store one. Where such a call is not
  * refused, *image becomes FERJULM_NOWHERE (nothing was stored, and *offset becomes 0), FERJULM_SSD or FERJULM_HDD, and *offset

@@ -1,7 +1,6 @@
 -- The calls: judged, planned, performed. The right side of every call's contract.
 use Prim.Native.Nat.{ℕ}
 use mathlib.Core.List.{List, [], _++_}
-use lib.ListN.{length}
 use mathlib.Core.Option.{Option, some, none}
 use lib.ListN.{length, drop}
 use Rattle.pages.specs.Parts.{Part, pagePart}

@@ -36,6 +36,7 @@ use Rattle.protocol.specs.SlotMap.{mapBytes}
 pub data Reason : Type 0 where
   badLimits noLabel badRecord wrongLength badRows wrongPhase blockTooHigh : Reason
   slotOpen wrongState hasSlot windowFull allOpen stampsSpent : Reason
+  -- document 02, N1
   sheetShort : Reason
   -- document 02, N6
   badList : Reason

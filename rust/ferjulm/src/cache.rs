@@ -125,10 +125,9 @@ impl<'a> Cache<'a> {
     /// 3 to 6, 7 (the block), 8 (its slot is open), 17 (the import has 8 slots open), 11, 12 (no slot to be had) and 13 (stamps).
     pub fn offer(&mut self, block: Block, caller: Caller) -> Result<Offered, Refusal> {
         let mut out = Out::default();
-        let caller = caller as u32;
         let code = call!(self.offer(
             block.0,
-            caller,
+            caller as u32,
             &mut out.slot,
             &mut out.image,
             &mut out.offset
@@ -174,10 +173,9 @@ impl<'a> Cache<'a> {
     /// slot to be had) and 13 (stamps).
     pub fn fetch(&mut self, block: Block, caller: Caller) -> Result<Fetched, Refusal> {
         let mut out = Out::default();
-        let caller = caller as u32;
         let code = call!(self.fetch(
             block.0,
-            caller,
+            caller as u32,
             &mut out.slot,
             &mut out.image,
             &mut out.offset

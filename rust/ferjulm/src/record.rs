@@ -16,9 +16,9 @@ const CALLERS: usize = 71;
 pub enum Caller {
     /// People, who type.
     #[default]
-    People,
+    People = 0,
     /// The scanner's import.
-    Import,
+    Import = 1,
 }
 
 /// The phase of a box.

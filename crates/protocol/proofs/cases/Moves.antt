@@ -17,8 +17,6 @@ use Rattle.protocol.proofs.cases.Report.{diskOf, filled, metaPage, labe
 use Rattle.protocol.proofs.cases.Known.{known}
 use Rattle.layout.specs.declared.Slot.{Slot}
 use Rattle.record.specs.declared.Phase.{Phase}
-use Rattle.protocol.proofs.cases.Report.{diskOf, filled, metaPage, labelPage, pages}
-use Rattle.protocol.proofs.cases.Known.{known}
 use Rattle.protocol.proofs.cases.Case.{Case, names, closed, AllHold, _first_, usual, two, textOf, imageless, leaving, stores, move, words}
 
 -- A box of two slots. The used flag (8) outlives an offer of a clean block,
