@@ -48,8 +48,9 @@ extern "C" {
 #define FERJULM_MAX_SLOTS 57600
 #define FERJULM_MAX_BLOCKS 16777216
 
-/* The most blocks of a list that is looked up. */
+/* The most blocks of a list that is looked up, and of one that is offered. */
 #define FERJULM_LIST_MOST 64
+#define FERJULM_SCAN_MOST 63
 
 /* The words of a record by index; the window's slots, 63 of them, begin at FERJULM_WINDOW and are zero past the count. The callers of
  * its places, 63 of them too, begin at FERJULM_CALLERS: FERJULM_PEOPLE past the count, and everywhere while recovering. */
@@ -79,7 +80,7 @@ enum {
     FERJULM_READY = 2
 };
 
-/* What a call returns: one of these, or a refusal's number: 1 to 14, or 16 to 18. Where no slot is set here, *slot stays as it was. */
+/* What a call returns: one of these, or a refusal's number, 1 to 18. Where no slot is set here, *slot stays as it was. */
 enum {
     FERJULM_DONE = 0,
     FERJULM_ANNOUNCED = 101, /* the slot is open; *slot is set */
@@ -91,7 +92,8 @@ enum {
     FERJULM_CLEAN = 108,      /* in a slot and not open, as the HDD has it; *slot is set */
     FERJULM_DIRTY = 109,      /* in a slot and not open, the HDD may be behind; *slot is set */
     FERJULM_OPEN_WRITE = 110, /* its slot is open for writing: a write was announced and has not landed; *slot is set */
-    FERJULM_OPEN_FETCH = 111  /* its slot is open for fetch: the fetch has not landed; *slot is set */
+    FERJULM_OPEN_FETCH = 111, /* its slot is open for fetch: the fetch has not landed; *slot is set */
+    FERJULM_DEALT = 112       /* a list offer: the first *dealt places of the list are announced, or overwrites */
 };
 
 /* The image of a page that was stored, or that a view finds a block in. */
@@ -101,8 +103,8 @@ enum {
     FERJULM_HDD = 2
 };
 
-/* Why a call says no; the least number whose condition holds, but for 10 before 8, for 14, 16 and 18 between 6
- * and 7, and for 17 before 11.
+/* Why a call says no; the least number whose condition holds, but for 10 before 8, for 14, 15, 16 and 18 between 6
+ * and 7, and for 17 before 11. Of a list offer 7, 8, 17, 11 and 12 are asked of the list's first block.
  *
  *   1  format: slots or blocks outside the limits
  *   2  reopen, label: SSD under a page, or first page no legal label
@@ -121,9 +123,10 @@ enum {
  *  12  a slot must be swept for, all are open
  *  13  the call would store metadata, and too few stamps are left
  *  14  map: the buffer is shorter than 67 bytes for each line
+ *  15  offer a list: it is empty, over 63, or names a block twice
  *  16  look up a list: it is empty, over 64, or not as long as the answer list
  *  17  what 11 names, by the import with 8 or more slots open
- *  18  offer, fetch: a caller that is neither 0 nor 1
+ *  18  offer, also of a list, fetch: a caller that is neither 0 nor 1
  *
  * Every call but format, reopen and label may refuse with 3, 4, 5 and 6; each function names those that it may give besides.
  */
@@ -196,6 +199,20 @@ uint32_t ferjulm_label(const uint8_t *ssd, size_t ssd_len, uint32_t *slots, uint
 uint32_t ferjulm_offer(uint8_t *ssd, size_t ssd_len, uint8_t *hdd, size_t hdd_len, uint32_t *table, size_t table_len,
                        uint32_t *record, size_t record_len, uint32_t block, uint32_t caller, uint32_t *slot, uint32_t *image,
                        uint64_t *offset);
+
+/* Offers a list of up to FERJULM_SCAN_MOST blocks as one, for a caller: as ferjulm_offer of each, one after another, but all that is
+ * announced goes out in one metadata store, with one stamp.
+ * FERJULM_DEALT: the first *dealt places of the list, at least one, are dealt with: announced, each with a slot that is open now
+ * (ferjulm_look_up names it), or overwrites, for which nothing was stored. Land their bytes, then offer what is left of the list. It
+ * ends before the first place that would be refused, would copy out, or has its slot on another metadata page than the first one
+ * announced; that place leaves no trace.
+ * FERJULM_COPIED_OUT: a dirty page was copied to the HDD to make room for the first place, and that is all: offer the list again.
+ * *dealt is set for FERJULM_DEALT alone. May refuse with 15, 18, then as an offer of the first block with 7, 8, 17, 11 and 12, and with
+ * 13 if anything would be announced and the one store lacks a stamp.
+ */
+uint32_t ferjulm_offer_list(uint8_t *ssd, size_t ssd_len, uint8_t *hdd, size_t hdd_len, uint32_t *table, size_t table_len,
+                            uint32_t *record, size_t record_len, const uint32_t *blocks, size_t blocks_len, uint32_t caller,
+                            uint32_t *dealt, uint32_t *image, uint64_t *offset);
 
 /* Lands a page for a block that is open for writing, or dirty and not open: stores it in the block's slot, sets the slot's used
  * flag, and closes it if it was open. The bytes of a slot that was open last only after a later metadata store, which a flush

@@ -5,7 +5,7 @@ use protocol::Condition;
 use protocol::Stored;
 ghost use mathlib.Core.Path.{_≡_};
 ghost use Rattle.protocol.specs.Reply.{looked, replyOf, refused};
-ghost use Rattle.c_record.specs.Codes.{codeOf, slotAfter, pageOf, placeOf};
+ghost use Rattle.c_record.specs.Codes.{codeOf, slotAfter, dealtAfter, pageOf, placeOf};
 
 // Whether it is a refusal.
 pub fn is_refused(answer: Answer) -> bool
@@ -19,6 +19,7 @@ pub fn is_refused(answer: Answer) -> bool
         Answer::Looked(_) => false,
         Answer::NothingToDo => false,
         Answer::Done => false,
+        Answer::Dealt(_) => false,
     }
 }
 
@@ -60,6 +61,7 @@ pub fn code_of(answer: Answer) -> u32
         Answer::Looked(condition) => code_of_condition(condition),
         Answer::NothingToDo => 106,
         Answer::Done => 0,
+        Answer::Dealt(_) => 112,
     }
 }
 
@@ -75,6 +77,23 @@ pub fn slot_of(answer: Answer, before: u32) -> u32
         Answer::Looked(condition) => slot_of_condition(condition, before),
         Answer::NothingToDo => before,
         Answer::Done => before,
+        Answer::Dealt(_) => before,
+    }
+}
+
+// How many list places it says were dealt with, or what was there before.
+pub fn dealt_of(answer: Answer, before: u32) -> u32
+    ensures { λ r. ⌜ r ≡ dealtAfter (replyOf answer) before ⌝ }
+{
+    match answer {
+        Answer::Refused(_) => before,
+        Answer::Announced(_) => before,
+        Answer::Overwrite => before,
+        Answer::CopiedOut => before,
+        Answer::Looked(_) => before,
+        Answer::NothingToDo => before,
+        Answer::Done => before,
+        Answer::Dealt(places) => places,
     }
 }
 

@@ -3,12 +3,12 @@ use Prim.Native.Nat.{ℕ}
 use mathlib.Core.List.{List}
 use Rattle.protocol.specs.Reply.{Reply, refused}
 use Rattle.protocol.specs.Box.{Result, boxAfter}
-use Rattle.protocol.specs.Plan.{Call, format, step, flush, reopen, offer, fetch, landFetch, lookUp, writeBack, land, lookUpList}
+use Rattle.protocol.specs.Plan.{Call, format, step, flush, reopen, offer, fetch, landFetch, lookUp, writeBack, land, lookUpList, offerList}
 use Rattle.protocol.specs.Calls.{resultOf}
 use Rattle.protocol.specs.ReferenceDisk.{Disk, fed}
 use Rattle.protocol.specs.Events.{World, call, readsIf, finished, apply}
 use Rattle.dispatch.specs.declared.Request.{Request}
-use Rattle.dispatch.specs.declared.Request.the-variants.{Format, Step, Offer, Land, Fetch, LandFetch, LookUp, LookUpList, WriteBack, Flush, Reopen}
+use Rattle.dispatch.specs.declared.Request.the-variants.{Format, Step, Offer, Land, Fetch, LandFetch, LookUp, LookUpList, OfferList, WriteBack, Flush, Reopen}
 
 -- the call that a request is, with the page, the listed blocks and the room for their words beside it
 abbrev pub callOf : Request → List ℕ → List ℕ → ℕ → Call
@@ -20,6 +20,7 @@ callOf (Fetch b caller) page list room = fetch b caller
 callOf (LandFetch b) page list room = landFetch b
 callOf (LookUp b) page list room = lookUp b
 callOf LookUpList page list room = lookUpList list room
+callOf (OfferList caller) page list room = offerList list caller
 callOf (WriteBack b) page list room = writeBack b
 callOf Flush page list room = flush
 callOf Reopen page list room = reopen

@@ -12,7 +12,7 @@ use Rattle.protocol.specs.declared.Condition.{Condition}
 use Rattle.protocol.specs.declared.Condition.the-variants.{NotCached, Clean, Dirty, Writing, Fetching}
 use Rattle.protocol.specs.declared.Outcome.{Outcome}
 use Rattle.protocol.specs.declared.Stored.{Stored}
-use Rattle.protocol.specs.Reply.{Reply, refusal, answer, replyOf}
+use Rattle.protocol.specs.Reply.{Reply, refusal, answer, dealt, replyOf}
 use Rattle.protocol.specs.Box.{Box, Result}
 use Rattle.protocol.specs.Condition.{conditionOf}
 use Rattle.protocol.specs.Plan.{Call, lookUp, lookUpList, lookingUp, plan}
@@ -21,9 +21,9 @@ use Rattle.protocol.specs.Judge.{Reason, judged}
 use Rattle.protocol.specs.Calls.{decided, effectOf, leaves, resultOf, boxOf, listWordsOf}
 use Rattle.c_record.specs.declared.Place.{Place}
 use Rattle.c_record.specs.Words.{wordsOf, unpacked, isRecord}
-use Rattle.c_record.specs.Codes.{codeOf, closedBy, slotAfter, placeAfter}
+use Rattle.c_record.specs.Codes.{codeOf, closedBy, slotAfter, dealtAfter, placeAfter}
 use Rattle.c_record.proofs.RoundTrip.{words-kept}
-use Rattle.ferjulm.specs.Calls.{kept, leftBy, cCall, cSlot, cPlace, cFresh}
+use Rattle.ferjulm.specs.Calls.{kept, leftBy, cCall, cSlot, cDealt, cPlace, cFresh}
 use Rattle.ferjulm.specs.List.{cLocated}
 
 -- what a call and the closing after it leave is what the call's result leaves
@@ -76,11 +76,12 @@ module _ (c : Call) (ssd hdd table words : List ℕ) where
   pub record Barred : Type 0 where
     pub left : kept 3 ssd hdd table words ≡ cCall c ssd hdd table words
     pub slot : (before : ℕ) → before ≡ cSlot c ssd hdd table words before
+    pub places : (before : ℕ) → before ≡ cDealt c ssd hdd table words before
     pub place : (before : Place) → before ≡ cPlace c ssd hdd table words before
 
   pub barred : isRecord words ≡ false → Barred
-  unfolding cCall cSlot cPlace
-  barred h = record { left = rw h; slot = λ before. rw h; place = λ before. rw h }
+  unfolding cCall cSlot cDealt cPlace
+  barred h = record { left = rw h; slot = λ before. rw h; places = λ before. rw h; place = λ before. rw h }
 
   -- a call on what the words unpack to, and the closing: what it leaves
   module _ (r : Record) (o : Outcome) {table′ ssd′ hdd′ : List ℕ} (unpack : r ≡ unpacked words)
@@ -108,6 +109,7 @@ module _ (c : Call) (ssd hdd table words : List ℕ) where
         go : (said : Reply) → code ≡ codeOf said → record { code = code; words = words } ≡ closedBy said (o .state) words
         go (refusal n) e = rw e
         go (answer n s) e = rw (e, state-words)
+        go (dealt n) e = rw (e, state-words)
 
     -- by words that are a record: with the slot and the place
     pub record Past : Type 0 where
@@ -116,15 +118,18 @@ module _ (c : Call) (ssd hdd table words : List ℕ) where
       pub still : R r .state ≡ r → {code : ℕ} → code ≡ codeOf (replyOf (o .answer))
           → record { code = code; words = words; table = table′; ssd = ssd′; hdd = hdd′ } ≡ cCall c ssd hdd table words
       pub slot : (before : ℕ) {next : ℕ} → next ≡ slotAfter (replyOf (o .answer)) before → next ≡ cSlot c ssd hdd table words before
+      pub places : (before : ℕ) {next : ℕ} → next ≡ dealtAfter (replyOf (o .answer)) before → next ≡ cDealt c ssd hdd table words before
       pub place : (before : Place) {next : Place} → next ≡ placeAfter (replyOf (o .answer)) (o .stored) before
           → next ≡ cPlace c ssd hdd table words before
 
     pub past : isRecord words ≡ true → Past
-    unfolding cCall cSlot cPlace
+    unfolding cCall cSlot cDealt cPlace
     past h = record {
       left = λ close. rw h (called close);
       still = λ same e. rw h (called (unchanged h same e));
       slot = λ before e. rw h (e ∙ ap (λ (q : Result). slotAfter (q .said) before) call ∙ ap (λ (q : Record). slotAfter (R q .said) before) unpack);
+      places = λ before e. rw h (e ∙ ap (λ (q : Result). dealtAfter (q .said) before) call
+          ∙ ap (λ (q : Record). dealtAfter (R q .said) before) unpack);
       place = λ before e. rw h (e ∙ ap (λ (q : Result). placeAfter (q .said) (q .stored) before) call
           ∙ ap (λ (q : Record). placeAfter (R q .said) (R q .stored) before) unpack);
     }

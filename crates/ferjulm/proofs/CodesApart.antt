@@ -9,18 +9,18 @@ use native.Mathlib.Omega.{arith}
 use lib.Dec.{eqb, leb}
 use Rattle.record.specs.declared.Record.{Record}
 use Rattle.protocol.specs.declared.Answer.{Answer}
-use Rattle.protocol.specs.declared.Answer.the-variants.{Refused, Announced, Overwrite, CopiedOut, Looked, NothingToDo, Done}
+use Rattle.protocol.specs.declared.Answer.the-variants.{Refused, Announced, Overwrite, CopiedOut, Looked, NothingToDo, Done, Dealt}
 use Rattle.protocol.specs.declared.Condition.the-variants.{NotCached, Clean, Dirty, Writing, Fetching}
 use Rattle.protocol.specs.declared.Stored.{Stored}
-use Rattle.protocol.specs.Reply.{Reply, refusal, answer, replyOf, refused}
+use Rattle.protocol.specs.Reply.{Reply, refusal, answer, dealt, replyOf, refused}
 use Rattle.protocol.specs.Box.{Box, left}
 use Rattle.protocol.specs.Plan.{Call}
-use Rattle.protocol.specs.Judge.{Reason, badLimits, noLabel, badRecord, wrongLength, badRows, wrongPhase, blockTooHigh, slotOpen, wrongState, hasSlot, windowFull, allOpen, stampsSpent, sheetShort, badList, importFull, unknownCaller, numberOf, judged}
+use Rattle.protocol.specs.Judge.{Reason, badLimits, noLabel, badRecord, wrongLength, badRows, wrongPhase, blockTooHigh, slotOpen, wrongState, hasSlot, windowFull, allOpen, stampsSpent, sheetShort, badScan, badList, importFull, unknownCaller, numberOf, judged}
 use Rattle.protocol.specs.Calls.{decided, effectOf, resultOf, boxOf}
 use Rattle.layout.proofs.Booleans.{clash}
 use Rattle.protocol.proofs.why.Answers.{plan-answers}
 use Rattle.c_record.specs.declared.Place.{Place}
-use Rattle.c_record.specs.Codes.{codeOf, slotAfter, placeAfter}
+use Rattle.c_record.specs.Codes.{codeOf, slotAfter, dealtAfter, placeAfter}
 use Rattle.ferjulm.specs.Calls.{kept, leftBy}
 
 pub record IsRefusal (code : ℕ) : Type 0 where
@@ -42,6 +42,7 @@ number-refuses windowFull = omega arith
 number-refuses allOpen = omega arith
 number-refuses stampsSpent = omega arith
 number-refuses sheetShort = omega arith
+number-refuses badScan = omega arith
 number-refuses badList = omega arith
 number-refuses importFull = omega arith
 number-refuses unknownCaller = omega arith
@@ -72,9 +73,10 @@ refusal-keeps c ssd hdd table words r h = by-reason (judged c (boxOf ssd hdd tab
 
 -- out-parameters included
 pub refusal-leaves : (said : Reply) (stored : Stored) (slot : ℕ) (place : Place) → refused said ≡ true
-    → (slotAfter said slot ≡ slot) × (placeAfter said stored place ≡ place)
-refusal-leaves (refusal n) stored slot place h = (refl, refl)
+    → (slotAfter said slot ≡ slot) × (dealtAfter said slot ≡ slot) × (placeAfter said stored place ≡ place)
+refusal-leaves (refusal n) stored slot place h = (refl, refl, refl)
 refusal-leaves (answer n s) stored slot place h = clash h refl
+refusal-leaves (dealt n) stored slot place h = clash h refl
 
 -- any other answer has 0 or a code from 101 on
 pub answer-code : (a : Answer) → refused (replyOf a) ≡ false → (eqb (codeOf (replyOf a)) 0 || leb 101 (codeOf (replyOf a))) ≡ true
@@ -89,6 +91,7 @@ answer-code (Looked (Writing s)) h = refl
 answer-code (Looked (Fetching s)) h = refl
 answer-code NothingToDo h = refl
 answer-code Done h = refl
+answer-code (Dealt n) h = refl
 
 -- the slot changes with 101 and from 108 to 111 alone
 pub slot-code : (a : Answer) (before : ℕ)
@@ -105,3 +108,19 @@ slot-code (Looked (Writing s)) before h = clash refl h
 slot-code (Looked (Fetching s)) before h = clash refl h
 slot-code NothingToDo before h = refl
 slot-code Done before h = refl
+slot-code (Dealt n) before h = refl
+
+-- the places dealt with change with 112 alone
+pub dealt-code : (a : Answer) (before : ℕ) → eqb (codeOf (replyOf a)) 112 ≡ false → dealtAfter (replyOf a) before ≡ before
+dealt-code (Refused n) before h = refl
+dealt-code (Announced s) before h = refl
+dealt-code Overwrite before h = refl
+dealt-code CopiedOut before h = refl
+dealt-code (Looked NotCached) before h = refl
+dealt-code (Looked (Clean s)) before h = refl
+dealt-code (Looked (Dirty s)) before h = refl
+dealt-code (Looked (Writing s)) before h = refl
+dealt-code (Looked (Fetching s)) before h = refl
+dealt-code NothingToDo before h = refl
+dealt-code Done before h = refl
+dealt-code (Dealt n) before h = clash refl h

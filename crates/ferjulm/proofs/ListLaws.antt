@@ -21,10 +21,10 @@ use Rattle.record.specs.Record.{windowIn, callersIn, withHand, withPhase, withS
 use Rattle.record.proofs.WindowLaws.{length-array, length-without}
 use Rattle.record.proofs.LeaveLaws.{beside-few}
 use Rattle.record.proofs.CallerLaws.{length-callers}
-use Rattle.protocol.specs.Reply.{Reply, refusal, answer, refused}
+use Rattle.protocol.specs.Reply.{Reply, refusal, answer, dealt, refused}
 use Rattle.protocol.specs.Rows.{rowFlags, writing}
 use Rattle.protocol.specs.Box.{Box, left, Result, boxAfter}
-use Rattle.protocol.specs.Plan.{slotMap, Call, format, step, flush, reopen, offer, fetch, landFetch, lookUp, view, writeBack, land, lookUpList, ask, Move, lowestPage, stepping, plan}
+use Rattle.protocol.specs.Plan.{slotMap, Call, format, step, flush, reopen, offer, fetch, landFetch, lookUp, view, writeBack, land, lookUpList, offerList, ask, grown, Move, lowestPage, stepping, plan}
 use Rattle.protocol.specs.Perform.{confirmed, landedState, formatState, perform}
 use Rattle.protocol.specs.Recovery.{labelAt, metasOf, newestOf, recover, offPage}
 use Rattle.protocol.specs.Kinds.{Aim}
@@ -35,7 +35,7 @@ use Rattle.protocol.specs.Events.{World, call, called, run}
 use Rattle.protocol.proofs.Judged as judging
 use Rattle.protocol.proofs.Accepted.{service-legal, service-ready, legal-sound}
 use Rattle.protocol.proofs.Sound.{Sound, room}
-use Rattle.protocol.proofs.Does.{Does, does-nothing, does-use, does-use-all, does-open, does-copy, does-land, does-fetch, does-rest, does-confirm}
+use Rattle.protocol.proofs.Does.{Does, does-nothing, does-use, does-use-all, does-announce, does-copy, does-land, does-fetch, does-rest, does-confirm, Openings, opens-one, opens-more, grown-window, openings-sound}
 use Rattle.protocol.proofs.Sorted.{Sorted, is-format, is-reopen, is-step, is-service, sorted}
 use Rattle.protocol.proofs.refine.Windows.{length-nums}
 use Rattle.protocol.proofs.why.Answers.{plan-answers}
@@ -103,18 +103,29 @@ module _ (x : Box) (whole : Whole (x .state)) where
   }
   steps-whole Ready = whole
 
+  -- a slot joins a window that has room, in the box or in what openings left of it
+  joined-whole : (r : Record) → Whole r → (h s : Slot) (c : ℕ) → length (windowIn r) < 63
+      → Whole (grown (x .state) h (windowIn r ++ (s ∷ [])) (callersIn r ++ (c ∷ [])))
+  joined-whole r W h s c few = record {
+    slots = length-array _ (omega (arith, length-append (windowIn r) (s ∷ []), few));
+    callers = length-callers _ (omega (arith, length-append (callersIn r) (c ∷ []), callers-room r W few));
+  }
+
+  openings-whole : Sound (x .state .label) (x .table) (windowIn (x .state)) → {q : ℕ} {t : List ℕ} {h : Slot} {w : List Slot} {cs : List ℕ}
+      → Openings x q t h w cs → Whole (grown (x .state) h w cs)
+  openings-whole S {h = hand} (opens-one {s = s} {c = c} O e) =
+      joined-whole (x .state) whole hand s c (omega (arith, room S (O .few), length-nums (windowIn (x .state))))
+  openings-whole S {h = hand} (opens-more {h = h} {w = w} {cs = cs} {s = s} {c = c} Os O e) =
+      let T = openings-sound Os S in
+      joined-whole (grown (x .state) h w cs) (openings-whole S Os) hand s c
+      (rw grown-window (omega (arith, room T (O .few), length-nums w)))
+
   does-whole : {a : Aim} {m : Move} → Sound (x .state .label) (x .table) (windowIn (x .state)) → Does x a m → Whole (perform m x .state)
   unfolding perform confirmed
   does-whole S (does-nothing z n) = whole
   does-whole S (does-use z n H) = whole
   does-whole S (does-use-all z A) = whole
-  does-whole S (does-open {s = s} {c = c} z O) =
-      let few : length (windowIn (x .state)) < 63 = omega (arith, room S (O .few), length-nums (windowIn (x .state))) in
-      record {
-        slots = length-array _ (omega (arith, length-append (windowIn (x .state)) (s ∷ []), few));
-        callers = length-callers _
-            (omega (arith, length-append (callersIn (x .state)) (c ∷ []), callers-room (x .state) whole few));
-      }
+  does-whole S (does-announce z n O spare) = let W = openings-whole S O in record { slots = W .slots; callers = W .callers }
   does-whole S (does-copy z n C) = record { slots = whole .slots; callers = whole .callers }
   does-whole S (does-land {s = s} H bl y size) = landed-whole (writing (rowFlags (x .table) s)) s
   does-whole S (does-fetch {s = s} z H bl w) = landed-whole (writing (rowFlags (x .table) s)) s
@@ -159,10 +170,12 @@ module _ (c : Call) (k : Left) where
   after-unpacked : (said : Reply) (r : Record) → refused said ≡ false → Whole r → unpacked (wordsAfter said r (k .words)) ≡ r
   after-unpacked (refusal n) r h w = clash refl h
   after-unpacked (answer n s) r h w = unpacked-is r w
+  after-unpacked (dealt n) r h w = unpacked-is r w
 
   after-record : (said : Reply) (r : Record) → refused said ≡ false → Whole r → isRecord (wordsAfter said r (k .words)) ≡ true
   after-record (refusal n) r h w = clash refl h
   after-record (answer n s) r h w = packed-is r w
+  after-record (dealt n) r h w = packed-is r w
 
   left-box : length (k .words) ≡ 134 → boxIn by ≡ boxAfter R
   unfolding effectOf
@@ -253,6 +266,7 @@ once (ask (slotMap n)) k = record {
   stay-record = λ h. h;
 }
 once (lookUpList blocks room) k = served-once (lookUpList blocks room) k refl refl
+once (offerList blocks caller) k = served-once (offerList blocks caller) k refl refl
 
 -- The list.
 module _ (c : Call) (cs : List Call) (k : Left) (d : Disk) where

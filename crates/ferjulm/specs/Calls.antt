@@ -13,7 +13,7 @@ use Rattle.protocol.specs.Judge.{labelTest}
 use Rattle.protocol.specs.Calls.{resultOf, boxOf}
 use Rattle.c_record.specs.declared.Place.{Place}
 use Rattle.c_record.specs.Words.{recordWords, unpacked, recordIn}
-use Rattle.c_record.specs.Codes.{codeOf, slotAfter, placeAfter, wordsAfter}
+use Rattle.c_record.specs.Codes.{codeOf, slotAfter, dealtAfter, placeAfter, wordsAfter}
 
 pub record Left : Type 0 where
   pub code : ℕ
@@ -50,16 +50,25 @@ abbrev pub slotIn : Option Result → ℕ → ℕ
 slotIn none before = before
 slotIn (some r) before = slotAfter (r .said) before
 
+-- document 02, N3: the places dealt with
+abbrev pub dealtIn : Option Result → ℕ → ℕ
+dealtIn none before = before
+dealtIn (some r) before = dealtAfter (r .said) before
+
 abbrev pub placeIn : Option Result → Place → Place
 placeIn none before = before
 placeIn (some r) before = placeAfter (r .said) (r .stored) before
 
--- a call by words that must be a record: what it leaves, the slot that its answer carries, the place of the page that it stored
+-- a call by words that must be a record: what it leaves, the slot or the places dealt with that its answer carries, and the place of the page that it
+-- stored
 unfoldable pub cCall : Call → List ℕ → List ℕ → List ℕ → List ℕ → Left
 cCall c ssd hdd table words = leftIn (resultBy (recordIn words) c ssd hdd table) ssd hdd table words
 
 unfoldable pub cSlot : Call → List ℕ → List ℕ → List ℕ → List ℕ → ℕ → ℕ
 cSlot c ssd hdd table words before = slotIn (resultBy (recordIn words) c ssd hdd table) before
+
+unfoldable pub cDealt : Call → List ℕ → List ℕ → List ℕ → List ℕ → ℕ → ℕ
+cDealt c ssd hdd table words before = dealtIn (resultBy (recordIn words) c ssd hdd table) before
 
 unfoldable pub cPlace : Call → List ℕ → List ℕ → List ℕ → List ℕ → Place → Place
 cPlace c ssd hdd table words before = placeIn (resultBy (recordIn words) c ssd hdd table) before

@@ -8,7 +8,7 @@ use lib.ListN.{length, replicate}
 use lib.Dec.{eqb}
 use Rattle.layout.specs.declared.Block.{Block}
 use Rattle.protocol.specs.Box.{Box}
-use Rattle.protocol.specs.Plan.{Ask, slotMap, Call, format, step, flush, reopen, offer, fetch, landFetch, lookUp, view, writeBack, land, lookUpList, ask}
+use Rattle.protocol.specs.Plan.{Ask, slotMap, Call, format, step, flush, reopen, offer, fetch, landFetch, lookUp, view, writeBack, land, lookUpList, offerList, ask}
 use Rattle.protocol.specs.Kinds.{Kind, aFormat, aReopening, aStep, aService, kind}
 use Rattle.protocol.specs.Calls.{boxOf}
 use Rattle.protocol.specs.ReferenceDisk.{Disk}
@@ -47,6 +47,7 @@ cMade (writeBack b) k = cServed (writeBack b) k
 cMade (land b page) k = cServed (land b page) k
 cMade (ask a) k = cAsked a k
 cMade (lookUpList blocks room) k = cServed (lookUpList blocks room) k
+cMade (offerList blocks caller) k = cServed (offerList blocks caller) k
 
 unfoldable pub cRun : List Call → Left → Left
 cRun [] k = k

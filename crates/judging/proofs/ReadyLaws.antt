@@ -10,6 +10,7 @@ use lib.Dec.{eqb, ltb, leb}
 use borrow.Author.Tests.{eqb-true, leb-false, not-false}
 use Rattle.layout.specs.declared.Slot.{Slot}
 use Rattle.layout.specs.declared.Block.{Block}
+use Rattle.layout.specs.Places.{tableLength}
 use Rattle.layout.specs.PageRule.{listed}
 use Rattle.record.specs.declared.Record.{Record}
 use Rattle.record.specs.declared.Phase.{Phase}
@@ -99,14 +100,18 @@ module _ (ssd hdd : List ℕ) (page : ℕ) (t : List ℕ) (r : Record) where
           let p = pass (ltb 1 caller) 17 (refuseIf (leb (r .label .blocks) (b .0)) 7 0) (sym (e _) ∙ z) in
           (ready (e 0), leb-false _ _ (pass (leb (r .label .blocks) (b .0)) 6 0 (p .1) .0))
 
+-- where table and window of a ready record agree, the window has as many slots as there are writing rows
+pub agree-count : (t : List ℕ) (r : Record) → recordTest r ≡ true → length t ≡ tableLength (labelIn r) → agreeTest Ready t (windowIn r) ≡ true
+    → r .count ≡ openRows t
+agree-count t r e size agree = sym (eqb-true _ _ (and-parts (eachSlot (λ s. writing (rowFlags t s)) (take (r .count) (r .window))) _
+    (ready-is r t e (openRows t) size refl ∙ agree) .1))
+
 module _ (ssd hdd : List ℕ) (page : ℕ) (t : List ℕ) (r : Record) (B : ReadyBox ssd hdd page t r) where
   agree : agreeTest Ready t (windowIn r) ≡ true
   agree = ap (λ (p : Phase). agreeTest p t (windowIn r)) (sym (B .phase-is)) ∙ B .box .sound .agree
 
-  -- the window has as many slots as there are writing rows
   pub open-count : r .count ≡ openRows t
-  open-count = sym (eqb-true _ _ (and-parts (eachSlot (λ s. writing (rowFlags t s)) (take (r .count) (r .window))) _
-      (ready-is r t (B .box .record-kept) (openRows t) (B .box .sound .table-size) refl ∙ agree) .1))
+  open-count = agree-count t r (B .box .record-kept) (B .box .sound .table-size) agree
 
   -- an open slot is in the window
   pub open-listed : (s : Slot) → s .0 < r .label .slots → writing (rowFlags t s) ≡ true → listed s (windowIn r) ≡ true

@@ -12,13 +12,13 @@ use borrow.Author.Tests.{eq-eqb, ne-eqb}
 use Rattle.layout.specs.declared.Block.{Block}
 use Rattle.record.specs.declared.Record.{Record}
 use Rattle.protocol.specs.Box.{Box, refusing, left}
-use Rattle.protocol.specs.Plan.{Call, flush, offer, fetch, landFetch, lookUp, view, writeBack, land, lookUpList, ask, slotMap}
-use Rattle.protocol.specs.Judge.{lengthsTest, Reason, badRecord, wrongLength, badRows, wrongPhase, blockTooHigh, slotOpen, wrongState, hasSlot, windowFull, allOpen, stampsSpent, importFull, unknownCaller, badList, sheetShort, numberOf, lengthTest, test, chain, firstOf, judged}
+use Rattle.protocol.specs.Plan.{Call, flush, offer, fetch, landFetch, lookUp, view, writeBack, land, lookUpList, offerList, ask, slotMap}
+use Rattle.protocol.specs.Judge.{lengthsTest, Reason, badRecord, wrongLength, badRows, wrongPhase, blockTooHigh, slotOpen, wrongState, hasSlot, windowFull, allOpen, stampsSpent, importFull, unknownCaller, badScan, badList, sheetShort, numberOf, lengthTest, test, chain, firstOf, judged}
 use Rattle.protocol.specs.Calls.{resultOf, boxOf}
 use Rattle.layout.proofs.Booleans.{Told, told, told-true, told-false, clash}
 use Rattle.protocol.proofs.Judged.{first-yes, first-no, refused-as}
 use Rattle.protocol.proofs.Reasons.{number-some}
-use Rattle.judging.specs.Judging.{refuseIf, soundThen, readyThen, servesThen, listThen}
+use Rattle.judging.specs.Judging.{refuseIf, soundThen, readyThen, servesThen, listThen, scanThen}
 
 -- the first number of some reasons, or 0
 unfoldable pub numbers : (Reason → Bool) → List Reason → ℕ
@@ -132,6 +132,19 @@ module _ (ssd hdd t : List ℕ) (r : Record) (blocks : List ℕ) (room : ℕ) wh
       (readyThen (length ssd) (length hdd) 4096 t r (listThen blocks room (r .label .blocks) 0)) []
   unfolding numbers test soundThen lengthTest lengthsTest
   list-judges = record { begins = ready-reasons ++ (badList ∷ blockTooHigh ∷ []); chain-is = refl; number-is = refl }
+
+-- a list that is offered, by what 3 to 6 say, and by 15 and 18 besides
+module _ (ssd hdd t : List ℕ) (r : Record) (blocks : List ℕ) (caller : ℕ) where
+  pub offers-begin : Judges (offerList blocks caller) (boxOf ssd hdd t r) (readyThen (length ssd) (length hdd) 4096 t r 0)
+      (badScan ∷ unknownCaller ∷ blockTooHigh ∷ slotOpen ∷ importFull ∷ windowFull ∷ allOpen ∷ stampsSpent ∷ [])
+  unfolding numbers test soundThen lengthTest lengthsTest
+  offers-begin = record { begins = ready-reasons; chain-is = refl; number-is = refl }
+
+  pub offers-judges : Judges (offerList blocks caller) (boxOf ssd hdd t r)
+      (readyThen (length ssd) (length hdd) 4096 t r (scanThen blocks caller 0))
+      (blockTooHigh ∷ slotOpen ∷ importFull ∷ windowFull ∷ allOpen ∷ stampsSpent ∷ [])
+  unfolding numbers test soundThen lengthTest lengthsTest
+  offers-judges = record { begins = ready-reasons ++ (badScan ∷ unknownCaller ∷ []); chain-is = refl; number-is = refl }
 
 module _ (ssd hdd t : List ℕ) (r : Record) (b : Block) where
   pub look-up-judges : Judges (lookUp b) (boxOf ssd hdd t r) (servesThen (length ssd) (length hdd) 4096 t r b 0 0) []

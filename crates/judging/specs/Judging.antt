@@ -13,7 +13,7 @@ use Rattle.protocol.specs.Rows.{openRows}
 use Rattle.protocol.specs.Condition.{conditionOf}
 use Rattle.record.specs.Rule.{recordTest}
 use Rattle.protocol.specs.Kinds.{highest}
-use Rattle.protocol.specs.Judge.{lengthsTest, rowsTest, isReady, listTest}
+use Rattle.protocol.specs.Judge.{lengthsTest, rowsTest, isReady, listTest, scanTest}
 use Rattle.judging.specs.declared.Judged.{Judged}
 
 -- refused by n, or the rest
@@ -40,6 +40,10 @@ servesThen ssd hdd page table state b caller rest =
 -- of a list, 16 and 7 (document 02, N6): by how many words are lent for the answer, and by how many blocks there are
 abbrev pub listThen : List ℕ → ℕ → ℕ → ℕ → ℕ
 listThen blocks room limit rest = refuseIf (not (listTest (length blocks) room)) 16 (refuseIf (leb limit (highest blocks)) 7 rest)
+
+-- of a list that is offered, 15 and 18 (document 02, N3 and N7)
+abbrev pub scanThen : List ℕ → ℕ → ℕ → ℕ
+scanThen blocks caller rest = refuseIf (not (scanTest blocks)) 15 (refuseIf (ltb importCaller caller) 18 rest)
 
 -- what judging finds of a number
 abbrev pub judgedBy : ℕ → List ℕ → Block → Judged

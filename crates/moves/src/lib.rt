@@ -70,23 +70,13 @@ pub fn confirm(ssd: &mut [u8], table: &[u32], state: Record, p: u32, answer: Ans
 }
 
 // Sets a row.
-fn set_row(table: &mut [u32], s: Slot, b: Block, flags: u32)
+pub fn set_row(table: &mut [u32], s: Slot, b: Block, flags: u32)
     requires { ⌜ 2 * s .0 + 1 < length (now table) ⌝ }
     ensures { λ _. ⌜ now (table .exit) ≡ setRow (now (table .entry)) s b flags ⌝ }
 {
     let k = 2 * (s.0 as usize);
     table[k] = b.0;
     table[k + 1] = flags;
-}
-
-// A slot joins the window, with its caller, and the hand moves.
-fn join(state: Record, s: Slot, caller: u32, hand: Slot) -> Record
-    requires { ⌜ recordTest state ≡ true ⌝ }
-    requires { ⌜ state .count < windowMost ⌝ }
-    ensures { λ q. ⌜ q ≡ joined s caller hand state ⌝ }
-{
-    let next = state::joined(state, s, caller);
-    state::with_hand(next, hand)
 }
 
 // Opens a slot for a block and a caller: its row, the window, and then the metadata page. It is announced.
@@ -108,7 +98,7 @@ pub fn open_slot(
     ensures { λ q. ⌜ (q ≡ record { answer = Announced s; state = withStamp (joined s caller hand state) (state .newest + 1); stored = Ssd (metaPlace (labelIn state) (metaOf s)) }) × (now (table .exit) ≡ setRow (now (table .entry)) s b flags) × (now (ssd .exit) ≡ putPage (now (ssd .entry)) (metaPlace (labelIn state) (metaOf s)) (encodeMeta (state .newest + 1) (windowIn (joined s caller hand state)) (rowsOn (metaOf s) (setRow (now (table .entry)) s b flags)))) ⌝ }
 {
     set_row(table, s, b, flags);
-    let next = join(state, s, caller, hand);
+    let next = state::joined(state, s, caller, hand);
     confirm(ssd, table, next, places::meta_of(s), Answer::Announced(s))
 }
 

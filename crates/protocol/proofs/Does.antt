@@ -13,25 +13,26 @@ use Rattle.pages.specs.Pages.{pageAt}
 use Rattle.layout.specs.declared.Slot.{Slot}
 use Rattle.layout.specs.declared.Block.{Block}
 use Rattle.layout.specs.declared.Label.{Label}
-use Rattle.layout.specs.Places.{blockPlace}
+use Rattle.layout.specs.Places.{blockPlace, metaOf, tableLength}
 use Rattle.protocol.specs.declared.Condition.{Condition}
-use Rattle.protocol.specs.Reply.{Reply, refused}
+use Rattle.protocol.specs.Reply.{Reply, overwrite, copiedOut, nothingToDo, refused}
 use Rattle.protocol.specs.Rows.{rowFlags, setFlags, setRow, valid, dirty, writing, withWriting, openRows}
+use Rattle.record.specs.declared.Record.{Record}
 use Rattle.record.specs.Callers.{openBy}
 use Rattle.record.specs.Record.{labelIn, windowIn, callersIn, largestStamp}
 use Rattle.record.proofs.CallerLaws.{by-more}
 use Rattle.protocol.specs.Box.{Box}
 use Rattle.protocol.specs.Condition.{conditionOf, closedSlots, isOpen, takesWrite, takesFetch}
 use Rattle.protocol.specs.Sweep.{Victim, sweep}
-use Rattle.protocol.specs.Plan.{flush, offer, fetch, landFetch, lookUp, view, writeBack, land, lookUpList, ask, Ask, slotMap, Move, stay, uses, usesAll, opens, lands, copies, confirms, takesAs, takes, offering, fetching, landing, landingFetch, lookingUp, writingBack, flushing, plan, storesMeta}
+use Rattle.protocol.specs.Plan.{flush, offer, fetch, landFetch, lookUp, view, writeBack, land, lookUpList, ask, Ask, slotMap, grown, Move, stay, uses, usesAll, announces, opens, lands, copies, confirms, takesAs, takes, offering, fetching, landing, landingFetch, lookingUp, writingBack, flushing, plan, storesMeta, importOpen}
 use Rattle.protocol.specs.Perform.{confirmed, landedFlags, landedState, usedAll, perform}
 use Rattle.protocol.specs.Kinds.{toServe, toSettle, toWrite, toFetch, toLandFetch, toLand, Aim, aims, aimsBy, aimsAll, askAim, noBlock}
-use Rattle.protocol.specs.Judge.{wrongLength, blockTooHigh, slotOpen, wrongState, windowFull, stampsSpent, importFull, unknownCaller, importOpen, lengthTest, test, judged}
+use Rattle.protocol.specs.Judge.{wrongLength, blockTooHigh, slotOpen, wrongState, windowFull, stampsSpent, importFull, unknownCaller, lengthTest, test, judged}
 use Rattle.protocol.specs.ReferenceDisk.{Disk, fedCall}
 use Rattle.layout.proofs.Booleans.{Told, told, told-true, told-false, clash, and-parts}
 use Rattle.protocol.proofs.model.Model.{dirtyRow, openRow, blockOf}
 use Rattle.protocol.proofs.refine.Flags.{rowOf, Flags, f5, f7, LegalRow, changed-open, changed-row}
-use Rattle.protocol.proofs.refine.Tables.{rowAt, at-open, at-dirty}
+use Rattle.protocol.proofs.refine.Tables.{rowAt, Rows, at-open, at-dirty}
 use Rattle.protocol.proofs.refine.Conditions.{Held, Stands, absent, is-clean, is-dirty, is-writing, is-fetching, stands}
 use Rattle.protocol.proofs.refine.Sweeps.{Alike, alike-same, next-low, Swept, took, stuck, swept}
 use Rattle.record.proofs.WindowLaws.{take-array}
@@ -58,9 +59,20 @@ pub record Opening (x : Box) (s : Slot) (b : Block) (caller f : ℕ) (v : List �
   pub was-clean : dirtyRow (rowAt (x .table) (s .0)) ≡ false
   pub fresh : Absent (labelIn (x .state)) (x .table) (b .0) ⊎ Held (labelIn (x .state)) (x .table) (b .0) (s .0)
   pub few : openRows (x .table) < 63
-  pub stamps : x .state .newest < largestStamp - 63
   pub known : caller ≤ 1
   pub import-few : openBy 1 (callersIn (x .state)) ≤ 8 → openBy 1 (callersIn (x .state) ++ (caller ∷ [])) ≤ 8
+
+-- the box with slots opened, before their store
+abbrev pub later : Box → List ℕ → Slot → List Slot → List ℕ → Box
+later x t h w cs = record { images = x .images; table = t; state = grown (x .state) h w cs }
+
+-- slots of metadata page q are opened one after another: the table, the hand, the window and its callers after
+pub data Openings (x : Box) (q : ℕ) : List ℕ → Slot → List Slot → List ℕ → Type 0 where
+  opens-one : {s : Slot} {b : Block} {c f : ℕ} {v : List ℕ} {hand : Slot} → Opening x s b c f v hand → metaOf s ≡ q
+      → Openings x q (setRow v s b f) hand (windowIn (x .state) ++ (s ∷ [])) (callersIn (x .state) ++ (c ∷ []))
+  opens-more : {t : List ℕ} {h : Slot} {w : List Slot} {cs : List ℕ} {s : Slot} {b : Block} {c f : ℕ} {v : List ℕ} {hand : Slot}
+      → Openings x q t h w cs → Opening (later x t h w cs) s b c f v hand → metaOf s ≡ q
+      → Openings x q (setRow v s b f) hand (windowIn (grown (x .state) h w cs) ++ (s ∷ [])) (callersIn (grown (x .state) h w cs) ++ (c ∷ []))
 
 -- a closed, dirty slot is copied out, in such a table
 pub record Copying (x : Box) (s : Slot) (v : List ℕ) (hand : Slot) : Type 0 where
@@ -79,8 +91,8 @@ pub data Does (x : Box) : Aim → Move → Type 0 where
   does-use : {a : Aim} {b : ℕ} {s : Slot} {said : Reply} → Quiet a → refused said ≡ false → Held (labelIn (x .state)) (x .table) b (s .0)
       → Does x a (uses s said)
   does-use-all : {a : Aim} {ss : List Slot} → Quiet a → Alike (labelIn (x .state)) (x .table) (usedAll ss (x .table)) → Does x a (usesAll ss)
-  does-open : {a : Aim} {s : Slot} {b : Block} {c f : ℕ} {v : List ℕ} {hand : Slot} → Quiet a → Opening x s b c f v hand
-      → Does x a (opens s b c f v hand)
+  does-announce : {a : Aim} {said : Reply} {q : ℕ} {t : List ℕ} {h : Slot} {w : List Slot} {cs : List ℕ} → Quiet a
+      → refused said ≡ false → Openings x q t h w cs → x .state .newest < largestStamp - 63 → Does x a (announces said q t h w cs)
   does-copy : {a : Aim} {s : Slot} {said : Reply} {v : List ℕ} {hand : Slot} → Quiet a → refused said ≡ false → Copying x s v hand
       → Does x a (copies s said v hand)
   -- a write lands in its block's slot, open or dirty; a fetch in one that is open
@@ -98,7 +110,7 @@ unfolding perform confirmed
 does-said (does-nothing z n) = n
 does-said (does-use z n H) = n
 does-said (does-use-all z A) = refl
-does-said (does-open z O) = refl
+does-said (does-announce z n O spare) = n
 does-said (does-copy z n C) = n
 does-said (does-land H bl y size) = refl
 does-said (does-fetch z H bl w) = refl
@@ -111,6 +123,17 @@ pub opening-sound : {x : Box} {s : Slot} {b : Block} {c f : ℕ} {v : List ℕ} 
 opening-sound {s = s} {b = b} {f = f} O S =
     sound-opens (sound-alike S (O .alike)) (s .0) (b .0) f (O .low) (O .row) (O .is-open) (ap openRow (O .alike .row (s .0)) ∙ O .was-shut)
     (room S (O .few))
+
+pub grown-window : (r : Record) (h : Slot) (w : List Slot) (cs : List ℕ) → windowIn (grown r h w cs) ≡ w
+unfolding windowIn
+grown-window r h w cs = take-array w
+
+-- so all of them leave table and window sound
+pub openings-sound : {x : Box} {q : ℕ} {t : List ℕ} {h : Slot} {w : List Slot} {cs : List ℕ} → Openings x q t h w cs
+    → Sound (labelIn (x .state)) (x .table) (windowIn (x .state)) → Sound (labelIn (x .state)) t w
+openings-sound (opens-one O e) S = opening-sound O S
+openings-sound {x = x} (opens-more {h = h} {w = w} {cs = cs} Os O e) S =
+    opening-sound O {w = windowIn (grown (x .state) h w cs)} (rw grown-window (openings-sound Os S))
 
 abbrev Kept : Box → Move → Type 0
 Kept x m = Sound (labelIn (x .state)) (perform m x .table) (windowIn (perform m x .state))
@@ -132,21 +155,52 @@ module _ (x : Box) (S : Sound (labelIn (x .state)) (x .table) (windowIn (x .stat
   does-sound (does-nothing z n) = S
   does-sound (does-use {s = s} z n H) = sound-uses S (s .0) (H .low) (H .held)
   does-sound (does-use-all z A) = sound-alike S A
-  does-sound (does-open z O) = rw take-array (opening-sound O S)
+  does-sound (does-announce z n O spare) = rw take-array (openings-sound O S)
   does-sound (does-copy {s = s} z n C) = sound-copies (sound-alike S (C .alike)) (s .0) (C .low) (C .is-shut)
   does-sound (does-land {page = page} H bl y size) = lands-sound true H page
   does-sound (does-fetch {b = b} z H bl w) = lands-sound false H (pageAt (x .images .hdd) (blockPlace (labelIn (x .state)) b))
   does-sound (does-rest n u) = S
   does-sound (does-confirm u n) = S
 
-module _ (x : Box) (L : Legal x) where
+-- "overwrite", or what no offer or fetch that is not refused answers
+pub data Still : Reply → Type 0 where
+  still-overwrite : Still overwrite
+  still-nothing : Still nothingToDo
+
+still-said : {said : Reply} → Still said → refused said ≡ false
+still-said still-overwrite = refl
+still-said still-nothing = refl
+
+-- what an offer or a fetch does, 13 apart
+pub data Taken (x : Box) : Move → Type 0 where
+  taken-stay : {said : Reply} → Still said → Taken x (stay said)
+  taken-open : {s : Slot} {b : Block} {c f : ℕ} {v : List ℕ} {hand : Slot} → Opening x s b c f v hand
+      → Taken x (opens (x .state) s b c f v hand)
+  taken-copy : {s : Slot} {v : List ℕ} {hand : Slot} → Copying x s v hand → Taken x (copies s copiedOut v hand)
+
+pub taken-does : {x : Box} {a : Aim} → Quiet a → {m : Move} → Taken x m
+    → (storesMeta m && leb (largestStamp - 63) (x .state .newest)) ≡ false → Does x a m
+taken-does z (taken-stay n) spent = does-nothing z (still-said n)
+taken-does z (taken-open O) spent = does-announce z refl (opens-one O refl) (leb-false _ _ spent)
+taken-does z (taken-copy C) spent = does-copy z refl C
+
+-- what they rest on
+pub record Fit (x : Box) : Type 0 where
+  pub table-size : length (x .table) ≡ tableLength (labelIn (x .state))
+  pub rows : Rows (labelIn (x .state)) (x .table)
+  pub hand-low : x .state .hand .0 < x .state .label .slots
+
+pub fit : {x : Box} → Legal x → Fit x
+fit L = record { table-size = L .table-size; rows = L .rows; hand-low = L .hand-low }
+
+module _ (x : Box) (L : Fit x) where
   abbrev lab : Label
   lab = labelIn (x .state)
 
   same : Alike lab (x .table) (x .table)
   same = alike-same lab (x .table) (L .table-size) (L .rows)
 
-  here : (b : Block) → Stands lab (x .table) (b .0) (conditionOf (x .table) b)
+  pub here : (b : Block) → Stands lab (x .table) (b .0) (conditionOf (x .table) b)
   here b = stands lab (x .table) (L .table-size) b
 
   row-of : (b : ℕ) {f : ℕ} → Flags f → valid f ≡ true → b < x .state .label .blocks → LegalRow lab b f
@@ -169,17 +223,15 @@ module _ (x : Box) (L : Legal x) where
       few (told-false e) h = omega (arith, one e)
 
   -- a slot is swept for
-  sweeping : {a : Aim} → Quiet a → (b : Block) {c : ℕ} (f : ℕ) → Calls c → b .0 < x .state .label .blocks → Flags f → valid f ≡ true
+  sweeping : (b : Block) {c : ℕ} (f : ℕ) → Calls c → b .0 < x .state .label .blocks → Flags f → valid f ≡ true
       → openRow (rowOf (b .0) (f % 8)) ≡ true → blockOf (rowOf (b .0) (f % 8)) ≡ b .0 → Absent lab (x .table) (b .0) → openRows (x .table) < 63
-      → {o : Option Victim} → Swept lab (x .table) o
-      → (storesMeta (takes lab b c f o) && leb (largestStamp - 63) (x .state .newest)) ≡ false → Does x a (takes lab b c f o)
-  sweeping z b f C bl k v o-row b-row none-holds few stuck = λ spent. does-nothing z refl
-  sweeping {a} z b {c} f C bl k v o-row b-row none-holds few (took u low shut unused A) = by (dirty (rowFlags (u .table) (u .slot))) refl
+      → {o : Option Victim} → Swept lab (x .table) o → Taken x (takes (x .state) b c f o)
+  sweeping b f C bl k v o-row b-row none-holds few stuck = taken-stay still-nothing
+  sweeping b {c} f C bl k v o-row b-row none-holds few (took u low shut unused A) = by (dirty (rowFlags (u .table) (u .slot))) refl
     where
-      by : (d : Bool) → dirty (rowFlags (u .table) (u .slot)) ≡ d
-          → (storesMeta (takesAs d lab b c f u) && leb (largestStamp - 63) (x .state .newest)) ≡ false → Does x a (takesAs d lab b c f u)
-      by true e spent = does-copy z refl (record { low = low; alike = A; hand-low = low; is-shut = shut; is-dirty = e })
-      by false e spent = does-open z (record {
+      by : (d : Bool) → dirty (rowFlags (u .table) (u .slot)) ≡ d → Taken x (takesAs d (x .state) b c f u)
+      by true e = taken-copy (record { low = low; alike = A; hand-low = low; is-shut = shut; is-dirty = e })
+      by false e = taken-open (record {
         low = low;
         alike = A;
         hand-low = next-low lab (u .slot) low;
@@ -191,7 +243,6 @@ module _ (x : Box) (L : Legal x) where
         was-clean = ap dirtyRow (sym (A .row (u .slot .0))) ∙ at-dirty lab (u .table) (A .legal) (u .slot .0) low ∙ e;
         fresh = inl none-holds;
         few = few;
-        stamps = leb-false _ _ spent;
         known = C .known;
         import-few = C .room;
       })
@@ -199,17 +250,15 @@ module _ (x : Box) (L : Legal x) where
   sweep-here : Swept lab (x .table) (sweep lab (x .table) (x .state .hand))
   sweep-here = swept (2 * x .state .label .slots) lab (x .table) (x .table) same (x .state .hand) (L .hand-low)
 
-  offers : (b : Block) (c : ℕ) → ltb 1 c ≡ false → b .0 < x .state .label .blocks → {z : Condition} → Stands lab (x .table) (b .0) z
+  pub offers : (b : Block) (c : ℕ) → ltb 1 c ≡ false → b .0 < x .state .label .blocks → {z : Condition} → Stands lab (x .table) (b .0) z
       → isOpen z ≡ false → (not (takesWrite z) && importOpen c (x .state)) ≡ false
-      → (not (takesWrite z) && leb 63 (openRows (x .table))) ≡ false
-      → (storesMeta (offering x b c z) && leb (largestStamp - 63) (x .state .newest)) ≡ false → Does x (aimsBy b toWrite c) (offering x b c z)
+      → (not (takesWrite z) && leb 63 (openRows (x .table))) ≡ false → Taken x (offering x b c z)
   unfolding rowOf
-  offers b c u bl (absent h) o by full spent =
-      sweeping (λ d. refl) b 7 (calls c u by) bl f7 refl refl refl h (leb-false _ _ full) sweep-here spent
-  offers b c u bl (is-clean s H w d) o by full spent =
+  offers b c u bl (absent h) o by full = sweeping b 7 (calls c u by) bl f7 refl refl refl h (leb-false _ _ full) sweep-here
+  offers b c u bl (is-clean s H w d) o by full =
       let C = changed-open (L .rows s (H .low) .flags) (getD (x .table) (2 * s) 0) (H .held) w d in
       let flags : ℕ = withWriting (getD (x .table) (2 * s + 1) 0) in
-      does-open (λ d. refl) (record {
+      taken-open (record {
         low = H .low;
         alike = same;
         hand-low = L .hand-low;
@@ -221,24 +270,21 @@ module _ (x : Box) (L : Legal x) where
         was-clean = at-dirty lab (x .table) (L .rows) s (H .low) ∙ d;
         fresh = inr H;
         few = leb-false _ _ full;
-        stamps = leb-false _ _ spent;
         known = calls c u by .known;
         import-few = calls c u by .room;
       })
-  offers b c u bl (is-dirty s H w d) o by full spent = does-nothing (λ d. refl) refl
-  offers b c u bl (is-writing s H w d) o by full spent = clash {b = true} refl o
-  offers b c u bl (is-fetching s H w d) o by full spent = clash {b = true} refl o
+  offers b c u bl (is-dirty s H w d) o by full = taken-stay still-overwrite
+  offers b c u bl (is-writing s H w d) o by full = clash {b = true} refl o
+  offers b c u bl (is-fetching s H w d) o by full = clash {b = true} refl o
 
   fetches : (b : Block) (c : ℕ) → ltb 1 c ≡ false → b .0 < x .state .label .blocks → {z : Condition} → Stands lab (x .table) (b .0) z
-      → importOpen c (x .state) ≡ false → leb 63 (openRows (x .table)) ≡ false
-      → (storesMeta (fetching x b c z) && leb (largestStamp - 63) (x .state .newest)) ≡ false → Does x (aimsBy b toFetch c) (fetching x b c z)
+      → importOpen c (x .state) ≡ false → leb 63 (openRows (x .table)) ≡ false → Taken x (fetching x b c z)
   unfolding rowOf
-  fetches b c u bl (absent h) by full spent =
-      sweeping (λ d. refl) b 5 (calls c u by) bl f5 refl refl refl h (leb-false _ _ full) sweep-here spent
-  fetches b c u bl (is-clean s H w d) by full spent = does-nothing (λ d. refl) refl
-  fetches b c u bl (is-dirty s H w d) by full spent = does-nothing (λ d. refl) refl
-  fetches b c u bl (is-writing s H w d) by full spent = does-nothing (λ d. refl) refl
-  fetches b c u bl (is-fetching s H w d) by full spent = does-nothing (λ d. refl) refl
+  fetches b c u bl (absent h) by full = sweeping b 5 (calls c u by) bl f5 refl refl refl h (leb-false _ _ full) sweep-here
+  fetches b c u bl (is-clean s H w d) by full = taken-stay still-nothing
+  fetches b c u bl (is-dirty s H w d) by full = taken-stay still-nothing
+  fetches b c u bl (is-writing s H w d) by full = taken-stay still-nothing
+  fetches b c u bl (is-fetching s H w d) by full = taken-stay still-nothing
 
   landings : (b : Block) (page : List ℕ) → b .0 < x .state .label .blocks → length page ≡ 4096 → {z : Condition}
       → Stands lab (x .table) (b .0) z → takesWrite z ≡ true → Does x (aims b (toLand page)) (landing page z)
@@ -284,7 +330,7 @@ module _ (x : Box) (L : Legal x) where
 module _ (x : Box) where
   pub flush-does : judged flush x ≡ none → Does x (aims noBlock toSettle) (plan flush x)
   unfolding test plan
-  flush-does e = flushes x (service-legal flush x refl e) (x .state .unconfirmed) refl (passed flush x e stampsSpent refl)
+  flush-does e = flushes x (fit (service-legal flush x refl e)) (x .state .unconfirmed) refl (passed flush x e stampsSpent refl)
 
   pub ask-does : (a : Ask) → judged (ask a) x ≡ none → Does x (askAim a) (plan (ask a) x)
   unfolding plan
@@ -293,35 +339,37 @@ module _ (x : Box) where
   pub lookUpList-does : (blocks : List ℕ) (room : ℕ) → judged (lookUpList blocks room) x ≡ none
       → Does x (aimsAll blocks room) (plan (lookUpList blocks room) x)
   unfolding plan
-  lookUpList-does blocks room e = looksUpAll x (service-legal (lookUpList blocks room) x refl e) blocks room
+  lookUpList-does blocks room e = looksUpAll x (fit (service-legal (lookUpList blocks room) x refl e)) blocks room
 
   module _ (b : Block) where
     pub offer-does : (c : ℕ) → judged (offer b c) x ≡ none → Does x (aimsBy b toWrite c) (plan (offer b c) x)
     unfolding test plan
     offer-does c e =
-        let L = service-legal (offer b c) x refl e in
+        let L = fit (service-legal (offer b c) x refl e) in
         let q = passed (offer b c) x e in
-        offers x L b c (q unknownCaller refl) (leb-false _ _ (q blockTooHigh refl)) (here x L b) (q slotOpen refl) (q importFull refl)
-        (q windowFull refl) (q stampsSpent refl)
+        taken-does (λ d. refl)
+        (offers x L b c (q unknownCaller refl) (leb-false _ _ (q blockTooHigh refl)) (here x L b) (q slotOpen refl) (q importFull refl)
+        (q windowFull refl)) (q stampsSpent refl)
 
     pub fetch-does : (c : ℕ) → judged (fetch b c) x ≡ none → Does x (aimsBy b toFetch c) (plan (fetch b c) x)
     unfolding test plan
     fetch-does c e =
-        let L = service-legal (fetch b c) x refl e in
+        let L = fit (service-legal (fetch b c) x refl e) in
         let q = passed (fetch b c) x e in
-        fetches x L b c (q unknownCaller refl) (leb-false _ _ (q blockTooHigh refl)) (here x L b) (q importFull refl)
-        (q windowFull refl) (q stampsSpent refl)
+        taken-does (λ d. refl)
+        (fetches x L b c (q unknownCaller refl) (leb-false _ _ (q blockTooHigh refl)) (here x L b) (q importFull refl)
+        (q windowFull refl)) (q stampsSpent refl)
 
     pub landFetch-does : judged (landFetch b) x ≡ none → Does x (aims b toLandFetch) (plan (landFetch b) x)
     unfolding test plan
     landFetch-does e =
-        let L = service-legal (landFetch b) x refl e in
+        let L = fit (service-legal (landFetch b) x refl e) in
         let q = passed (landFetch b) x e in
         landFetches x L b (leb-false _ _ (q blockTooHigh refl)) (here x L b) (not-false _ (q wrongState refl))
 
     pub lookUp-does : judged (lookUp b) x ≡ none → Does x (aims b toServe) (plan (lookUp b) x)
     unfolding plan
-    lookUp-does e = let L = service-legal (lookUp b) x refl e in looksUp x L b (here x L b)
+    lookUp-does e = let L = fit (service-legal (lookUp b) x refl e) in looksUp x L b (here x L b)
 
     pub view-does : judged (view b) x ≡ none → Does x (aims b toServe) (plan (view b) x)
     unfolding plan
@@ -329,12 +377,12 @@ module _ (x : Box) where
 
     pub writeBack-does : judged (writeBack b) x ≡ none → Does x (aims b toServe) (plan (writeBack b) x)
     unfolding plan
-    writeBack-does e = let L = service-legal (writeBack b) x refl e in writesBack x L b (here x L b)
+    writeBack-does e = let L = fit (service-legal (writeBack b) x refl e) in writesBack x L b (here x L b)
 
     pub land-does : (page : List ℕ) → judged (land b page) x ≡ none → Does x (aims b (toLand page)) (plan (land b page) x)
     unfolding test plan
     land-does page e =
-        let L = service-legal (land b page) x refl e in
+        let L = fit (service-legal (land b page) x refl e) in
         let q = passed (land b page) x e in
         let sizes = and-parts (lengthTest (labelIn (x .state)) (x .images) (x .table)) _ (not-false _ (q wrongLength refl)) in
         landings x L b page (leb-false _ _ (q blockTooHigh refl)) (eqb-true _ _ (sizes .1)) (here x L b) (not-false _ (q wrongState refl))

@@ -8,6 +8,7 @@ pub mod Accepted
 pub mod Closed
 pub mod Used
 pub mod Does
+pub mod OfferLists
 pub mod Sorted
 pub mod ReadsAnywhere
 pub mod why

@@ -6,13 +6,13 @@ use mathlib.Core.Bool.{Bool, true, false, _||_}
 use mathlib.Core.List.{List, [], _∷_}
 use mathlib.Core.Option.{Option, some, none, Option·some-injective, Option·some-ne-none}
 use lib.Dec.{eqb}
-use Rattle.protocol.specs.Judge.{Reason, badLimits, noLabel, badRecord, wrongLength, badRows, wrongPhase, blockTooHigh, slotOpen, wrongState, hasSlot, windowFull, allOpen, stampsSpent, importFull, unknownCaller, badList, sheetShort, numberOf}
+use Rattle.protocol.specs.Judge.{Reason, badLimits, noLabel, badRecord, wrongLength, badRows, wrongPhase, blockTooHigh, slotOpen, wrongState, hasSlot, windowFull, allOpen, stampsSpent, importFull, unknownCaller, badScan, badList, sheetShort, numberOf}
 
 -- all reasons
 abbrev every : List Reason
 every =
     badLimits ∷ noLabel ∷ badRecord ∷ wrongLength ∷ badRows ∷ wrongPhase ∷ blockTooHigh ∷ slotOpen ∷ wrongState ∷ hasSlot ∷ windowFull
-    ∷ allOpen ∷ stampsSpent ∷ sheetShort ∷ badList ∷ importFull ∷ unknownCaller ∷ []
+    ∷ allOpen ∷ stampsSpent ∷ sheetShort ∷ badScan ∷ badList ∷ importFull ∷ unknownCaller ∷ []
 
 -- a number is one reason's, and 0 is none's
 unfoldable pub numbered : List Reason → ℕ → Option Reason
@@ -35,6 +35,7 @@ number-back windowFull = refl
 number-back allOpen = refl
 number-back stampsSpent = refl
 number-back sheetShort = refl
+number-back badScan = refl
 number-back badList = refl
 number-back importFull = refl
 number-back unknownCaller = refl

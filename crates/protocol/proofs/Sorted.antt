@@ -3,10 +3,11 @@ use Prim.Native.Nat.{ℕ}
 use mathlib.Core.Path.{_≡_, refl}
 use mathlib.Core.Option.{none}
 use Rattle.protocol.specs.Box.{Box}
-use Rattle.protocol.specs.Plan.{Call, format, step, flush, reopen, offer, fetch, landFetch, lookUp, view, writeBack, land, lookUpList, ask, plan}
+use Rattle.protocol.specs.Plan.{Call, format, step, flush, reopen, offer, fetch, landFetch, lookUp, view, writeBack, land, lookUpList, offerList, ask, plan}
 use Rattle.protocol.specs.Kinds.{Aim, aService, kind}
 use Rattle.protocol.specs.Judge.{judged}
 use Rattle.protocol.proofs.Does.{Does, flush-does, offer-does, fetch-does, landFetch-does, lookUp-does, view-does, writeBack-does, land-does, lookUpList-does, ask-does}
+use Rattle.protocol.proofs.OfferLists.{offerList-does}
 
 pub data Sorted : Call → Type 0 where
   is-format : (slots blocks : ℕ) → Sorted (format slots blocks)
@@ -28,3 +29,4 @@ sorted (writeBack b) = is-service refl (λ x. writeBack-does x b)
 sorted (land b page) = is-service refl (λ x. land-does x b page)
 sorted (ask a) = is-service refl (λ x. ask-does x a)
 sorted (lookUpList blocks room) = is-service refl (λ x. lookUpList-does x blocks room)
+sorted (offerList blocks caller) = is-service refl (λ x. offerList-does x blocks caller)

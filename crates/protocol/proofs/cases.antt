@@ -5,6 +5,7 @@ pub mod QuickRows
 pub mod Known
 pub mod Case
 pub mod Moves
+pub mod Scans
 pub mod Maps
 pub mod TwoPages
 pub mod Refusals

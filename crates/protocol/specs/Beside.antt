@@ -2,30 +2,32 @@
 use Prim.Native.Nat.{ℕ, zero, suc, _+_, _-_, _*_, _/_, _%_, min, _≤_, _<_}
 use mathlib.Core.Path.{_≡_}
 use mathlib.Core.Logic.{_≢_, _⊎_}
-use mathlib.Core.Bool.{Bool, true, false, not, _&&_}
+use mathlib.Core.Bool.{Bool, true, false, not, _&&_, _||_}
 use mathlib.Core.List.{List, [], _∷_, _++_, map, List·Mem, List·Permᴰ, Pairwise}
 use mathlib.Core.Option.{Option, some, none}
 use lib.ListN.{length, getD, take}
+use lib.Dec.{eqb}
 use Rattle.pages.specs.Pages.{pageAt, putPage, zeroPage, IsPage}
 use Rattle.pages.specs.Parts.{Part}
 use Rattle.layout.specs.declared.Slot.{Slot}
 use Rattle.layout.specs.declared.Block.{Block}
 use Rattle.layout.specs.declared.Label.{Label}
-use Rattle.layout.specs.Places.{Limits, labelOf, formatSteps, labelPlace, metaPages, metaPlace, slotOn}
+use Rattle.layout.specs.Places.{Limits, labelOf, formatSteps, labelPlace, metaPages, metaPlace, metaOf, slotOn}
 use Rattle.layout.specs.MetaPage.{encodeMeta, rowsOn, stampOf, windowOf, entryAt, rowsFrom}
 use Rattle.layout.specs.PageRule.{PageRule, listed}
 use Rattle.record.specs.declared.Record.{Record}
 use Rattle.record.specs.declared.Phase.{Phase}
 use Rattle.record.specs.declared.Phase.the-variants.{Formatting, Recovering, Ready}
 use Rattle.protocol.specs.declared.Condition.the-variants.{Clean, Dirty, Writing, Fetching}
+use Rattle.protocol.specs.declared.Stored.{Stored}
 use Rattle.protocol.specs.declared.Stored.the-variants.{Nothing, Ssd, Hdd}
-use Rattle.protocol.specs.Reply.{Reply, refusal, refused, announced, overwrite, copiedOut, done}
+use Rattle.protocol.specs.Reply.{Reply, refusal, answer, dealt, refused, announced, overwrite, copiedOut, done}
 use Rattle.protocol.specs.Rows.{rowBlock, rowFlags, valid, dirty, writing}
 use Rattle.record.specs.Callers.{openBy}
-use Rattle.record.specs.Record.{labelIn, windowIn, callersIn}
+use Rattle.record.specs.Record.{labelIn, windowIn, callersIn, windowOf as recordWindow, withStamp, putWindow}
 use Rattle.protocol.specs.Box.{Images, Box, ssdImage, Store, Effect, refusing, boxAfter}
 use Rattle.protocol.specs.Condition.{conditionOf, isOpen}
-use Rattle.protocol.specs.Plan.{Ask, slotMap, Call, format, step, reopen, offer, fetch, land, landFetch, lookUp, lookUpList, ask}
+use Rattle.protocol.specs.Plan.{Ask, slotMap, Call, format, step, reopen, offer, fetch, land, landFetch, lookUp, lookUpList, offerList, ask}
 use Rattle.protocol.specs.Recovery.{labelAt, metasOf, entryIn, storedRows, Recovered, recoverFrom}
 use Rattle.protocol.specs.SlotMap.{letterOf, mapLines, mapBytes, mapText}
 use Rattle.protocol.specs.Judge.{noLabel, wrongLength, test}
@@ -296,6 +298,75 @@ pub record ListAlike (blocks words : List ℕ) (x : Box) : Type 0 where
 
 abbrev pub LooksAlike : Type 0
 LooksAlike = (blocks words : List ℕ) (x : Box) → ListAlike blocks words x
+
+-- Document 02, N3: a list offer "is treated as offers one after another".
+
+-- a record, and a box, at another newest stamp
+abbrev pub stampedAt : ℕ → Record → Record
+stampedAt m r = putWindow (withStamp r m) (r .unconfirmed) (recordWindow r)
+
+abbrev pub atStamp : ℕ → Box → Box
+atStamp m x = record { images = x .images; table = x .table; state = stampedAt m (x .state) }
+
+-- an offer was announced, or answered "overwrite"
+abbrev pub isTaken : Reply → Bool
+isTaken (refusal n) = false
+isTaken (answer n s) = eqb n 101 || eqb n 102
+isTaken (dealt n) = false
+
+-- single offers, one after another: the box that they leave, and whether each was taken so
+pub record Offers : Type 0 where
+  pub box : Box
+  pub taken : Bool
+
+unfoldable pub oneByOne : List ℕ → ℕ → Box → Offers
+oneByOne [] caller x = record { box = x; taken = true }
+oneByOne (b ∷ blocks) caller x =
+    let r = resultOf (offer (record { 0 = b }) caller) x in
+    let rest = oneByOne blocks caller (boxAfter r) in
+    record { box = rest .box; taken = isTaken (r .said) && rest .taken }
+
+-- an offer "that would be refused, would copy out, or has its slot on another metadata page than the first announced", which was stored
+pub data EndsList (l : Label) (stored : Stored) : Reply → Type 0 where
+  by-refusal : (k : ℕ) → EndsList l stored (refusal k)
+  by-copy : EndsList l stored copiedOut
+  by-page : (s : Slot) (q : ℕ) → stored ≡ Ssd (metaPlace l q) → metaOf s ≢ q → EndsList l stored (announced s)
+
+-- how many pages a call stored
+abbrev pub storedPages : Stored → ℕ
+storedPages Nothing = 0
+storedPages (Ssd i) = 1
+storedPages (Hdd i) = 1
+
+-- n places were dealt with: from stamp m n single offers are taken, and leave the same table, hand and window, the record but for the
+-- stamp; "the stamp rises by one or not at all"; and the next place, if there is one, ends the list
+pub record AsOffers (blocks : List ℕ) (caller n m : ℕ) (x : Box) : Type 0 where
+  pub some-place : 0 < n
+  pub in-list : n ≤ length blocks
+  pub all-taken : oneByOne (take n blocks) caller (atStamp m x) .taken ≡ true
+  pub same-table : oneByOne (take n blocks) caller (atStamp m x) .box .table ≡ resultOf (offerList blocks caller) x .table
+  pub same-record : stampedAt 0 (oneByOne (take n blocks) caller (atStamp m x) .box .state)
+      ≡ stampedAt 0 (resultOf (offerList blocks caller) x .state)
+  pub one-stamp : resultOf (offerList blocks caller) x .state .newest
+      ≡ x .state .newest + storedPages (resultOf (offerList blocks caller) x .stored)
+  pub next-ends : n < length blocks → EndsList (labelIn (x .state)) (resultOf (offerList blocks caller) x .stored)
+      (resultOf (offer (record { 0 = getD blocks n 0 }) caller) (oneByOne (take n blocks) caller (atStamp m x) .box) .said)
+
+-- on any box, from any stamp that leaves 13 room for them all
+abbrev pub ListAsOffers : Type 0
+ListAsOffers = (blocks : List ℕ) (caller n m : ℕ) (x : Box) → resultOf (offerList blocks caller) x .said ≡ dealt n
+    → m + length blocks ≤ 4294967232 → AsOffers blocks caller n m x
+
+-- a list of one block is the offer of it, the answer apart, where that is taken
+pub record OneAsOffer (b : Block) (caller : ℕ) (x : Box) : Type 0 where
+  pub same-box : boxAfter (resultOf (offerList (b .0 ∷ []) caller) x) ≡ boxAfter (resultOf (offer b caller) x)
+  pub same-page : resultOf (offerList (b .0 ∷ []) caller) x .stored ≡ resultOf (offer b caller) x .stored
+  pub one-dealt : isTaken (resultOf (offer b caller) x .said) ≡ true → resultOf (offerList (b .0 ∷ []) caller) x .said ≡ dealt 1
+  pub else-same : isTaken (resultOf (offer b caller) x .said) ≡ false
+      → resultOf (offerList (b .0 ∷ []) caller) x .said ≡ resultOf (offer b caller) x .said
+
+abbrev pub ListOfOne : Type 0
+ListOfOne = (b : Block) (caller : ℕ) (x : Box) → OneAsOffer b caller x
 
 -- In a list of demand 3, update before data: what is stored of a slot as bytes land in it.
 

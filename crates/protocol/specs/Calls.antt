@@ -15,7 +15,7 @@ use Rattle.protocol.specs.declared.Condition.the-variants.{NotCached, Cl
 use Rattle.record.specs.Record.{labelIn}
 use Rattle.protocol.specs.Box.{Box, Effect, Result, refusing, left}
 use Rattle.protocol.specs.Condition.{conditionOf, wordsOf}
-use Rattle.protocol.specs.Plan.{Call, format, step, flush, reopen, offer, fetch, landFetch, lookUp, view, writeBack, land, lookUpList, ask, slotMap, plan}
+use Rattle.protocol.specs.Plan.{Call, format, step, flush, reopen, offer, fetch, landFetch, lookUp, view, writeBack, land, lookUpList, offerList, ask, slotMap, plan}
 use Rattle.protocol.specs.Perform.{perform}
 use Rattle.protocol.specs.SlotMap.{mapText, mapBytes}
 use Rattle.protocol.specs.Judge.{Reason, numberOf, judged}
@@ -80,6 +80,10 @@ reopenOf ssd hdd table state = resultOf reopen (boxOf ssd hdd table state)
 -- document 02, N6: a list of blocks, with the lent list of words
 abbrev pub lookUpListOf : List ℕ → List ℕ → List ℕ → Record → List ℕ → List ℕ → Result
 lookUpListOf ssd hdd table state blocks words = resultOf (lookUpList blocks (length words)) (boxOf ssd hdd table state)
+
+-- document 02, N3: a list of blocks, with their caller
+abbrev pub offerListOf : List ℕ → List ℕ → List ℕ → Record → List ℕ → ℕ → Result
+offerListOf ssd hdd table state blocks caller = resultOf (offerList blocks caller) (boxOf ssd hdd table state)
 
 -- what it leaves of the words: "neither writes a word", no refusal does; else a word for each block
 abbrev pub wordsBy : Option Reason → List ℕ → List ℕ → List ℕ → List ℕ

@@ -13,7 +13,7 @@ use Rattle.layout.specs.declared.Block.{Block}
 use Rattle.layout.specs.declared.Label.{Label}
 use Rattle.layout.specs.Places.{labelOf, dataPlace, blockPlace, tableLength}
 use Rattle.layout.specs.PageRule.{listed}
-use Rattle.protocol.specs.Reply.{Reply, refusal, answer, namesClosed, refused}
+use Rattle.protocol.specs.Reply.{Reply, refusal, answer, namesClosed, refused, dealt}
 use Rattle.protocol.specs.Rows.{rowBlock, rowFlags, valid, dirty, writing}
 use Rattle.protocol.specs.Box.{Images, Box}
 use Rattle.protocol.specs.Condition.{slotOf}
@@ -47,6 +47,7 @@ abbrev pub slotSaid : Reply → Option Slot
 slotSaid (refusal n) = none
 slotSaid (answer n []) = none
 slotSaid (answer n (s ∷ w)) = elim (namesClosed n) [ true ↦ some s | false ↦ none ]
+slotSaid (dealt n) = none
 
 -- "those of its valid entry if it is outside and has one, else none and its HDD page"
 abbrev pub entryPlace : Label → Images → Block → Option Slot → Place

@@ -1,6 +1,6 @@
 -- Why a call says no: one test for each number of document 01's table and document 02's, and each call's chain of them, "Least number
--- first", but for a fetch's 10, which comes before 8 (document 02, N9), for 14 (N1), 16 (N6) and 18 (N7), which come between 6 and 7, and
--- for 17, which comes before 11 (N7).
+-- first", but for a fetch's 10, which comes before 8 (document 02, N9), for 14 (N1), 15 (N3), 16 (N6) and 18 (N7), which come between 6 and
+-- 7, and for 17, which comes before 11 (N7).
 use Prim.Native.Nat.{ℕ, _-_, _%_}
 use mathlib.Core.Bool.{Bool, true, false, not, _&&_, _||_}
 use mathlib.Core.List.{List, [], _∷_, _++_}
@@ -22,12 +22,12 @@ use Rattle.record.specs.declared.Phase.the-variants.{Formatting, Recovering, Re
 use Rattle.protocol.specs.declared.Condition.{Condition}
 use Rattle.protocol.specs.Rows.{rowBlock, rowFlags, valid, writing, used, eachRow, openRows, allWriting}
 use Rattle.record.specs.Window.{eachSlot}
-use Rattle.record.specs.Callers.{importCaller, importMost, openBy}
-use Rattle.record.specs.Record.{largestStamp, labelIn, windowIn, callersIn}
+use Rattle.record.specs.Callers.{importCaller}
+use Rattle.record.specs.Record.{largestStamp, labelIn, windowIn}
 use Rattle.record.specs.Rule.{recordTest}
 use Rattle.protocol.specs.Box.{Images, Box}
 use Rattle.protocol.specs.Condition.{conditionOf, isOpen, isCached, isWriting, hasOther, takesWrite, takesFetch}
-use Rattle.protocol.specs.Plan.{Call, format, step, flush, reopen, offer, fetch, landFetch, lookUp, view, writeBack, land, lookUpList, ask, slotMap, plan, storesMeta}
+use Rattle.protocol.specs.Plan.{Call, format, step, flush, reopen, offer, fetch, landFetch, lookUp, view, writeBack, land, lookUpList, offerList, ask, slotMap, importOpen, plan, storesMeta}
 use Rattle.protocol.specs.Kinds.{Purpose, toServe, toSettle, toWrite, toFetch, toLandFetch, toLand, Kind, aFormat, aReopening, aStep, aService, kind, aim}
 use Rattle.protocol.specs.Recovery.{labelAt, metasOf, pagesTest}
 use Rattle.protocol.specs.SlotMap.{mapBytes}
@@ -38,6 +38,8 @@ pub data Reason : Type 0 where
   slotOpen wrongState hasSlot windowFull allOpen stampsSpent : Reason
   -- document 02, N1
   sheetShort : Reason
+  -- document 02, N3
+  badScan : Reason
   -- document 02, N6
   badList : Reason
   -- document 02, N7
@@ -58,6 +60,7 @@ numberOf windowFull = 11
 numberOf allOpen = 12
 numberOf stampsSpent = 13
 numberOf sheetShort = 14
+numberOf badScan = 15
 numberOf badList = 16
 numberOf importFull = 17
 numberOf unknownCaller = 18
@@ -161,10 +164,6 @@ opensAnother toFetch k = true
 opensAnother toLandFetch k = false
 opensAnother (toLand page) k = false
 
--- 17: "the calls that 11 names, from caller 1 with 8 or more open" (document 02, N7)
-abbrev pub importOpen : ℕ → Record → Bool
-importOpen caller r = eqb caller importCaller && leb importMost (openBy importCaller (callersIn r))
-
 -- 13: "the newest stamp is 4,294,967,295, or for an offer or fetch 4,294,967,232 or more"
 abbrev pub stampBound : Purpose → ℕ
 stampBound toServe = largestStamp
@@ -173,6 +172,21 @@ stampBound toWrite = largestStamp - windowMost
 stampBound toFetch = largestStamp - windowMost
 stampBound toLandFetch = largestStamp
 stampBound (toLand page) = largestStamp
+
+-- 15 (document 02, N3): "an empty list, a list of more than 63, or one that names a block twice"
+unfoldable pub names : ℕ → List ℕ → Bool
+names b [] = false
+names b (c ∷ blocks) = eqb b c || names b blocks
+
+unfoldable pub namesOnce : List ℕ → Bool
+namesOnce [] = true
+namesOnce (b ∷ blocks) = not (names b blocks) && namesOnce blocks
+
+abbrev pub scanMost : ℕ
+scanMost = 63
+
+abbrev pub scanTest : List ℕ → Bool
+scanTest blocks = ltb 0 (length blocks) && (leb (length blocks) scanMost && namesOnce blocks)
 
 -- 16 (document 02, N6): "a list that is empty, over 64, or not as long as the answer list"
 abbrev pub listMost : ℕ
@@ -198,6 +212,7 @@ test allOpen c x = not (isCached (conditionOf (x .table) (aim c .block))) && all
 test stampsSpent c x = storesMeta (plan c x) && leb (stampBound (aim c .purpose)) (x .state .newest)
 -- document 02, N1: "if the buffer is shorter than 67 × the number of lines"
 test sheetShort c x = ltb (aim c .room) (mapBytes (labelIn (x .state)))
+test badScan c x = not (scanTest (aim c .list))
 test badList c x = not (listTest (length (aim c .list)) (aim c .room))
 test importFull c x = opensAnother (aim c .purpose) (conditionOf (x .table) (aim c .block)) && importOpen (aim c .caller) (x .state)
 test unknownCaller c x = ltb importCaller (aim c .caller)
@@ -226,6 +241,9 @@ askedThen (land b page) = blockTooHigh ∷ wrongState ∷ []
 askedThen (ask (slotMap n)) = sheetShort ∷ []
 -- document 02, N6: 16 "after 6 and before 7"
 askedThen (lookUpList blocks room) = badList ∷ blockTooHigh ∷ []
+-- document 02, N3: 15 "after 6", "before 7" and (N7) before 18; then as an offer of the first block
+askedThen (offerList blocks caller) =
+    badScan ∷ unknownCaller ∷ blockTooHigh ∷ slotOpen ∷ importFull ∷ windowFull ∷ allOpen ∷ stampsSpent ∷ []
 
 abbrev pub chain : Call → List Reason
 chain c = askedFirst (kind c) ++ askedThen c

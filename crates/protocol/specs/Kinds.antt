@@ -4,7 +4,7 @@ use mathlib.Core.List.{List, [], _∷_}
 use Rattle.layout.specs.declared.Block.{Block}
 use Rattle.layout.specs.declared.Label.{Label}
 use Rattle.layout.specs.Places.{labelOf}
-use Rattle.protocol.specs.Plan.{Call, format, step, flush, reopen, offer, fetch, landFetch, lookUp, view, writeBack, land, lookUpList, ask, Ask, slotMap}
+use Rattle.protocol.specs.Plan.{Call, format, step, flush, reopen, offer, fetch, landFetch, lookUp, view, writeBack, land, lookUpList, offerList, ask, Ask, slotMap, firstBlock}
 
 -- what a call is for, as far as conditions and the plain disk differ by it
 pub data Purpose : Type 0 where
@@ -37,6 +37,10 @@ highest (b ∷ blocks) = max b (highest blocks)
 abbrev pub aimsAll : List ℕ → ℕ → Aim
 aimsAll blocks room = record { block = record { 0 = highest blocks }; purpose = toServe; caller = 0; list = blocks; room = room }
 
+-- of a list that is offered it names the first block (document 02, N3)
+abbrev pub aimsFirst : List ℕ → ℕ → Aim
+aimsFirst blocks caller = record { block = firstBlock blocks; purpose = toWrite; caller = caller; list = blocks; room = 0 }
+
 abbrev pub noBlock : Block
 noBlock = record { 0 = 0 }
 
@@ -63,6 +67,7 @@ kind (writeBack b) = aService (aims b toServe)
 kind (land b page) = aService (aims b (toLand page))
 kind (ask a) = aService (askAim a)
 kind (lookUpList blocks room) = aService (aimsAll blocks room)
+kind (offerList blocks caller) = aService (aimsFirst blocks caller)
 
 abbrev pub aimOf : Kind → Aim
 aimOf (aFormat l) = aims noBlock toServe

@@ -8,18 +8,18 @@ use lib.Dec.{leb}
 use Rattle.pages.specs.Pages.{pageAt, zeroPage}
 use Rattle.layout.specs.declared.Slot.{Slot}
 use Rattle.layout.specs.declared.Label.{Label}
-use Rattle.layout.specs.Places.{metaPages, labelPlace, metaPlace, dataPlace, blockPlace, metaOf, tableLength}
+use Rattle.layout.specs.Places.{metaPages, labelPlace, metaPlace, dataPlace, blockPlace, tableLength}
 use Rattle.layout.specs.LabelPage.{encodeLabel}
 use Rattle.layout.specs.MetaPage.{encodeMeta, rowsOn}
 use Rattle.record.specs.declared.Record.{Record}
 use Rattle.record.specs.declared.Phase.the-variants.{Formatting, Ready}
-use Rattle.protocol.specs.Reply.{Reply, announced, done}
-use Rattle.protocol.specs.Rows.{rowBlock, rowFlags, setFlags, setRow, writing, withUsed, withoutWriting, withoutDirty}
+use Rattle.protocol.specs.Reply.{Reply, done}
+use Rattle.protocol.specs.Rows.{rowBlock, rowFlags, setFlags, writing, withUsed, withoutWriting, withoutDirty}
 use Rattle.record.specs.Record.{labelIn, windowIn, callersIn, recordOf, withHand, withPhase, withStamp, withWindow, withCallers}
 use Rattle.record.specs.Window.{without, beside}
 use Rattle.protocol.specs.Box.{Box, ssdImage, hddImage, Store, Effect}
 use Rattle.protocol.specs.Recovery.{labelAt, metasOf, recover, phaseOf, offPage}
-use Rattle.protocol.specs.Plan.{Move, stay, uses, usesAll, opens, lands, copies, confirms, mends, begins, formats, recovers}
+use Rattle.protocol.specs.Plan.{grown, Move, stay, uses, usesAll, announces, lands, copies, confirms, mends, begins, formats, recovers}
 
 -- "A metadata store writes from the table (without used flags) the whole metadata page .., with the window, and the newest
 -- stamp plus 1; it clears unsettled": page p, from this record and this table
@@ -36,9 +36,9 @@ confirmed p said r table =
       });
     }
 
--- a row is opened: the slot joins the window, and its caller stands beside it (document 02, N7)
+-- a slot joins the window, and its caller beside it
 abbrev pub joined : Slot → ℕ → Slot → Record → Record
-joined s caller hand r = withCallers (withWindow (withHand r hand) (r .unconfirmed) (windowIn r ++ (s ∷ []))) (callersIn r ++ (caller ∷ []))
+joined s caller hand r = grown r hand (windowIn r ++ (s ∷ [])) (callersIn r ++ (caller ∷ []))
 
 -- "store its slot's page"
 abbrev pub dataStore : Slot → List ℕ → Box → Store
@@ -122,8 +122,7 @@ perform (stay said) x = record { said = said; state = x .state; table = x .table
 perform (uses s said) x =
     record { said = said; state = x .state; table = setFlags (x .table) s (withUsed (rowFlags (x .table) s)); store = none }
 perform (usesAll ss) x = record { said = done; state = x .state; table = usedAll ss (x .table); store = none }
-perform (opens s b caller flags table hand) x =
-    confirmed (metaOf s) (announced s) (joined s caller hand (x .state)) (setRow table s b flags)
+perform (announces said p table hand window callers) x = confirmed p said (grown (x .state) hand window callers) table
 perform (lands write s page) x = landedIn write s page x
 perform (copies s said table hand) x = copiedFrom s said table hand x
 perform confirms x = confirmed 0 done (x .state) (x .table)

@@ -5,7 +5,7 @@ use mathlib.Core.List.{List, [], _∷_}
 use lib.Dec.{eqb}
 use Rattle.layout.specs.declared.Slot.{Slot}
 use Rattle.protocol.specs.declared.Answer.{Answer}
-use Rattle.protocol.specs.declared.Answer.the-variants.{Refused, Announced, Overwrite, CopiedOut, Looked, NothingToDo, Done}
+use Rattle.protocol.specs.declared.Answer.the-variants.{Refused, Announced, Overwrite, CopiedOut, Looked, NothingToDo, Done, Dealt}
 use Rattle.protocol.specs.declared.Condition.{Condition}
 use Rattle.protocol.specs.declared.Condition.the-variants.{NotCached, Clean, Dirty, Writing, Fetching}
 
@@ -14,6 +14,8 @@ use Rattle.protocol.specs.declared.Condition.the-variants.{NotCached, Cl
 pub data Reply : Type 0 where
   refusal : ℕ → Reply
   answer : ℕ → List Slot → Reply
+  -- document 02, N3: "The answer is how many list places were dealt with"; its code is 112
+  dealt : ℕ → Reply
 
 -- "announced", with the slot that was opened
 abbrev pub announced : Slot → Reply
@@ -56,8 +58,10 @@ replyOf CopiedOut = copiedOut
 replyOf (Looked z) = looked z
 replyOf NothingToDo = nothingToDo
 replyOf Done = done
+replyOf (Dealt n) = dealt n
 
 -- was the call refused
 abbrev pub refused : Reply → Bool
 refused (refusal n) = true
 refused (answer n s) = false
+refused (dealt n) = false

@@ -22,7 +22,7 @@ use Rattle.protocol.specs.Rows.{rowBlock, rowFlags, valid, dirty, writin
 use Rattle.record.specs.Record.{labelIn, windowIn}
 use Rattle.record.specs.Rule.{RecordRule}
 use Rattle.protocol.specs.Box.{Box}
-use Rattle.protocol.specs.Plan.{Call, format, step, flush, reopen, offer, fetch, landFetch, lookUp, view, writeBack, land, lookUpList, ask, slotMap, plan, storesMeta}
+use Rattle.protocol.specs.Plan.{Call, format, step, flush, reopen, offer, fetch, landFetch, lookUp, view, writeBack, land, lookUpList, offerList, ask, slotMap, firstBlock, plan, storesMeta}
 use Rattle.protocol.specs.Recovery.{labelAt, metasOf, entryIn}
 
 -- 2: the first page is the page of a label within the limits
@@ -127,6 +127,13 @@ TooHigh b x = x .state .label .blocks ≤ b .0
 abbrev pub BadList : List ℕ → ℕ → Type 0
 BadList blocks room = (blocks ≡ []) ⊎ ((64 < length blocks) ⊎ (length blocks ≢ room))
 
+-- 15 (document 02, N3): "an empty list, a list of more than 63, or one that names a block twice"
+abbrev pub NamedTwice : List ℕ → Type 0
+NamedTwice blocks = (i : ℕ) × (j : ℕ) × (i < j) × (j < length blocks) × (getD blocks i 0 ≡ getD blocks j 0)
+
+abbrev pub BadScan : List ℕ → Type 0
+BadScan blocks = (blocks ≡ []) ⊎ ((63 < length blocks) ⊎ NamedTwice blocks)
+
 abbrev pub AnyHigh : List ℕ → Box → Type 0
 AnyHigh blocks x = (i : ℕ) × (i < length blocks) × TooHigh (record { 0 = getD blocks i 0 }) x
 
@@ -210,6 +217,12 @@ Why (land b page) x =
 Why (ask (slotMap n)) x = (3, BadRecord x) ∷ (4, BadLengths x) ∷ (5, BadRows x) ∷ (6, NotReady x) ∷ (14, ShortSheet n x) ∷ []
 Why (lookUpList blocks room) x =
     (3, BadRecord x) ∷ (4, BadLengths x) ∷ (5, BadRows x) ∷ (6, NotReady x) ∷ (16, BadList blocks room) ∷ (7, AnyHigh blocks x) ∷ []
+-- of its first block, but 13 of what the whole list announces
+Why (offerList blocks caller) x =
+    (3, BadRecord x) ∷ (4, BadLengths x) ∷ (5, BadRows x) ∷ (6, NotReady x) ∷ (15, BadScan blocks) ∷ (18, UnknownCaller caller)
+    ∷ (7, TooHigh (firstBlock blocks) x) ∷ (8, SlotOpen (firstBlock blocks) x) ∷ (17, NotDirty (firstBlock blocks) x × ImportFull caller x)
+    ∷ (11, NotDirty (firstBlock blocks) x × Open 63 (x .table)) ∷ (12, AllOpen (firstBlock blocks) x)
+    ∷ (13, Spent 4294967232 (offerList blocks caller) x) ∷ []
 
 -- "Least number first .. A number is used if its condition holds for that call, and in no other case": n is the first of the
 -- call's numbers whose condition holds; a number that is not the call's is never given
@@ -222,10 +235,10 @@ abbrev pub NoneWhy : List (ℕ × Type 0) → Type 0
 NoneWhy [] = Unit {0}
 NoneWhy (w ∷ ws) = (w .1 → ⊥) × NoneWhy ws
 
--- the order of judging: by number, but for 10 before 8 (document 02, N9); 14 (N1), 16 (N6) and 18 (N7), which come "after 6" and before 7;
+-- the order of judging: by number, but for 10 before 8 (document 02, N9); 14 (N1), 15 (N3), 16 (N6) and 18 (N7), which come "after 6" and before 7;
 -- and 17 "after 10 and before 11" (N7). It is a list of its own, and every call's numbers are some of these in this order
 abbrev pub turns : List ℕ
-turns = 1 ∷ 2 ∷ 3 ∷ 4 ∷ 5 ∷ 6 ∷ 14 ∷ 16 ∷ 18 ∷ 7 ∷ 10 ∷ 8 ∷ 9 ∷ 17 ∷ 11 ∷ 12 ∷ 13 ∷ []
+turns = 1 ∷ 2 ∷ 3 ∷ 4 ∷ 5 ∷ 6 ∷ 14 ∷ 15 ∷ 16 ∷ 18 ∷ 7 ∷ 10 ∷ 8 ∷ 9 ∷ 17 ∷ 11 ∷ 12 ∷ 13 ∷ []
 
 unfoldable pub inTurn : List ℕ → List (ℕ × Type 0) → Bool
 inTurn [] [] = true

@@ -12,6 +12,7 @@ pub enum Answer {
     Looked(Condition),
     NothingToDo,
     Done,
+    Dealt(u32),
 }
 
 // Where a call stored: nowhere, or on a page of the SSD or of the HDD image, by its number.

@@ -1,5 +1,5 @@
 -- A record that keeps its rule: its parts, and its window as an array.
-use Prim.Native.Nat.{ℕ, _-_, _≤_, _<_}
+use Prim.Native.Nat.{ℕ, _+_, _-_, _≤_, _<_}
 use mathlib.Core.Path.{_≡_, refl, sym, ap, _∙_}
 use mathlib.Core.Bool.{Bool, true}
 use mathlib.Core.List.{List, [], _∷_, _++_}
@@ -9,18 +9,17 @@ use lib.Dec.{eqb, ltb, leb}
 use borrow.Author.Tests.{eqb-true, leb-true}
 use Rattle.layout.specs.declared.Slot.{Slot}
 use Rattle.layout.specs.declared.Label.{Label}
-use Rattle.layout.specs.declared.Window.{Window}
 use Rattle.layout.specs.Places.{withinLimits}
 use Rattle.layout.specs.PageRule.{listed, distinct, inRange}
-use Rattle.layout.specs.Window.{slotsIn, arrayOf, windowFrom, ZeroPast}
+use Rattle.layout.specs.Window.{arrayOf, windowFrom, ZeroPast}
 use Rattle.layout.proofs.Booleans.{and-parts}
 use Rattle.record.specs.declared.Record.{Record}
 use Rattle.record.specs.declared.Phase.{Phase}
 use Rattle.record.specs.Window.{eachPlace, zeroSlots, without}
 use Rattle.record.specs.Callers.{callerArray, namedPlaces, callersTest}
-use Rattle.record.specs.Record.{windowOf, windowIn, callersIn, recordOf, putWindow, putCallers, withWindow}
+use Rattle.record.specs.Record.{windowOf, windowIn, callersIn, recordOf, putWindow, putCallers, withHand, withWindow, withCallers}
 use Rattle.record.specs.Rule.{stepsTest, recordTest}
-use Rattle.record.proofs.WindowLaws.{take-array, padded-more}
+use Rattle.record.proofs.WindowLaws.{take-array, padded-more, window-more}
 use Rattle.record.proofs.CallerLaws.{Named, named-of, callers-array, padded-callers}
 use Rattle.record.proofs.LeaveLaws.{length-less}
 
@@ -130,12 +129,34 @@ module _ (r : Record) (P : Parts r) where
       ∙ rw (← padded-callers (callersIn r), ← padded-callers (callersIn r ++ (caller ∷ [])))
       (padded-more 0 (callersIn r) caller (omega (arith, callers-length)))
 
--- the record with a slot more in its window
-module _ (r : Record) (s : Slot) (w : Window) (e : w ≡ windowOf r) where
-  pub joined-is : (v : Window) → v ≡ windowFrom (slotsIn w ++ (s ∷ [])) → (q : Record) → q ≡ putWindow r (r .unconfirmed) v
-      → q ≡ withWindow r (r .unconfirmed) (windowIn r ++ (s ∷ []))
-  joined-is v j q p = rw (p, j, e, window-is r)
+-- the record with a slot more in its window, its caller beside it, and another hand
+pub joined-is : (r : Record) → Parts r → (s : Slot) (caller : ℕ) (hand : Slot) → r .count < 63
+    → putCallers (putWindow (withHand r hand) (r .unconfirmed) (record { slots = set (r .window) (r .count) s; count = r .count + 1 }))
+    (set (r .callers) (r .count) caller)
+    ≡ withCallers (withWindow (withHand r hand) (r .unconfirmed) (windowIn r ++ (s ∷ []))) (callersIn r ++ (caller ∷ []))
+joined-is r P s caller hand h =
+    (λ i. putCallers (putWindow (withHand r hand) (r .unconfirmed) (window-more (windowOf r) s (window-zero r P) h i))
+    (callers-more r P caller h i))
+    ∙ ap (λ (w : List Slot). withCallers (withWindow (withHand r hand) (r .unconfirmed) (w ++ (s ∷ []))) (callersIn r ++ (caller ∷ []))) (window-is r)
 
 -- its length without a slot
 pub one-less : (r : Record) (s : Slot) → Parts r → listed s (windowIn r) ≡ true → r .count - 1 ≡ length (without s (windowIn r))
 one-less r s P h = omega (arith, length-less s (windowIn r) h, window-length r P)
+
+-- made anew of its own hand, slots and callers it is the same
+pub remade-same : (r : Record) → Parts r → withCallers (withWindow (withHand r (r .hand)) (r .unconfirmed) (windowIn r)) (callersIn r) ≡ r
+remade-same r P =
+    let w = window-array r P in
+    let n = window-length r P in
+    let c : r .callers ≡ callerArray (callersIn r) =
+    callers-array (r .count) (r .callers) (callers-named r P) (P .most) ∙ ap callerArray (callers-is r) in
+    λ i. record {
+      label = r .label;
+      hand = r .hand;
+      newest = r .newest;
+      phase = r .phase;
+      unconfirmed = r .unconfirmed;
+      window = sym w i;
+      count = n i;
+      callers = sym c i;
+    }

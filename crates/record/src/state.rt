@@ -96,16 +96,19 @@ pub fn with_window(r: Record, unconfirmed: bool, w: Window) -> Record
     next
 }
 
-// The record with a slot added to its window, and its caller beside it.
-pub fn joined(r: Record, s: Slot, caller: u32) -> Record
+// The record with another hand and a slot added to its window, its caller beside it: changed in place, since a list of offers does this at
+// each place.
+pub fn joined(r: Record, s: Slot, caller: u32, hand: Slot) -> Record
     requires { ⌜ recordTest r ≡ true ⌝ }
     requires { ⌜ r .count < windowMost ⌝ }
-    ensures { λ q. ⌜ q ≡ withCallers (withWindow r (r .unconfirmed) (windowIn r ++ (s ∷ []))) (callersIn r ++ (caller ∷ [])) ⌝ }
+    ensures { λ q. ⌜ q ≡ withCallers (withWindow (withHand r hand) (r .unconfirmed) (windowIn r ++ (s ∷ []))) (callersIn r ++ (caller ∷ [])) ⌝ }
 {
     let at = r.count as usize;
-    let w = window::join(window_of(r), s);
-    let mut next = with_window(r, r.unconfirmed, w);
+    let mut next = r;
+    next.hand = hand;
+    next.window[at] = s;
     next.callers[at] = caller;
+    next.count = r.count + 1;
     next
 }
 

@@ -221,11 +221,11 @@ module _ (x : Box) (L : Legal x) (some-shut : allWriting (x .table) ≡ false) w
   swept-answer P a c b by-caller f = go (sweep (labelIn (x .state)) (x .table) (x .state .hand)) refl
     where
       go : (o : Option Victim) → sweep (labelIn (x .state)) (x .table) (x .state .hand) ≡ o
-          → P (perform (takes (labelIn (x .state)) b by-caller f o) x .said)
+          → P (perform (takes (x .state) b by-caller f o) x .said)
       go none e = absurd (sweep-takes e)
       go (some v) e = by (dirty (rowFlags (v .table) (v .slot)))
         where
-          by : (d : Bool) → P (perform (takesAs d (labelIn (x .state)) b by-caller f v) x .said)
+          by : (d : Bool) → P (perform (takesAs d (x .state) b by-caller f v) x .said)
           by true = c
           by false = a (v .slot)
 

@@ -12,7 +12,7 @@ use Rattle.layout.specs.declared.Block.{Block}
 use Rattle.layout.specs.declared.Label.{Label}
 use Rattle.protocol.specs.declared.Condition.{Condition}
 use Rattle.protocol.specs.declared.Condition.the-variants.{NotCached, Clean, Dirty, Writing, Fetching}
-use Rattle.protocol.specs.Reply.{Reply, refusal, answer, copiedOut, overwrite, nothingToDo, announced}
+use Rattle.protocol.specs.Reply.{Reply, refusal, answer, dealt, copiedOut, overwrite, nothingToDo, announced}
 use Rattle.protocol.specs.Rows.{rowFlags, setFlags, dirty, writing, used, withoutDirty}
 use Rattle.record.specs.Record.{labelIn}
 use Rattle.protocol.specs.Box.{Box, left, boxAfter}
@@ -32,10 +32,12 @@ use Rattle.protocol.proofs.Accepted.{Legal, service-legal}
 number : Reply → ℕ
 number (refusal n) = 0
 number (answer n s) = n
+number (dealt n) = 112
 
 isRefusal : Reply → Bool
 isRefusal (refusal n) = true
 isRefusal (answer n s) = false
+isRefusal (dealt n) = false
 
 -- who answers "copied out": a sweep that took a dirty slot
 data CopyingOut (x : Box) (b : Block) : Move → Type 0 where
@@ -51,12 +53,12 @@ unfolding perform confirmed number
 copying-out x b c NotCached e = go (sweep (labelIn (x .state)) (x .table) (x .state .hand)) refl e
   where
     go : (o : Option Victim) → sweep (labelIn (x .state)) (x .table) (x .state .hand) ≡ o
-        → perform (takes (labelIn (x .state)) b c 7 o) x .said ≡ copiedOut → CopyingOut x b (takes (labelIn (x .state)) b c 7 o)
+        → perform (takes (x .state) b c 7 o) x .said ≡ copiedOut → CopyingOut x b (takes (x .state) b c 7 o)
     go none q = λ e. other {p = nothingToDo} 106 refl (omega arith) e
     go (some v) q = by (dirty (rowFlags (v .table) (v .slot))) refl
       where
-        by : (t : Bool) → dirty (rowFlags (v .table) (v .slot)) ≡ t → perform (takesAs t (labelIn (x .state)) b c 7 v) x .said ≡ copiedOut
-            → CopyingOut x b (takesAs t (labelIn (x .state)) b c 7 v)
+        by : (t : Bool) → dirty (rowFlags (v .table) (v .slot)) ≡ t → perform (takesAs t (x .state) b c 7 v) x .said ≡ copiedOut
+            → CopyingOut x b (takesAs t (x .state) b c 7 v)
         by true d e = swept-dirty v q d
         by false d e = other {p = announced (v .slot)} 101 refl (omega arith) e
 copying-out x b c (Clean s) e = other {p = announced s} 101 refl (omega arith) e

@@ -16,3 +16,5 @@ pub mod ReopensFrom
 pub mod Landings
 pub mod Arranged
 pub mod ListLookUp
+pub mod ListOffers
+pub mod ListOfOne

@@ -1,9 +1,9 @@
 -- Every page that a call stores is 4,096 bytes; every metadata page among them keeps the page's rule, and says table, window and stamp.
-use Prim.Native.Nat.{ℕ, zero, suc, _+_, _^_, _<_}
+use Prim.Native.Nat.{ℕ, zero, suc, _+_, _-_, _^_, _<_}
 use mathlib.Core.Path.{_≡_, refl, sym, ap, subst, _∙_}
 use mathlib.Core.Logic.{_≢_}
 use mathlib.Core.Bool.{Bool, true, false, _&&_}
-use mathlib.Core.List.{List, [], _∷_, _++_}
+use mathlib.Core.List.{List, [], _∷_}
 use mathlib.Core.Option.{Option, some, none, Option·some-injective, Option·none-ne-some}
 use native.Mathlib.Omega.{arith}
 use lib.ListN.{length}
@@ -12,9 +12,8 @@ use borrow.Author.Tests.{leb-false}
 use Rattle.pages.specs.Pages.{IsPage}
 use Rattle.pages.proofs.PageLaws.{length-page, length-zero}
 use Rattle.layout.specs.declared.Slot.{Slot}
-use Rattle.layout.specs.declared.Block.{Block}
 use Rattle.layout.specs.declared.Label.{Label}
-use Rattle.layout.specs.Places.{Limits, metaPages, metaPlace, dataPlace, blockPlace, metaOf, tableLength}
+use Rattle.layout.specs.Places.{Limits, metaPages, metaPlace, dataPlace, blockPlace, tableLength}
 use Rattle.layout.specs.LabelPage.{encodeLabel}
 use Rattle.layout.specs.MetaPage.{encodeMeta, rowsOn}
 use Rattle.layout.specs.PageRule.{PageRule}
@@ -23,13 +22,12 @@ use Rattle.layout.proofs.RuleLaws.{page-rule}
 use Rattle.record.specs.declared.Record.{Record}
 use Rattle.record.specs.declared.Phase.{Phase}
 use Rattle.record.specs.declared.Phase.the-variants.{Formatting, Recovering, Ready}
-use Rattle.protocol.specs.Reply.{Reply, announced, done}
-use Rattle.protocol.specs.Rows.{rowFlags, setRow, writing}
+use Rattle.protocol.specs.Reply.{Reply, done}
 use Rattle.record.specs.Record.{labelIn, windowIn, withHand, withPhase, withStamp, largestStamp}
 use Rattle.protocol.specs.Box.{Box, Image, ssdImage, hddImage, Store, Effect}
 use Rattle.protocol.specs.Recovery.{offPage}
-use Rattle.protocol.specs.Plan.{Call, step, opens, lands, mends, formats, lowestPage, stepping, plan, storesMeta, Move}
-use Rattle.protocol.specs.Perform.{confirmed, joined, landedIn, mendedAt, formatStore, formatState, perform}
+use Rattle.protocol.specs.Plan.{Call, step, grown, announces, lands, mends, formats, lowestPage, stepping, plan, storesMeta, Move}
+use Rattle.protocol.specs.Perform.{confirmed, landedIn, mendedAt, formatStore, formatState, perform}
 use Rattle.protocol.specs.Judge.{Reason, isEmpty, agreeTest, test, judged, stampsSpent}
 use Rattle.protocol.specs.Calls.{decided, effectOf}
 use Rattle.protocol.specs.Beside.{stampStored, MetaStored, StoresLegally}
@@ -45,7 +43,7 @@ use Rattle.protocol.proofs.Judged.{passed}
 use Rattle.theorem.proofs.UpdateFirst.{none-of}
 use Rattle.protocol.proofs.Sound.{Sound}
 use Rattle.protocol.proofs.Accepted.{Legal, step-legal, service-legal, service-ready, legal-sound}
-use Rattle.protocol.proofs.Does.{Opening, Does, does-nothing, does-use, does-use-all, does-open, does-copy, does-land, does-fetch, does-rest, does-confirm, opening-sound}
+use Rattle.protocol.proofs.Does.{Openings, Does, does-nothing, does-use, does-use-all, does-announce, does-copy, does-land, does-fetch, does-rest, does-confirm, grown-window, openings-sound}
 use Rattle.protocol.proofs.Sorted.{Sorted, is-format, is-reopen, is-step, is-service, sorted}
 
 -- a page of this table, window and stamp
@@ -165,25 +163,21 @@ module _ (x : Box) (L : Legal x) (on : x .state .phase ≡ Ready) where
   serving : Serving (x .state .phase)
   serving = rw on ready
 
-  joined-window : (s : Slot) (c : ℕ) (hand : Slot) → windowIn (joined s c hand (x .state)) ≡ windowIn (x .state) ++ (s ∷ [])
-  unfolding windowIn
-  joined-window s c hand = take-array (windowIn (x .state) ++ (s ∷ []))
-
-  opens-stores : {s : Slot} {b : Block} {c f : ℕ} {v : List ℕ} {hand : Slot} → Opening x s b c f v hand
-      → Stores lab (x .state .phase) (perform (opens s b c f v hand) x)
+  announces-stores : (said : Reply) {q : ℕ} {t : List ℕ} {hand : Slot} {w : List Slot} {cs : List ℕ} → Openings x q t hand w cs
+      → x .state .newest < largestStamp - 63 → Stores lab (x .state .phase) (perform (announces said q t hand w cs) x)
   unfolding perform
-  opens-stores {s} {b} {c} {f} {v} {hand} O =
-      let T = opening-sound O S in
-      confirmed-stores lab (L .limits) (joined s c hand (x .state)) refl (setRow v s b f) (T .size) (T .legal) (omega (arith, O .stamps))
-      (subst (λ (z : List Slot). Window (x .state .label .slots) (nums z)) (sym (joined-window s c hand)) (T .rule))
-      (x .state .phase) serving (metaOf s) (announced s)
+  announces-stores said {q} {t} {hand} {w} {cs} O spare =
+      let T = openings-sound O S in
+      confirmed-stores lab (L .limits) (grown (x .state) hand w cs) refl t (T .size) (T .legal) (omega arith)
+      (subst (λ (z : List Slot). Window (x .state .label .slots) (nums z)) (sym (grown-window (x .state) hand w cs)) (T .rule))
+      (x .state .phase) serving q said
 
   does-stores : {a : Aim} {m : Move} → Does x a m → Stores lab (x .state .phase) (perform m x)
   unfolding perform
   does-stores (does-nothing z n) = λ s g. no-store g
   does-stores (does-use z n H) = λ s g. no-store g
   does-stores (does-use-all z A) = λ s g. no-store g
-  does-stores (does-open z O) = opens-stores O
+  does-stores (does-announce {said = said} z n O spare) = announces-stores said O spare
   does-stores (does-copy {s = s} z n C) =
       λ t g. (sized (the-store g) (length-page (x .images .ssd) (dataPlace lab s) (omega (arith, L .ssd-size, C .low))), λ i. hdd-not (the-store g) i)
   does-stores (does-land H bl d size) = lands-elsewhere lab (x .state .phase) true _ _ x refl size

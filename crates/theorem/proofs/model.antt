@@ -7,5 +7,6 @@ pub mod Flushed
 pub mod Reopened
 pub mod Mended
 pub mod Moves
+pub mod Announced
 pub mod Finished
 pub mod Places

@@ -26,9 +26,9 @@ use Rattle.protocol.specs.Box.{Box, refusing}
 use Rattle.protocol.specs.Condition.{conditionOf, isOpen, isCached, isWriting, hasOther}
 use Rattle.protocol.specs.Sweep.{nextSlot}
 use Rattle.protocol.specs.Kinds.{toWrite, toFetch}
-use Rattle.protocol.specs.Plan.{Call, Move, offer, fetch, stay, opens, copies, takesAs, takes, sweeps, offering, fetching, storesMeta, plan}
+use Rattle.protocol.specs.Plan.{Call, Move, offer, fetch, stay, opens, copies, takesAs, takes, sweeps, offering, fetching, storesMeta, plan, importOpen}
 use Rattle.protocol.specs.Perform.{perform}
-use Rattle.protocol.specs.Judge.{Reason, slotOpen, hasSlot, windowFull, allOpen, stampsSpent, importFull, opensAnother, importOpen, rowTest, test, firstOf, judged}
+use Rattle.protocol.specs.Judge.{Reason, slotOpen, hasSlot, windowFull, allOpen, stampsSpent, importFull, opensAnother, rowTest, test, firstOf, judged}
 use Rattle.protocol.specs.Calls.{effectOf, boxOf}
 use Rattle.protocol.proofs.refine.Flags.{legal-row}
 use Rattle.protocol.proofs.refine.Tables.{Rows, each-get}
@@ -106,14 +106,14 @@ module _ (s : Slot) (flags passed : ℕ) (hand : Slot) (b : Block) (caller : ℕ
   turn-spent n = rw (n, turned)
 
   pub turn-opens : spent (x .state .newest) ≡ false
-      → perform (opens s b caller flags (tableAfter passed x) hand) x ≡ turned (Opens s flags passed hand) b caller x
+      → perform (opens (x .state) s b caller flags (tableAfter passed x) hand) x ≡ turned (Opens s flags passed hand) b caller x
   turn-opens n = rw (n, turned)
 
 -- 13 alone is left to ask of a call: it opens a slot, or it copies one out
 module _ (c : Call) (x : Box) (b : Block) (caller passed : ℕ)
     (j : judged c x ≡ firstOf (stampsSpent ∷ []) (λ q. test q c x))
     (e : test stampsSpent c x ≡ (storesMeta (plan c x) && spent (x .state .newest))) where
-  opening : (s : Slot) (flags : ℕ) (hand : Slot) → plan c x ≡ opens s b caller flags (tableAfter passed x) hand
+  opening : (s : Slot) (flags : ℕ) (hand : Slot) → plan c x ≡ opens (x .state) s b caller flags (tableAfter passed x) hand
       → effectOf c x ≡ turned (Opens s flags passed hand) b caller x
   opening s flags hand p = go (told (spent (x .state .newest)))
     where
@@ -172,15 +172,15 @@ module _ (c : Call) (x : Box) (b : Block) (caller flags : ℕ) (size : length (x
           → judged c x ≡ firstOf (stampsSpent ∷ []) (λ q. test q c x)
           → effectOf c x ≡ turned (takeTurn l (x .table) flags (Took s k)) b caller x
       took s k d f n =
-          go d (p ∙ ap (takes l b caller flags) (swept-is l (x .table) (x .state .hand) s k size R low (sym f))
-          ∙ ap (λ (d : Bool). takesAs d l b caller flags (record { slot = s; table = tableAfter k x })) dirty-is)
+          go d (p ∙ ap (takes (x .state) b caller flags) (swept-is l (x .table) (x .state .hand) s k size R low (sym f))
+          ∙ ap (λ (d : Bool). takesAs d (x .state) b caller flags (record { slot = s; table = tableAfter k x })) dirty-is)
         where
           dirty-is : dirty (rowFlags (tableAfter k x) s) ≡ dirty (rowFlags (x .table) s)
           dirty-is = passed-is k l (x .table) (x .state .hand) size R low .dirty-is s
               (took-is l (x .table) (x .state .hand) s k size R low (sym f) .low)
 
           go : Told (dirty (rowFlags (x .table) s))
-              → plan c x ≡ takesAs (dirty (rowFlags (x .table) s)) l b caller flags (record { slot = s; table = tableAfter k x })
+              → plan c x ≡ takesAs (dirty (rowFlags (x .table) s)) (x .state) b caller flags (record { slot = s; table = tableAfter k x })
               → effectOf c x ≡ turned (takeTurn l (x .table) flags (Took s k)) b caller x
           go (told-true d) q = copying c x b caller k n e13 s (q ∙ rw (d, takesAs)) ∙ rw (d, takeTurn, turned)
           go (told-false d) q = opening c x b caller k n e13 s flags (nextSlot l s) (q ∙ rw (d, takesAs)) ∙ rw (d, takeTurn, turned)

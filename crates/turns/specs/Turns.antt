@@ -19,9 +19,9 @@ use Rattle.protocol.specs.Reply.{overwrite, copiedOut}
 use Rattle.protocol.specs.Rows.{rowFlags, dirty, withWriting, openRows}
 use Rattle.protocol.specs.Box.{Box, Effect, refusing}
 use Rattle.protocol.specs.Sweep.{nextSlot}
-use Rattle.protocol.specs.Plan.{stay, opens, copies}
+use Rattle.protocol.specs.Plan.{stay, opens, copies, importOpen}
 use Rattle.protocol.specs.Perform.{perform}
-use Rattle.protocol.specs.Judge.{slotOpen, hasSlot, windowFull, allOpen, stampsSpent, importFull, numberOf, importOpen}
+use Rattle.protocol.specs.Judge.{slotOpen, hasSlot, windowFull, allOpen, stampsSpent, importFull, numberOf}
 use Rattle.sweeping.specs.declared.Swept.{Swept}
 use Rattle.sweeping.specs.declared.Swept.the-variants.{Took, Stuck}
 use Rattle.table.specs.Scan.{legalRows}
@@ -119,6 +119,6 @@ turned Passes b caller x = perform (stay overwrite) x
 turned (Opens s flags passed hand) b caller x =
     elim (spent (x .state .newest)) [
       | true ↦ refusing (numberOf stampsSpent) x
-      | false ↦ perform (opens s b caller flags (tableAfter passed x) hand) x
+      | false ↦ perform (opens (x .state) s b caller flags (tableAfter passed x) hand) x
     ]
 turned (CopiesOut s passed) b caller x = perform (copies s copiedOut (tableAfter passed x) s) x

@@ -16,7 +16,7 @@ ghost use lib.ListN.{length};
 ghost use Rattle.layout.specs.Places.{tableLength};
 ghost use Rattle.sweeping.specs.declared.Swept.the-variants.{Took};
 ghost use Rattle.record.specs.Rule.{recordTest};
-ghost use Rattle.protocol.specs.Judge.{importOpen};
+ghost use Rattle.protocol.specs.Plan.{importOpen};
 ghost use Rattle.turns.specs.Turns.{Seen, Within, isPass, crowdOf, takeTurn, sweepTurn, cleanTurn, offerTurn, fetchTurn};
 
 // What an offer or a fetch does: refused by a number (8, 10, 17, 11 or 12); passes, the answer being "overwrite"; opens a slot with these

@@ -1,7 +1,11 @@
 //! Boxes that calls are timed on: every slot is in use, and some may be open.
 
 use crate::timing::{per_call, Times};
-use crate::world::{Call, Side, World, HAND};
+use crate::world::{Call, Side, World, HAND, PEOPLE};
+
+/// A scan of 63 blocks, or of 4 where there are 4 slots.
+const SCAN: &str = "offer 63 blocks, a list (of 4 slots: 4)";
+const SCAN_SINGLY: &str = "offer 63 blocks, one by one (of 4 slots: 4)";
 
 /// Boxes that are all alike, what was timed on them, a block that no slot holds, and the slots that are open: spread over the box,
 /// and neither the first slot nor the last.
@@ -46,6 +50,32 @@ impl Bench {
             codes.filter(|code| *code < 100).count() as u32
         });
         self.times.note::<S>("look up 64 blocks, one by one", each);
+    }
+
+    /// Times a list of 63 blocks that is offered, or of as many as there are slots, and as many offers one by one: blocks that are not
+    /// cached, as far as there are such, then clean ones, all on the first metadata page. The box is left as it was.
+    #[inline(always)]
+    pub fn time_scan<S: Side>(&mut self) {
+        let (slots, blocks) = (self.boxes[0].record[0], self.boxes[0].record[1]);
+        let (table, mut record) = (self.boxes[0].table.clone(), self.boxes[0].record.clone());
+        record[HAND] = 0;
+        let again = |w: &mut World| {
+            w.table.copy_from_slice(&table);
+            w.record.copy_from_slice(&record);
+        };
+        let block = |i: u32| if i < blocks - slots { slots + i } else { i };
+        let list: Vec<u32> = (0..slots.min(63)).map(block).collect();
+        self.set(again);
+        self.time::<S>(SCAN, 112, Call::OfferList(&list, PEOPLE));
+        self.set(again);
+        let each = per_call(&mut self.boxes, list.len() as u32, |w| {
+            let codes = list
+                .iter()
+                .map(|block| S::make(w, Call::Offer(*block, PEOPLE)));
+            codes.filter(|code| *code == 101).count() as u32
+        });
+        self.times.note::<S>(SCAN_SINGLY, each);
+        self.set(again);
     }
 
     pub fn set(&mut self, change: impl Fn(&mut World)) {

@@ -85,6 +85,11 @@ fn clean_again<S: Side>(b: &mut Bench, next: u32) {
     b.spare = next;
 }
 
+/// A scan offered as one, on a box with no slot open.
+fn scanned<S: Side>(b: &mut Bench) {
+    b.time_scan::<S>();
+}
+
 /// Format and its steps, whose rows are zero.
 fn formatted<S: Side>(b: &mut Bench) {
     let (slots, blocks) = (b.boxes[0].record[0], b.boxes[0].record[1]);
@@ -111,12 +116,14 @@ fn recovered<S: Side>(b: &mut Bench) {
     b.time::<S>("step, mending", 0, Call::Step);
 }
 
-/// The lists of calls that are timed, each for both sides. A format does not look at open slots: it is timed once, with none.
+/// The lists of calls that are timed, each for both sides. A format does not look at open slots: it is timed once, with none; and a scan
+/// takes all that may be open.
 fn lists(open: u32) -> Vec<[fn(&mut Bench); 2]> {
-    let mut lists: Vec<[fn(&mut Bench); 2]> = vec![
-        [held::<Proved>, held::<Plain>],
-        [swept::<Proved>, swept::<Plain>],
-    ];
+    let mut lists: Vec<[fn(&mut Bench); 2]> = vec![[held::<Proved>, held::<Plain>]];
+    if open == 0 {
+        lists.push([scanned::<Proved>, scanned::<Plain>]);
+    }
+    lists.push([swept::<Proved>, swept::<Plain>]);
     if open == 0 {
         lists.push([formatted::<Proved>, formatted::<Plain>]);
     }

@@ -7,13 +7,14 @@ use crate::plain::Plain;
 use crate::proved::Proved;
 use crate::report::grouped;
 use crate::rng::{scattered, Rng};
+use crate::scans;
 use crate::world::{
     map_bytes, meta_pages, Call, Side, World, COUNT, NEWEST, PHASE, READY, RECORD, WORDS,
 };
-use std::collections::BTreeMap;
+use std::collections::{BTreeMap, BTreeSet};
 
 /// How often each result code was seen.
-type Seen = BTreeMap<u32, u32>;
+pub type Seen = BTreeMap<u32, u32>;
 
 /// Something lent that a caller may get wrong.
 #[derive(Clone, Copy)]
@@ -93,20 +94,28 @@ fn random_call<'a>(
         130..=189 => Call::View(block),
         190..=249 => Call::LookUp(block),
         250..=289 => Call::LookUpList(list, (list.len() + (rng.below(8) == 0) as usize).min(WORDS)),
-        290..=389 => Call::Fetch(block, caller),
+        290..=319 => Call::OfferList(list, caller),
+        320..=389 => Call::Fetch(block, caller),
         390..=489 if !opening => Call::LandFetch(block),
         490..=739 if !opening => Call::Land(block, page),
         _ => Call::Offer(block, caller),
     }
 }
 
-/// A list of blocks, now and then empty or too long, or with one that is too high.
-fn random_list(rng: &mut Rng, blocks: u32) -> Vec<u32> {
-    let (n, most) = (
-        rng.pick(&[0, 1, 2, 5, 64, 64, 65]),
-        blocks + (rng.below(8) == 0) as u32,
-    );
-    (0..n).map(|_| rng.below(most as u64) as u32).collect()
+/// A list of up to 65 blocks, now and then empty, or with one that is too high; in most no block comes twice.
+pub fn random_list(rng: &mut Rng, blocks: u32) -> Vec<u32> {
+    let n = match rng.below(3) {
+        0 => rng.below(66) as u32,
+        1 => rng.pick(&[0, 1, 63, 64, 65]),
+        _ => rng.pick(&[1, 2, 3, 5]),
+    };
+    let most = blocks + (rng.below(8) == 0) as u32;
+    let mut list: Vec<u32> = (0..n).map(|_| rng.below(most as u64) as u32).collect();
+    if rng.below(4) != 0 {
+        let mut seen = BTreeSet::new();
+        list.retain(|block| seen.insert(*block));
+    }
+    list
 }
 
 /// Makes random calls on both sides; now and then something lent is wrong for one call, or the stamps are near their end.
@@ -153,20 +162,17 @@ pub fn run() -> String {
     let sizes = [(4, 8, 40_000), (64, 70, 40_000), (300, 310, 8_000)];
     for (slots, blocks, calls) in sizes {
         agree(slots, blocks, calls, &mut seen);
+        scans::agree(slots, blocks, &mut seen);
     }
-    let all: Vec<u32> = (0..=14)
-        .chain(16..=18)
-        .chain(101..=103)
-        .chain(106..=111)
-        .collect();
+    let all: Vec<u32> = (0..=18).chain(101..=103).chain(106..=112).collect();
     assert!(seen.keys().eq(&all), "the result codes seen: {seen:?}");
     let random: u32 = seen.values().sum();
     let refused: u32 = seen.range(1..100).map(|(_, n)| n).sum();
     calls::OPEN.iter().for_each(|(_, open)| calls::check(*open));
     format!(
-        "{} random calls, {} of them refused, with every answer and every number from 1 to 14 and from 16 to 18 among them, and the calls\n\
+        "{} random calls, {} of them refused, with every answer and every number from 1 to 18 among them, and the calls\n\
          that are timed, with 0, 16 and 63 slots open: both sides gave the same code, named the same\n\
-         slot, words and page, and left the same record, table, images and sheet.\n",
+         slot, words, places and page, and left the same record, table, images and sheet.\n",
         grouped(random),
         grouped(refused)
     )

@@ -14,6 +14,7 @@ mod proved;
 mod reopening;
 mod report;
 mod rng;
+mod scans;
 mod timing;
 mod world;
 

@@ -21,6 +21,9 @@ impl Side for Proved {
             Call::Format(slots, blocks) => lend!(format, w, (slots, blocks),),
             Call::Step => lend!(step, w, (), image offset),
             Call::Offer(block, caller) => lend!(offer, w, (block, caller), slot image offset),
+            Call::OfferList(blocks, caller) => {
+                lend!(offer_list, w, (blocks, caller), dealt image offset)
+            }
             Call::Fetch(block, caller) => lend!(fetch, w, (block, caller), slot image offset),
             Call::Land(block, page) => lend!(land, w, (block, page), image offset),
             Call::LandFetch(block) => lend!(land_fetch, w, (block), image offset),

@@ -33,8 +33,8 @@ pub fn map_bytes(slots: u32) -> usize {
     67 * slots.div_ceil(60) as usize
 }
 
-/// What a call is lent, the sheet of a slot map among it, and what it sets besides: a slot, the words of a list, and the page that it
-/// stored or that a view found. A refusal leaves them as they were.
+/// What a call is lent, the sheet of a slot map among it, and what it sets besides: a slot, the words of a list or how many
+/// places of one were dealt with, and the page that it stored or that a view found. A refusal leaves them as they were.
 #[derive(PartialEq)]
 pub struct World {
     pub ssd: Image,
@@ -43,6 +43,7 @@ pub struct World {
     pub record: Vec<u32>,
     pub sheet: Vec<u8>,
     pub slot: u32,
+    pub dealt: u32,
     pub words: Vec<u32>,
     pub image: u32,
     pub offset: u64,
@@ -62,6 +63,7 @@ impl World {
             record,
             sheet: vec![0xa5; map_bytes(slots) + 67],
             slot: 0,
+            dealt: 0,
             words: vec![0; WORDS],
             image: 0,
             offset: 0,
@@ -119,6 +121,8 @@ pub enum Call<'a> {
     Step,
     /// A block, and its caller.
     Offer(u32, u32),
+    /// A list of blocks, and its caller.
+    OfferList(&'a [u32], u32),
     Fetch(u32, u32),
     Land(u32, &'a [u8]),
     LandFetch(u32),

@@ -1,7 +1,9 @@
 //! Calls as values, and what they say.
 
 use crate::stored::named;
-use ferjulm::{Block, Caller, Condition, Fetched, Geometry, Offered, Place, Refusal, Saved, Slot};
+use ferjulm::{
+    Block, Caller, Condition, Fetched, Geometry, Offered, OfferedList, Place, Refusal, Saved, Slot,
+};
 
 /// A call with its arguments.
 #[derive(Clone, Debug, PartialEq)]
@@ -10,6 +12,7 @@ pub enum Call {
     Step,
     Reopen,
     Offer(Block, Caller),
+    OfferList(Vec<Block>, Caller),
     Land(Block, Vec<u8>),
     Fetch(Block, Caller),
     LandFetch(Block),
@@ -32,6 +35,7 @@ impl Call {
         let arguments: Vec<&str> = arguments.split(' ').collect();
         let number = |at: usize| arguments[at].parse::<u32>().expect("a number");
         let block = || Block(number(0));
+        let blocks = || (0..arguments.len()).map(|at| Block(number(at)));
         match name.trim_end() {
             "format" => Call::Format(Geometry {
                 slots: number(0),
@@ -41,17 +45,14 @@ impl Call {
             "reopen" => Call::Reopen,
             "offer" => Call::Offer(block(), Caller::People),
             "import offer" => Call::Offer(block(), Caller::Import),
+            "offer list" => Call::OfferList(blocks().collect(), Caller::People),
+            "import offer list" => Call::OfferList(blocks().collect(), Caller::Import),
             "land" => Call::Land(block(), named(arguments[1])),
             "fetch" => Call::Fetch(block(), Caller::People),
             "import fetch" => Call::Fetch(block(), Caller::Import),
             "land fetch" => Call::LandFetch(block()),
             "look up" => Call::LookUp(block()),
-            "look up list" => {
-                let blocks = arguments
-                    .iter()
-                    .map(|block| Block(block.parse().expect("a number")));
-                Call::list(blocks)
-            }
+            "look up list" => Call::list(blocks()),
             "view" => Call::View(block()),
             "map" => Call::Map(number(0) as usize),
             "write back" => Call::WriteBack(block()),
@@ -76,6 +77,8 @@ pub enum Answer {
     Announced(Slot),
     Overwrite,
     CopiedOut,
+    /// So many places of a list.
+    Dealt(usize),
     Looked(Condition),
     NothingToDo,
 }
@@ -126,6 +129,16 @@ impl From<Offered> for Made {
             Offered::Overwrite => Answer::Overwrite,
             Offered::CopiedOut { .. } => Answer::CopiedOut,
             other => panic!("no case has {other:?}"),
+        };
+        made(answer, offered.stored())
+    }
+}
+
+impl From<OfferedList> for Made {
+    fn from(offered: OfferedList) -> Self {
+        let answer = match offered {
+            OfferedList::Dealt { places, .. } => Answer::Dealt(places),
+            OfferedList::CopiedOut { .. } => Answer::CopiedOut,
         };
         made(answer, offered.stored())
     }

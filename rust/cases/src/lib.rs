@@ -14,6 +14,7 @@ mod located;
 pub mod looked;
 pub mod mapped;
 mod maps;
+pub mod offered;
 mod orders;
 mod paper;
 pub mod place;
@@ -23,6 +24,7 @@ mod refusals;
 mod reopening;
 pub mod rig;
 pub mod say;
+mod scans;
 mod stamps;
 pub mod stored;
 mod windows;
@@ -40,6 +42,7 @@ pub fn lines() -> Vec<String> {
         refusals::lines(),
         windows::lines(),
         flooded::lines(),
+        scans::lines(),
         maps::lines(),
         stamps::lines(),
         generated::lines(),

@@ -31,8 +31,13 @@ impl Listed {
 
     /// Makes a call, and reads every block after it: the answer, and the record after it or that a refusal changed nothing.
     pub fn make(&mut self, text: &str) {
+        self.make_call(text, &Call::of(text));
+    }
+
+    /// The same of a call with a text for it.
+    pub fn make_call(&mut self, text: &str, call: &Call) {
         let before = self.b.rig.clone();
-        let said = self.b.make(&Call::of(text));
+        let said = self.b.make(call);
         let left = match said {
             Ok(_) => say::record(&self.b.rig.record),
             Err(_) => say::unchanged(self.b.rig == before).to_string(),

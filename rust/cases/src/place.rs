@@ -1,6 +1,7 @@
 //! The page that a call stores: what document 01 says, which pages of the images changed, and that the page named is both.
 
 use crate::call::{Answer, Call, Made};
+use crate::offered;
 use crate::rig::Rig;
 use ferjulm::{Block, Geometry, Image, Images, Phase, Place, Record, Slot, PAGE};
 
@@ -113,7 +114,7 @@ fn of_step(record: &Record) -> Place {
 }
 
 /// The metadata page that has a slot's entry.
-fn metadata_page(slot: Slot) -> Place {
+pub fn metadata_page(slot: Slot) -> Place {
     ssd(1 + slot.0 as usize / 240)
 }
 
@@ -129,6 +130,10 @@ pub fn told(before: &Memory, call: &Call, answer: Answer) -> Option<Place> {
         (Call::Offer(..) | Call::Fetch(..), Answer::Announced(slot)) => Some(metadata_page(slot)),
         (Call::Offer(..) | Call::Fetch(..), Answer::CopiedOut) => {
             Some(hdd(before.row(before.swept()).0 as usize))
+        }
+        (Call::OfferList(blocks, caller), _) => {
+            let offered = offered::list(before, blocks, *caller);
+            offered.ok().and_then(|offered| offered.stored)
         }
         (Call::Land(block, _) | Call::LandFetch(block), _) => Some(in_slot(*block)),
         (Call::WriteBack(block), Answer::Done) => Some(hdd(block.0 as usize)),

@@ -4,6 +4,7 @@ pub use crate::call::{Answer, Call, Made, Said};
 use crate::called;
 use crate::looked;
 use crate::mapped;
+use crate::offered;
 use crate::place::{check_alone, check_told, Memory};
 use crate::stored::page;
 use ferjulm::{calls, Block, Cache, Geometry, Images, Phase, Record, Refusal, Slot, PAGE};
@@ -69,14 +70,15 @@ impl Rig {
         made
     }
 
-    /// Makes a call, and checks the page that it names by document 01 alone, what a look-up answers and leaves, and what a map writes:
-    /// for a caller that compares images itself.
+    /// Makes a call, and checks the page that it names by document 01 alone, what an offer or a look-up answers and leaves, and what a
+    /// map writes: for a caller that compares images itself.
     pub fn make_told(&mut self, call: &Call) -> Made {
         let before = Memory::of(self);
         let made = self.call(call);
         check_told(&before, call, &made);
         mapped::check(&before, self, call);
         called::check(&before, self, call, &made);
+        offered::check(&before, self, call, &made);
         looked::check(before, self, call, &made);
         made
     }
@@ -88,6 +90,7 @@ impl Rig {
             Call::Step => cache.step().map(Made::from),
             Call::Reopen => cache.reopen().map(Made::from),
             Call::Offer(block, caller) => cache.offer(*block, *caller).map(Made::from),
+            Call::OfferList(blocks, caller) => cache.offer_list(blocks, *caller).map(Made::from),
             Call::Land(block, page) => match page.as_slice().try_into() {
                 Ok(page) => cache.land(*block, page).map(Made::from),
                 Err(_) => Err(self.land_other(*block, page)),
@@ -178,6 +181,7 @@ pub mod word {
     pub const NEWEST: usize = 3;
     pub const PHASE: usize = 4;
     pub const STEPS: usize = 5;
+    pub const UNSETTLED: usize = 6;
     pub const COUNT: usize = 7;
     pub const WINDOW: usize = 8;
     pub const CALLERS: usize = 71;

@@ -10,6 +10,7 @@ pub fn said(said: Said) -> String {
         Ok(Answer::Announced(Slot(slot))) => format!("announced {slot}"),
         Ok(Answer::Overwrite) => "overwrite".to_string(),
         Ok(Answer::CopiedOut) => "copied out".to_string(),
+        Ok(Answer::Dealt(places)) => format!("dealt with {places}"),
         Ok(Answer::Looked(found)) => condition(found),
         Ok(Answer::NothingToDo) => "nothing to do".to_string(),
         Err(refusal) => format!("refused {}", refusal.number()),

@@ -37,6 +37,48 @@ impl Offered {
     }
 }
 
+/// The answer of a list offer.
+#[derive(Clone, Copy, Debug, PartialEq, Eq)]
+pub enum OfferedList {
+    /// So many places of the list, its first ones, are announced or overwrites: land these, and offer what is left. One metadata page
+    /// was stored for all that was announced, and none where every place is an overwrite.
+    Dealt {
+        places: usize,
+        stored: Option<Place>,
+    },
+    /// A dirty page was stored on the HDD to make room for the first place: offer the list again.
+    CopiedOut { stored: Place },
+}
+
+impl OfferedList {
+    pub(crate) fn of(code: u32, out: Out) -> Self {
+        match (code, out.place()) {
+            (112, stored) => OfferedList::Dealt {
+                places: out.dealt as usize,
+                stored,
+            },
+            (103, Some(stored)) => OfferedList::CopiedOut { stored },
+            _ => foreign(code),
+        }
+    }
+
+    /// The page that was stored.
+    pub fn stored(self) -> Option<Place> {
+        match self {
+            OfferedList::Dealt { stored, .. } => stored,
+            OfferedList::CopiedOut { stored } => Some(stored),
+        }
+    }
+
+    /// How many places of the list were dealt with: those before the rest.
+    pub fn places(self) -> usize {
+        match self {
+            OfferedList::Dealt { places, .. } => places,
+            OfferedList::CopiedOut { .. } => 0,
+        }
+    }
+}
+
 /// The answer of a fetch.
 #[derive(Clone, Copy, Debug, PartialEq, Eq)]
 pub enum Fetched {

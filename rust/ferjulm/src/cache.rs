@@ -3,8 +3,8 @@
 use crate::place::{page_at, Out};
 use crate::refusal::judged;
 use crate::{
-    calls, Block, Caller, Condition, Fetched, Geometry, Image, Images, Lent, Offered, Phase, Place,
-    Record, Refusal, Saved, View,
+    calls, Block, Caller, Condition, Fetched, Geometry, Image, Images, Lent, Offered, OfferedList,
+    Phase, Place, Record, Refusal, Saved, View,
 };
 use crate::{WrongLength, PAGE};
 
@@ -133,6 +133,56 @@ impl<'a> Cache<'a> {
             &mut out.offset
         ));
         self.judged(code).map(|code| Offered::of(code, out))
+    }
+
+    /// Offers a list of up to 63 blocks as one, for a caller: as offers one after another, with one metadata page stored for all that
+    /// they announce. The answer is how many places of the list were dealt with, announced or overwrites: land these, then offer the rest.
+    /// The list ends before the first place that would be refused, would copy out, or has its slot on another metadata page than the
+    /// first one announced. Where the first place would copy out, it does, and the whole list is offered again.
+    ///
+    /// ```
+    /// use ferjulm::{Block, Cache, Caller, Geometry, Images, OfferedList, Record, Refusal, PAGE};
+    ///
+    /// let geometry = Geometry { slots: 4, blocks: 8 };
+    /// let (mut images, mut record) = (Images::zeroed(geometry), Record::default());
+    /// let mut table = vec![0; geometry.table_words()];
+    /// let mut cache = Cache::new(images.lend(), &mut table, &mut record);
+    /// cache.format(geometry)?;
+    /// cache.finish(|_, _| Ok::<(), Refusal>(()))?;
+    ///
+    /// // six blocks in four slots: four are announced by one store, and the first of the others is copied out for
+    /// let scan = [0, 1, 2, 3, 4, 5].map(Block);
+    /// let (mut left, mut stores) = (&scan[..], 0);
+    /// while !left.is_empty() {
+    ///     let offered = cache.offer_list(left, Caller::Import)?;
+    ///     // where the images are kept on drives, `offered.stored()` is written to its drive here
+    ///     stores += offered.stored().is_some() as u32;
+    ///     let (dealt, rest) = left.split_at(offered.places());
+    ///     for block in dealt {
+    ///         cache.land(*block, &[7; PAGE])?;
+    ///     }
+    ///     left = rest;
+    /// }
+    /// assert_eq!((stores, cache.record().newest()), (5, 3));
+    /// assert_eq!(cache.offer_list(&[Block(4)], Caller::People)?, OfferedList::Dealt { places: 1, stored: None });
+    /// assert_eq!(cache.offer_list(&[Block(5), Block(5)], Caller::People).unwrap_err().number(), 15);
+    /// # Ok::<(), Refusal>(())
+    /// ```
+    ///
+    /// # Errors
+    /// 3 to 6, 15 (the list is empty, over 63, or names a block twice), then of the first block 7, 8 (its slot is open), 17 (the import
+    /// has 8 slots open), 11, 12 (no slot to be had), and 13 (no stamp for the one store).
+    pub fn offer_list(&mut self, blocks: &[Block], caller: Caller) -> Result<OfferedList, Refusal> {
+        let mut out = Out::default();
+        let caller = caller as u32;
+        let code = call!(self.offer_list(
+            Block::numbers(blocks),
+            caller,
+            &mut out.dealt,
+            &mut out.image,
+            &mut out.offset
+        ));
+        self.judged(code).map(|code| OfferedList::of(code, out))
     }
 
     /// Lands a page for a block that is open for writing, or dirty and not open: the slot's page, which it stored. The slot counts as

@@ -1,5 +1,5 @@
 //! The calls as C has them, over slices of any length and any words: they return the result code. Out-parameters are as the
-//! header tells: `slot` is set exactly where the answer carries one; where a call is not refused, `image` becomes 0 (nothing
+//! header tells: `slot` and `dealt` are set exactly where the answer carries one; where a call is not refused, `image` becomes 0 (nothing
 //! stored), 1 (SSD) or 2 (HDD), and `offset` the first byte of the page that was stored there. [`Cache`](crate::Cache) is the
 //! same with names and types.
 #![allow(clippy::too_many_arguments)]
@@ -74,6 +74,23 @@ calls! {
     write_back, ferjulm_write_back(&[u8], &mut [u8], &mut [u32], &mut [u32]; block: u32, image: &mut u32, offset: &mut u64);
     /// Stores metadata page 0 if unconfirmed.
     flush, ferjulm_flush(&mut [u8], &[u8], &[u32], &mut [u32]; image: &mut u32, offset: &mut u64);
+}
+
+/// Offers a list of blocks as one, for a caller: where the code is 112, `dealt` becomes how many of its places were dealt with.
+#[inline]
+pub fn offer_list(
+    ssd: &mut [u8],
+    hdd: &mut [u8],
+    table: &mut [u32],
+    record: &mut [u32],
+    blocks: &[u32],
+    caller: u32,
+    dealt: &mut u32,
+    image: &mut u32,
+    offset: &mut u64,
+) -> u32 {
+    let (blocks, blocks_len) = blocks.lent();
+    lend!(ferjulm_offer_list(ssd, hdd, table, record; blocks, blocks_len, caller, dealt, image, offset))
 }
 
 /// Lands a page for a block.

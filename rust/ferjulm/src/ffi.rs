@@ -21,6 +21,8 @@ declare! {
     ferjulm_reopen(In<u8>, In<u8>, InOut<u32>, InOut<u32>;);
     ferjulm_offer(InOut<u8>, InOut<u8>, InOut<u32>, InOut<u32>;
         block: u32, caller: u32, slot: InOut<u32>, image: InOut<u32>, offset: InOut<u64>);
+    ferjulm_offer_list(InOut<u8>, InOut<u8>, InOut<u32>, InOut<u32>;
+        blocks: In<u32>, blocks_len: usize, caller: u32, dealt: InOut<u32>, image: InOut<u32>, offset: InOut<u64>);
     ferjulm_land(InOut<u8>, In<u8>, InOut<u32>, InOut<u32>;
         block: u32, page: In<u8>, page_len: usize, image: InOut<u32>, offset: InOut<u64>);
     ferjulm_fetch(InOut<u8>, InOut<u8>, InOut<u32>, InOut<u32>;

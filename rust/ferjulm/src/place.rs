@@ -24,6 +24,7 @@ pub struct Place {
 #[derive(Default)]
 pub(crate) struct Out {
     pub slot: u32,
+    pub dealt: u32,
     pub image: u32,
     pub offset: u64,
 }

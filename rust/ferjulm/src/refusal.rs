@@ -34,7 +34,7 @@ pub enum Lent {
 }
 
 /// The conditions of documents 01 and 02 by number; 5, 9, 11 and 13 are shortened.
-const REASONS: [(u32, &str); 17] = [
+const REASONS: [(u32, &str); 18] = [
     (1, "format: slots or blocks outside the limits"),
     (2, "reopen: SSD under a page, or first page no legal label"),
     (3, "a record number out of range, window repeated or not zero past its length"),
@@ -49,6 +49,7 @@ const REASONS: [(u32, &str); 17] = [
     (12, "a slot must be swept for, all are open"),
     (13, "this call would store metadata, and too few stamps are left"),
     (14, "map: the buffer is shorter than 67 × the number of lines"),
+    (15, "an empty list, a list of more than 63, or one that names a block twice"),
     (16, "a list that is empty, over 64, or not as long as the answer list"),
     (17, "a fetch, or an offer of a block that isn't dirty, by the import with 8 or more open"),
     (18, "a caller that is neither 0 nor 1"),
@@ -71,7 +72,7 @@ impl Refusal {
         reason_of(code).map(|_| refusal(code))
     }
 
-    /// Its number: document 01's, 1 to 13, or document 02's, 14 and 16 to 18.
+    /// Its number: document 01's, 1 to 13, or document 02's, 14 to 18.
     pub fn number(self) -> u32 {
         self.number
     }

@@ -11,10 +11,11 @@ const SMALL: Geometry = Geometry {
 /// The wrong length that each call tells, of a box that judges by this geometry.
 fn lengths(rig: &mut Rig, geometry: Geometry) -> Vec<WrongLength> {
     let mut cache = rig.cache();
-    let said: [Result<(), Refusal>; 7] = [
+    let said: [Result<(), Refusal>; 8] = [
         cache.format(geometry),
         cache.reopen(),
         cache.offer(Block(5), Caller::People).map(|_| ()),
+        cache.offer_list(&[], Caller::People).map(|_| ()),
         cache.land(Block(5), &[0; PAGE]).map(|_| ()),
         cache.view(Block(5)).map(|_| ()),
         cache.map(&mut []),
@@ -55,7 +56,7 @@ fn number_4_tells_the_length_that_was_expected() {
     for (resize, expected) in cases {
         let mut rig = Rig::formatted(SMALL);
         resize(&mut rig);
-        assert_eq!(lengths(&mut rig, SMALL), [expected; 7]);
+        assert_eq!(lengths(&mut rig, SMALL), [expected; 8]);
     }
 }
 
@@ -81,8 +82,7 @@ fn a_refusal_in_words() {
 fn refusals_of_result_codes() {
     for code in (0..200).chain([u32::MAX]) {
         let refusal = Refusal::of_code(code);
-        let numbers = (1..=14).chain([16, 17, 18]);
-        let number = numbers.clone().find(|number| *number == code);
+        let number = (1..=18).contains(&code).then_some(code);
         assert_eq!(refusal.map(Refusal::number), number);
         assert!(refusal.is_none_or(|refusal| !refusal.reason().is_empty()));
     }

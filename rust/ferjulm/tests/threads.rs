@@ -3,8 +3,8 @@
 use cases::rig::{Call, Rig};
 use cases::stored::{named, page};
 use ferjulm::{
-    Block, Cache, Caller, Condition, Fetched, Geometry, Image, Images, Offered, Place, Record,
-    Refusal, Saved, View,
+    Block, Cache, Caller, Condition, Fetched, Geometry, Image, Images, Offered, OfferedList, Place,
+    Record, Refusal, Saved, View,
 };
 use std::thread;
 
@@ -16,7 +16,8 @@ fn everything_is_send_and_sync() {
     is_send_and_sync::<Images<Vec<u8>>>();
     is_send_and_sync::<Record>();
     is_send_and_sync::<View>();
-    is_send_and_sync::<(Offered, Fetched, Condition, Saved, Place, Refusal)>();
+    is_send_and_sync::<(Offered, OfferedList, Fetched, Condition)>();
+    is_send_and_sync::<(Saved, Place, Refusal)>();
 }
 
 #[test]

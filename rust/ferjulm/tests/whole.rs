@@ -142,6 +142,22 @@ fn check_reads(whole: &mut Whole) {
     }
 }
 
+/// Sixty-three blocks offered as lists from slot 57,570 on: a list for each of the two metadata pages, 239 and 0.
+#[test]
+fn the_largest_box_is_scanned() {
+    let mut whole = formatted();
+    whole.rig.set(word::HAND, 57_570);
+    let scan = |from: u32| Call::OfferList((from..59_063).map(Block).collect(), Caller::People);
+    assert_eq!(whole.make(&scan(59_000)), Ok(Answer::Dealt(30)));
+    assert_eq!(whole.make(&scan(59_030)), Ok(Answer::Dealt(33)));
+    let open: Vec<u32> = whole.rig.record.window().map(|slot| slot.0).collect();
+    assert!(open.iter().copied().eq((57_570..57_600).chain(0..33)));
+    let stamps = Metas::read(WHOLE, &whole.rig.images.ssd).0;
+    let stamps = [239, 0].map(|page| stamps[page].stamp);
+    assert_eq!((whole.rig.record.newest(), stamps), (2, [1, 2]));
+    whole.check_images();
+}
+
 #[test]
 fn the_largest_box_is_cut_and_recovered() {
     let mut whole = written();

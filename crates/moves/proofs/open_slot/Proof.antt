@@ -10,8 +10,8 @@ use Rattle.moves.proofs.open_slot.Tie as tie
 set-row-requires : tie.Need-set-row-requires
 set-row-requires c κs = search needs
 
-join-requires : tie.Need-join-requires
-join-requires c κs = search needs
+joined-requires : tie.Need-joined-requires
+joined-requires c κs = search needs
 
 meta-of-requires : tie.Need-meta-of-requires
 meta-of-requires c κs = search needs
@@ -20,7 +20,7 @@ confirm-requires : tie.Need-confirm-requires
 confirm-requires c κs =
     let s = c .before .before .before .before .before .before .before .before .before .before in
     let a = s .args in
-    let j = c .before .before .before .join .ensures in (
+    let j = c .before .before .before .joined .ensures in (
       joined-fits (length (a .ssd .now)) (a .table .now) _ (a .state) _ (a .s) (a .hand) (a .b) (a .caller) (a .flags) (s .pre .0)
           (s .pre .1 .0) (s .pre .1 .1 .0)
           (c .before .before .before .before .before .before .set-row .ensures) j,
@@ -36,7 +36,7 @@ same-length-2 c = search needs
 returns : tie.Need-returns
 returns c =
     let m = c .before .before .before in
-    let j = m .before .before .before .join .ensures in
+    let j = m .before .before .before .joined .ensures in
     let r = m .before .before .before .before .before .before .set-row .ensures in
     let e = c .before .before .confirm .ensures in
     (e .0 ∙ rw (j, m .meta-of .ensures), r, e .1 ∙ rw (j, m .meta-of .ensures, r))
@@ -46,7 +46,7 @@ open-slot-spec =
     tie.close
     (tie.spec
     set-row-requires
-    join-requires
+    joined-requires
     meta-of-requires
     confirm-requires
     same-length

@@ -18,14 +18,14 @@ use Rattle.layout.specs.Places.{labelPlace, metaPages, ssdLength, hddLength, ta
 use Rattle.protocol.specs.Reply.{refused}
 use Rattle.protocol.specs.Box.{Images, Box, Image, ssdImage, hddImage, Store, applied, Effect}
 use Rattle.protocol.specs.Condition.{conditionOf, slotFrom, closedSlots}
-use Rattle.protocol.specs.Plan.{Call, reopen, view, lowestFrom, plan}
+use Rattle.protocol.specs.Plan.{Call, reopen, view, lowestFrom, placed, offersFrom, plan}
 use Rattle.protocol.specs.Kinds.{kind, aim, highest}
 use Rattle.record.specs.Record.{labelIn, windowIn, callersIn}
 use Rattle.record.specs.Callers.{openBy, callerArray}
 use Rattle.layout.specs.Window.{arrayOf}
 use Rattle.record.specs.Window.{without, beside, eachPlace, zeroSlots}
 use Rattle.protocol.specs.Rows.{eachRow, openRows}
-use Rattle.protocol.specs.Judge.{Reason, noLabel, wrongLength, numberOf, isLabel, labelFor, lengthsTest, lengthTest, pageLengthTest, test, chain, firstOf, judged, labelTest, rowTest, rowsTest}
+use Rattle.protocol.specs.Judge.{names, namesOnce, Reason, noLabel, wrongLength, numberOf, isLabel, labelFor, lengthsTest, lengthTest, pageLengthTest, test, chain, firstOf, judged, labelTest, rowTest, rowsTest}
 use Rattle.record.specs.Rule.{recordTest}
 use Rattle.protocol.specs.Calls.{decided, effectOf, viewed, viewOf}
 use Rattle.protocol.specs.Events.{World, Memory, Arrival, old, new, Event, call, reopens, cut, lent, readOf, withMemory, survived, made}
@@ -229,7 +229,7 @@ unfolding sameLabel within storeWithin testKnown judgedKnown effectKnown reopens
     entriesFrom entriesTest passes pageTest windowIn arrayOf without slotFrom conditionOf closedSlots sweepFrom lowestFrom plan highest
     metasOf entryIn newestFrom eachLegal stampIn stampsDiffer blockIn noneTwice allOpenIn pagesTest recover recoverFrom offPage confirmed
     usedAll perform labelTest zeroSlots recordTest rowTest eachRow eachPlace rowsTest openRows test firstOf
-    beside openBy callerArray callersIn
+    beside openBy callerArray callersIn placed offersFrom names namesOnce
 known l es bs x =
     let ssd : List ℕ = x .images .ssd in
     let hdd : List ℕ = x .images .hdd in

@@ -16,7 +16,7 @@ use Rattle.protocol.specs.Judge.{sheetShort}
 use Rattle.protocol.specs.Calls.{mapped}
 use Rattle.protocol.proofs.cases.Known.{known}
 use Rattle.protocol.proofs.cases.Case.{Case, AllHold, _first_, imageless, leaving, move, condition, written}
-use Rattle.protocol.proofs.cases.Moves.{Shared}
+use Rattle.protocol.proofs.cases.Scans.{Scanned}
 
 unfoldable pub times : ℕ → List ℕ → List ℕ
 times zero part = []
@@ -60,7 +60,7 @@ rooms =
 
 Texts : AllHold texts
 unfolding known times letterOf letterAt aligned mapLine linesOf
-Texts = Shared first (refl, (refl, (refl, (refl, tt))))
+Texts = Scanned first (refl, (refl, (refl, (refl, tt))))
 
 pub Rooms : AllHold rooms
 unfolding known

@@ -9,7 +9,7 @@ use Rattle.record.specs.declared.Record.{Record}
 use Rattle.record.specs.declared.Phase.the-variants.{Formatting, Recovering, Ready}
 use Rattle.record.specs.Record.{recordOf, withCallers}
 use Rattle.protocol.specs.Box.{Box, Effect, refusing}
-use Rattle.protocol.specs.Plan.{Call, format, step, flush, offer, land, fetch, landFetch, lookUp, reopen, writeBack, lookUpList, ask, slotMap}
+use Rattle.protocol.specs.Plan.{Call, format, step, flush, offer, land, fetch, landFetch, lookUp, reopen, writeBack, lookUpList, offerList, ask, slotMap}
 use Rattle.protocol.specs.Judge.{windowFull, allOpen, labelFor, lengthsTest, lengthTest, judged, stampsSpent, importFull, unknownCaller, badList}
 use Rattle.protocol.specs.Calls.{effectOf}
 use Rattle.protocol.proofs.cases.Report.{diskOf, filled, metaPage, labelPage}
@@ -192,6 +192,18 @@ list-refusals =
     ∷ refusesBy 7 (lookUpList (2 ∷ 1 ∷ 0 ∷ []) 3) (boxed (0 ∷ 1 ∷ []) (settledAt 1))
     ∷ []
 
+-- a list that is offered (N3): 15 after 6, before 18 and before 7, "of 8 blocks" or of 2; then 18, and 7 to 13 as of the first block
+abbrev pub scan-refusals : List Case
+scan-refusals =
+    refusesBy 6 (offerList [] 2) (boxed (0 ∷ 0 ∷ []) (recordOf one (record { 0 = 0 }) 1 Recovering false (record { 0 = 0 } ∷ [])))
+    ∷ refusesBy 15 (offerList (9 ∷ 9 ∷ []) 2) (boxed (0 ∷ 1 ∷ []) (settledAt 1))
+    ∷ refusesBy 18 (offerList (9 ∷ []) 2) (boxed (0 ∷ 1 ∷ []) (settledAt 1))
+    ∷ refusesBy 7 (offerList (2 ∷ 0 ∷ []) 0) (boxed (0 ∷ 1 ∷ []) (settledAt 1))
+    ∷ refusesBy 8 (offerList (0 ∷ 1 ∷ []) 0) (boxed (0 ∷ 5 ∷ []) (openAt 1))
+    ∷ refusesBy 12 (offerList (1 ∷ 0 ∷ []) 0) (boxed (0 ∷ 7 ∷ []) (openAt 1))
+    ∷ refusesBy 13 (offerList (0 ∷ 1 ∷ []) 0) (boxed (0 ∷ 1 ∷ []) (settledAt 4294967232))
+    ∷ []
+
 -- document 02, N7: the import with 7, 8 and 9 open, and people with 8 of the import's; of a clean and a dirty block; a caller past the
 -- window's length does not count
 abbrev pub openBoth : ℕ → List ℕ → List ℕ → Box
@@ -302,6 +314,18 @@ List-refusals =
     also counted _ _ _ _ refl refl
     also tt
 
+Scan-refusals : AllHold scan-refusals
+unfolding known textOf
+Scan-refusals =
+    List-refusals first counted _ _ _ _ refl refl
+    also counted _ _ _ _ refl refl
+    also counted _ _ _ _ refl refl
+    also counted _ _ _ _ refl refl
+    also counted _ _ _ _ refl refl
+    also counted _ _ _ _ refl refl
+    also counted _ _ _ _ refl refl
+    also tt
+
 pub Refusals : AllHold refusals
 unfolding known textOf effectOf judged lengthTest lengthsTest
-Refusals = List-refusals first (refl, (refl, (refl, (refl, (refl, (refl, (refl, (refl, (refl, (refl, tt))))))))))
+Refusals = Scan-refusals first (refl, (refl, (refl, (refl, (refl, (refl, (refl, (refl, (refl, (refl, tt))))))))))

@@ -3,11 +3,11 @@ use mathlib.Core.Path.{refl}
 use mathlib.Core.Bool.{false}
 use mathlib.Core.List.{List, [], _∷_}
 use Rattle.record.specs.declared.Phase.the-variants.{Recovering, Ready}
-use Rattle.protocol.specs.Reply.{announced, done, refusal, overwrite, looked}
+use Rattle.protocol.specs.Reply.{announced, dealt, done, refusal, overwrite, looked}
 use Rattle.protocol.specs.declared.Condition.the-variants.{NotCached, Clean, Dirty, Writing, Fetching}
 use Rattle.record.specs.Record.{recordOf}
 use Rattle.protocol.specs.Box.{Box}
-use Rattle.protocol.specs.Plan.{step, flush, offer, land, fetch, lookUp, view, landFetch, lookUpList}
+use Rattle.protocol.specs.Plan.{step, flush, offer, land, fetch, lookUp, view, landFetch, lookUpList, offerList}
 use Rattle.protocol.specs.Events.{call, startOf, cut, old, new}
 use Rattle.protocol.proofs.cases.Report.{nothing, meta, slot, line, diskOf, lost, start, filled, metaPage, labelPage, pages, rubbish}
 use Rattle.protocol.proofs.cases.Known.{Sized, known}
@@ -209,6 +209,35 @@ mapped =
       reads = filled 64 ∷ [];
     })
 
+-- document 02, N3: a list is cut off, its store done and then not done; then it is announced, landed and flushed, and a cut keeps it
+abbrev pub scanned : Script
+scanned =
+    scripted two (start two)
+    (cut (offerList (0 ∷ 1 ∷ []) 0) new (rubbish two) ∷ call step ∷ cut (offerList (0 ∷ 1 ∷ []) 0) old (rubbish two) ∷ call
+    (offerList (0 ∷ 1 ∷ 2 ∷ []) 1) ∷ call (land (record { 0 = 1 }) (filled 8)) ∷ call (land (record { 0 = 0 }) (filled 9)) ∷ call
+    flush ∷ call (offerList (0 ∷ 1 ∷ []) 0) ∷ lost two ∷ [])
+    (record { 0 = 0 } ∷ record { 0 = 1 } ∷ record { 0 = 2 } ∷ [])
+    (record {
+      lines =
+          line done nothing Recovering
+          ∷ line done (meta 0) Ready
+          ∷ line done nothing Ready
+          ∷ line (dealt 2) (meta 0) Ready
+          ∷ line done (slot 1) Ready
+          ∷ line done (slot 0) Ready
+          ∷ line done (meta 0) Ready
+          ∷ line (dealt 2) nothing Ready
+          ∷ line done nothing Ready ∷ [];
+      state = recordOf two (record { 0 = 0 }) 4 Ready false [];
+      table = 0 ∷ 3 ∷ 1 ∷ 3 ∷ [];
+      ssd = pages (
+          labelPage (textOf 50 51)
+          ∷ metaPage (4 ∷ 0 ∷ 0 ∷ 0 ∷ 0 ∷ 0 ∷ []) [] (0 ∷ 0 ∷ 0 ∷ 0 ∷ 3 ∷ 0 ∷ 0 ∷ 0 ∷ 1 ∷ 0 ∷ 0 ∷ 0 ∷ 3 ∷ 0 ∷ 0 ∷ 0 ∷ [])
+          ∷ filled 9 ∷ filled 8 ∷ []);
+      hdd = diskOf two;
+      reads = filled 9 ∷ filled 8 ∷ filled 66 ∷ [];
+    })
+
 sized-held : Sized two (held (1 ∷ 1 ∷ 0 ∷ 0 ∷ []) 1 false [] .images)
 unfolding known
 sized-held = computed-9 first record { ssd-size = refl; hdd-size = refl }
@@ -241,13 +270,17 @@ computed-mapped : Computed mapped (fresh two (textOf 50 51))
 unfolding known textOf
 computed-mapped = computed-edited first refl
 
+computed-scanned : Computed scanned (fresh two (textOf 50 51))
+unfolding known textOf
+computed-scanned = computed-mapped first refl
+
 computed-cuts : Computed cuts (fresh one (textOf 49 50))
 unfolding known textOf
-computed-cuts = computed-mapped first refl
+computed-cuts = computed-scanned first refl
 
 -- All further cases hold.
 pub scripts : List Case
-scripts = script both-open ∷ script panel ∷ script overwritten ∷ script unserved ∷ script edited ∷ script mapped ∷ script clean-viewed ∷ script cuts ∷ []
+scripts = script both-open ∷ script panel ∷ script overwritten ∷ script unserved ∷ script edited ∷ script mapped ∷ script scanned ∷ script clean-viewed ∷ script cuts ∷ []
 
 pub all-scripts : AllHold scripts
 unfolding scripts
@@ -258,6 +291,7 @@ all-scripts =
     also shows unserved (fresh one (textOf 49 50)) start-one sized-one computed-unserved
     also shows edited (fresh two (textOf 50 51)) start-two sized-two computed-edited
     also shows mapped (fresh two (textOf 50 51)) start-two sized-two computed-mapped
+    also shows scanned (fresh two (textOf 50 51)) start-two sized-two computed-scanned
     also shows clean-viewed (held (1 ∷ 1 ∷ 0 ∷ 0 ∷ []) 1 false []) refl sized-held computed-clean-viewed
     also shows cuts (fresh one (textOf 49 50)) start-one sized-one computed-cuts
     also tt

@@ -9,9 +9,9 @@ use Rattle.layout.specs.declared.Slot.{Slot}
 use Rattle.record.specs.declared.Phase.{Phase}
 use Rattle.record.specs.declared.Phase.the-variants.{Formatting, Recovering, Ready}
 use Rattle.protocol.specs.declared.Answer.{Answer}
-use Rattle.protocol.specs.declared.Answer.the-variants.{Refused, Announced, Overwrite, CopiedOut, Looked, NothingToDo, Done}
+use Rattle.protocol.specs.declared.Answer.the-variants.{Refused, Announced, Overwrite, CopiedOut, Looked, NothingToDo, Done, Dealt}
 use Rattle.protocol.specs.declared.Condition.the-variants.{NotCached, Clean, Dirty, Writing, Fetching}
-use Rattle.protocol.specs.Reply.{Reply, refusal, answer, replyOf, refused}
+use Rattle.protocol.specs.Reply.{Reply, refusal, answer, dealt, replyOf, refused}
 use Rattle.protocol.specs.Box.{Box}
 use Rattle.protocol.specs.Plan.{Call, stepping, plan}
 use Rattle.protocol.specs.Perform.{confirmed, perform}
@@ -43,6 +43,7 @@ answerAs n s = getD (Done ∷ Announced s ∷ Overwrite ∷ CopiedOut ∷ Done �
 answerOf : Reply → Answer
 answerOf (refusal n) = Refused n
 answerOf (answer n s) = answerAs n (getD s 0 (record { 0 = 0 }))
+answerOf (dealt n) = Dealt n
 
 answer-back : (a : Answer) → answerOf (replyOf a) ≡ a
 unfolding answerOf answerAs
@@ -57,6 +58,7 @@ answer-back (Looked (Writing s)) = refl
 answer-back (Looked (Fetching s)) = refl
 answer-back NothingToDo = refl
 answer-back Done = refl
+answer-back (Dealt n) = refl
 
 pub reply-injective : (a b : Answer) → replyOf a ≡ replyOf b → a ≡ b
 reply-injective a b e = sym (answer-back a) ∙ ap answerOf e ∙ answer-back b

@@ -20,10 +20,10 @@ use Rattle.record.specs.Rule.{recordTest}
 use Rattle.protocol.specs.Rows.{writing, allWriting}
 use Rattle.protocol.specs.Box.{Box}
 use Rattle.protocol.specs.Condition.{conditionOf, isOpen, isCached}
-use Rattle.protocol.specs.Plan.{Call, format, step, flush, reopen, offer, fetch, landFetch, lookUp, view, writeBack, land, lookUpList, ask, slotMap, plan, storesMeta}
+use Rattle.protocol.specs.Plan.{Call, format, step, flush, reopen, offer, fetch, landFetch, lookUp, view, writeBack, land, lookUpList, offerList, firstBlock, ask, slotMap, plan, storesMeta, importOpen}
 use Rattle.protocol.specs.Recovery.{labelAt, metasOf}
 use Rattle.protocol.specs.SlotMap.{mapLines, mapBytes}
-use Rattle.protocol.specs.Judge.{Reason, numberOf, lengthTest, rowsTest, isReady, importOpen, test, chain}
+use Rattle.protocol.specs.Judge.{Reason, numberOf, lengthTest, rowsTest, isReady, test, chain}
 use Rattle.protocol.specs.Why.{BadRecord, BadLengths, BadRows, NotReady, TooHigh, SlotOpen, ImportFull, UnknownCaller, AllOpen, Spent, Lines, ShortSheet, Why, turns, inTurn}
 use Rattle.protocol.proofs.why.Basics.{none-same, and-same, is-same}
 use Rattle.protocol.proofs.why.Records.{label-same, lengths-same, land-lengths-same}
@@ -31,7 +31,7 @@ use Rattle.protocol.proofs.why.RowsRules.{each-same, rows-same}
 use Rattle.protocol.proofs.why.PagesRules.{pages-same}
 use Rattle.protocol.proofs.why.Slots.{cached-same, open-same, write-same, fetch-same, clean-same, writing-same, other-same}
 use Rattle.protocol.proofs.why.Counted.{count-same, import-same}
-use Rattle.protocol.proofs.why.Lists.{bad-list-same, listed-some, any-high-same}
+use Rattle.protocol.proofs.why.Lists.{bad-list-same, listed-some, any-high-same, bad-scan-same}
 
 -- tests in their order say numbers and conditions in theirs; a later one may rest on those before it, which do not hold where it is asked
 pub data Says (t : Reason → Bool) : List Reason → List (ℕ × Type 0) → Type 1 where
@@ -143,6 +143,11 @@ same (ask (slotMap n)) x = record-asked x ▸ lengths-asked x ▸ rows-asked x �
 same (lookUpList blocks room) x =
     record-asked x ▸ lengths-asked x ▸ rows-asked x ▸ phase-asked x
     ▸ asks (bad-list-same blocks room) (λ h. any-high-same blocks (x .state .label .blocks) (listed-some blocks room h) ▸ end)
+same (offerList blocks caller) x =
+    let b = firstBlock blocks in
+    record-asked x ▸ lengths-asked x ▸ rows-asked x ▸ phase-asked x ▸ bad-scan-same blocks ▸ caller-asked caller ▸ high-asked x b ▸ open-asked x b
+    ▸ and-same (clean-same (x .table) b) (import-asked x caller) ▸ and-same (clean-same (x .table) b) (count-same 63 (x .table))
+    ▸ all-asked x b ▸ stamps-asked x 4294967232 (offerList blocks caller) ▸ end
 
 -- every call's numbers are in the order of judging
 pub in-order : (c : Call) (x : Box) → inTurn turns (Why c x) ≡ true
@@ -160,3 +165,4 @@ in-order (writeBack b) x = refl
 in-order (land b page) x = refl
 in-order (ask (slotMap n)) x = refl
 in-order (lookUpList blocks room) x = refl
+in-order (offerList blocks caller) x = refl

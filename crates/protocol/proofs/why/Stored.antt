@@ -5,13 +5,13 @@ use mathlib.Core.List.{List}
 use mathlib.Core.Option.{Option, some, none}
 use Rattle.pages.specs.Pages.{pageAt}
 use Rattle.layout.specs.declared.Slot.{Slot}
-use Rattle.layout.specs.Places.{metaPlace, dataPlace, blockPlace, metaOf}
+use Rattle.layout.specs.Places.{metaPlace, dataPlace, blockPlace}
 use Rattle.layout.specs.MetaPage.{encodeMeta, rowsOn}
-use Rattle.protocol.specs.Rows.{rowBlock, setRow}
+use Rattle.protocol.specs.Rows.{rowBlock}
 use Rattle.record.specs.Record.{labelIn, windowIn}
 use Rattle.protocol.specs.Box.{Box, ssdImage, hddImage, Store}
-use Rattle.protocol.specs.Plan.{Move, stay, uses, usesAll, opens, lands, copies, confirms, mends, begins, formats, recovers, storesMeta}
-use Rattle.protocol.specs.Perform.{confirmed, joined, mendedAt, formatStore, perform}
+use Rattle.protocol.specs.Plan.{grown, Move, stay, uses, usesAll, announces, lands, copies, confirms, mends, begins, formats, recovers, storesMeta}
+use Rattle.protocol.specs.Perform.{confirmed, mendedAt, formatStore, perform}
 use Rattle.protocol.proofs.cases.Scripts as computed-first
 
 -- a metadata page with the newest stamp plus 1; or nothing, a data page, a page of the disk, or a format's page
@@ -34,7 +34,7 @@ unfolding perform confirmed
 stored (stay p) x = nothing
 stored (uses s p) x = nothing
 stored (usesAll ss) x = nothing
-stored (opens s b c f t h) x = metadata (metaOf s) (windowIn (joined s c h (x .state))) (rowsOn (metaOf s) (setRow t s b f))
+stored (announces p q t h w cs) x = metadata q (windowIn (grown (x .state) h w cs)) (rowsOn q t)
 stored (lands w s page) x = slotPage s page
 stored (copies s p t h) x = diskPage (blockPlace (labelIn (x .state)) (rowBlock t s))
     (pageAt (x .images .ssd) (dataPlace (labelIn (x .state)) s))

@@ -2,7 +2,7 @@
 use Prim.Native.Nat.{ℕ, _+_, _*_, _/_, _%_, _^_, _<_}
 use mathlib.Core.Path.{_≡_, refl, sym, ap, _∙_}
 use mathlib.Core.Bool.{Bool, true, false, cond, not, _||_, or-true, or-false}
-use mathlib.Core.List.{List, [], _∷_, _++_}
+use mathlib.Core.List.{List, [], _∷_}
 use native.Mathlib.Omega.{arith}
 use native.Mathlib.Numerals.{add-one}
 use native.Mathlib.Decide.{ℕ-discrete}
@@ -18,13 +18,13 @@ use Rattle.layout.specs.PageRule.{distinct}
 use Rattle.record.specs.declared.Record.{Record}
 use Rattle.record.specs.declared.Phase.{Phase}
 use Rattle.protocol.specs.Reply.{Reply}
-use Rattle.protocol.specs.Rows.{rowFlags, setFlags, setRow, valid, dirty, writing, withUsed, withoutDirty}
+use Rattle.protocol.specs.Rows.{rowFlags, setFlags, valid, writing, withUsed, withoutDirty}
 use Rattle.record.specs.Callers.{callerArray}
 use Rattle.record.specs.Record.{windowIn, callersIn, recordOf, putCallers, largestStamp}
 use Rattle.record.specs.Window.{without, beside}
 use Rattle.protocol.specs.Box.{Box, left, boxAfter}
 use Rattle.protocol.specs.Recovery.{metasOf, Newest, newestOf, phaseOf, offPage}
-use Rattle.protocol.specs.Plan.{Move, uses, usesAll, opens, lands, copies, confirms, mends}
+use Rattle.protocol.specs.Plan.{Move, uses, usesAll, announces, lands, copies, confirms, mends}
 use Rattle.protocol.specs.Perform.{confirmed, landedFlags, landedState, usedAll, perform}
 use Rattle.protocol.specs.Judge.{isEmpty}
 use Rattle.record.proofs.RecordLaws.{window-in}
@@ -198,25 +198,14 @@ twoWindows l k v hand p ph cs w z = record {
   state = putCallers (recordOf l hand (k .newest + 1) ph false w) cs;
 }
 
--- an offer or a fetch opens a slot
-abbrev pub joinedCallers : Core → ℕ → List ℕ
-joinedCallers k c = callerArray (take (length (k .window)) (k .callers) ++ (c ∷ []))
-
-pub opens-box : (l : Label) (k : Core) (s b c f : ℕ) (v : List ℕ) (hand : Slot)
-    → after l k (opens (record { 0 = s }) (record { 0 = b }) c f v hand)
-    ≡ boxOfCore l (storedCore k (setRow v (record { 0 = s }) (record { 0 = b }) f) hand (k .window ++ (record { 0 = s } ∷ []))
-    (joinedCallers k c) (s / 240) (k .recovering))
-unfolding perform confirmed callersIn
-opens-box l k s b c f v hand =
-    let v′ : List ℕ = setRow v (record { 0 = s }) (record { 0 = b }) f in
+-- slots are opened
+pub announces-box : (l : Label) (k : Core) (said : Reply) (q : ℕ) (t : List ℕ) (h : Slot) (w : List Slot) (cs : List ℕ)
+    → after l k (announces said q t h w cs) ≡ boxOfCore l (storedCore k t h w (callerArray cs) q (k .recovering))
+unfolding perform confirmed
+announces-box l k said q t h w cs =
     let ph : Phase = phaseFor (k .recovering) in
-    let join : List Slot → List Slot = λ w. w ++ (record { 0 = s } ∷ []) in
-    let cs : List ℕ = joinedCallers k c in
-    ap (λ (w : List Slot). twoWindows l k v′ hand (s / 240) ph cs (join w)
-    (windowIn (putCallers (recordOf l hand (k .newest) ph (k .unconfirmed) (join w)) cs)))
-    (window-in l (k .hand) (k .newest) ph (k .unconfirmed) (k .window) (k .callers))
-    ∙ ap (λ (z : List Slot). twoWindows l k v′ hand (s / 240) ph cs (join (k .window)) z)
-    (window-in l hand (k .newest) ph (k .unconfirmed) (join (k .window)) cs)
+    ap (λ (z : List Slot). twoWindows l k t h q ph (callerArray cs) w z)
+    (window-in l h (k .newest) ph (k .unconfirmed) w (callerArray cs))
 
 -- a flush stores page 0
 pub confirms-box : (l : Label) (k : Core)

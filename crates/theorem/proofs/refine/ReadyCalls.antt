@@ -1,7 +1,6 @@
 -- Each call of a ready box that is not refused leaves a ready box, and the reference disk agrees.
-use Prim.Native.Nat.{ℕ, _+_, _*_, _/_, _%_, _<_}
+use Prim.Native.Nat.{ℕ, _+_, _-_, _*_, _<_}
 use mathlib.Core.Path.{_≡_, refl, sym, ap, _∙_}
-use mathlib.Core.Logic.{_≢_, _⊎_, inl, inr}
 use mathlib.Core.Bool.{Bool, true, false, cond, not, _&&_}
 use mathlib.Core.List.{List, [], _∷_, _++_}
 use mathlib.Core.Option.{Option, some}
@@ -17,33 +16,36 @@ use Rattle.layout.specs.declared.Block.{Block}
 use Rattle.layout.specs.declared.Label.{Label}
 use Rattle.layout.specs.Places.{metaPages}
 use Rattle.protocol.specs.Reply.{Reply, refused}
-use Rattle.protocol.specs.Rows.{rowFlags, setRow, valid, dirty, writing}
+use Rattle.protocol.specs.Rows.{rowFlags, valid, dirty, writing}
 use Rattle.protocol.specs.Box.{Effect, left, boxAfter}
 use Rattle.protocol.specs.Recovery.{metasOf, newestOf}
-use Rattle.protocol.specs.Plan.{Call, Move, stay, uses, usesAll, opens, lands, copies, confirms}
+use Rattle.protocol.specs.Plan.{Call, Move, stay, uses, usesAll, announces, lands, copies, confirms}
 use Rattle.protocol.specs.Kinds.{Aim, aService, kind}
 use Rattle.protocol.specs.Perform.{confirmed, usedAll, perform}
-use Rattle.record.specs.Record.{callersIn, largestStamp}
+use Rattle.record.specs.Record.{largestStamp}
 use Rattle.protocol.specs.Judge.{Reason, judged, isReady}
 use Rattle.protocol.specs.Calls.{decided, effectOf}
 use Rattle.protocol.specs.ReferenceDisk.{Disk, durable, written, fedCall, fed}
 use Rattle.protocol.specs.Events.{World, mayFinish, readsIf, called}
-use Rattle.protocol.proofs.model.Base.{upd, metaNo}
+use Rattle.protocol.proofs.model.Base.{upd}
 use Rattle.protocol.proofs.model.Model as model
-use Rattle.protocol.proofs.model.Model.{Row, Plain, dirtyRow, openRow, blockOf, settle, stored, opened, flushed, landed}
+use Rattle.protocol.proofs.model.Model.{Plain, dirtyRow, openRow, settle, stored, opened, flushed, landed}
 use Rattle.protocol.proofs.model.Rows.{dirty-valid}
-use Rattle.theorem.proofs.model.Moves.{Opens, Copies, Lands, landing as modelLanding, opens-ready, copies-ready, lands-ready, fetch-ready}
+use Rattle.theorem.proofs.model.Moves.{Copies, Lands, landing as modelLanding, copies-ready, lands-ready, fetch-ready}
 use Rattle.theorem.proofs.model.Flushed.{flushed-ready, settled-ready}
-use Rattle.protocol.proofs.refine.Windows.{nums, length-nums, nums-append, nums-one, distinct-nums}
-use Rattle.protocol.proofs.refine.Flags.{rowOf}
-use Rattle.protocol.proofs.refine.Tables.{rowAt, set-at, at-open, at-block, at-valid, at-dirty}
+use Rattle.protocol.proofs.refine.Windows.{length-nums, distinct-nums}
+use Rattle.protocol.proofs.refine.Tables.{rowAt, at-open, at-valid, at-dirty}
 use Rattle.protocol.proofs.refine.Sweeps.{Alike}
 use Rattle.protocol.proofs.refine.Conditions.{Held, is-dirty}
-use Rattle.protocol.proofs.Sound.{Sound, writing-is, room}
-use Rattle.protocol.proofs.Does.{Absent, Opening, Copying, Quiet, Does, does-nothing, does-use, does-use-all, does-open, does-copy, does-land, does-fetch, does-rest, does-confirm, opening-sound}
-use Rattle.theorem.proofs.refine.Performed.{after, tabled-abs, tabled-shape, uses-box, all-box, uses-alike, storedCore, stored-shape, stored-abs, joinedCallers, opens-box, confirms-box, leftWindow, leftCallers, landedCore, lands-box, lands-shape, lands-abs, copiedCore, copies-box, copies-shape, copies-abs}
+use Rattle.protocol.proofs.Sound.{Sound, writing-is}
+use Rattle.protocol.proofs.Does.{Openings, Copying, Quiet, Does, does-nothing, does-use, does-use-all, does-announce, does-copy, does-land, does-fetch, does-rest, does-confirm, openings-sound}
+use Rattle.theorem.proofs.refine.Performed.{after, tabled-abs, tabled-shape, uses-box, all-box, uses-alike, storedCore, stored-shape, stored-abs, announces-box, confirms-box, leftWindow, leftCallers, landedCore, lands-box, lands-shape, lands-abs, copiedCore, copies-box, copies-shape, copies-abs}
 use Rattle.protocol.proofs.refine.Abstract.{Core, boxOfCore, abs, CallersKept, Shape, ready-sound, Agrees, is-ready, Inv}
-use Rattle.protocol.proofs.refine.Callers.{joined-kept, left-kept}
+use Rattle.protocol.proofs.refine.Callers.{left-kept}
+use Rattle.theorem.proofs.refine.Openings.{held-row, Last, last}
+use Rattle.theorem.proofs.model.Announced.{announced-ready}
+use Rattle.record.specs.Callers.{callerArray}
+use Rattle.record.proofs.RecordLaws.{window-in}
 
 -- a call that did this
 unfoldable pub calledAs : Call → Effect → World → World
@@ -72,21 +74,6 @@ worldOf l k d = record { box = boxOfCore l k; disk = d }
 module _ (l : Label) (k : Core) (S : Shape l k) (p : Plain) (R : model.Ready (abs l k) p) where
   newest-is : newestOf (metasOf l (k .ssd)) .stamp ≡ k .newest
   newest-is = unfold abs in R .stamps
-
-  -- a slot that holds a block, in the model
-  held-row : {b s : ℕ} → Held l (k .table) b s → (model.valid (rowAt (k .table) s) ≡ true) × (blockOf (rowAt (k .table) s) ≡ b)
-  held-row {b} {s} H =
-      (at-valid l (k .table) (S .rows) s (H .low) ∙ H .held, at-block l (k .table) (S .rows) s (H .low) (H .held) ∙ H .block)
-
-  -- no other slot holds the block that a slot is opened for
-  fresh-row : {s b : ℕ} → Absent l (k .table) b ⊎ Held l (k .table) b s → (t : ℕ) → t ≢ s → model.valid (rowAt (k .table) t) ≡ true
-      → blockOf (rowAt (k .table) t) ≢ b
-  unfolding abs
-  fresh-row (inl h) t n v e =
-      let i = R .in-range t v in
-      let q = sym (at-valid l (k .table) (S .rows) t i) ∙ v in
-      h t i q (sym (at-block l (k .table) (S .rows) t i q) ∙ e)
-  fresh-row {s} (inr H) t n v e = let r = held-row H in n (R .once t s v (r .0) (e ∙ sym (r .1)))
 
 module _ (l : Label) (k : Core) (S : Shape l k) (d : Disk) (p : Plain) (A : Agrees l d p) (R : model.Ready (abs l k) p) where
   on : k .recovering ≡ false
@@ -132,70 +119,34 @@ module _ (l : Label) (k : Core) (S : Shape l k) (d : Disk) (p : Plain) (A : Agre
         next (usesAll ss) _ p refl (all-box l k S ss) (tabled-shape l k S _ (k .hand) T (S .hand-ok)) (quiet z)
         (rw (tabled-abs l k S _ (k .hand) T) R)
 
-    -- a slot is opened
-    module _ (z : Quiet a) {s : Slot} {b : Block} {by f : ℕ} {v : List ℕ} {hand : Slot}
-        (O : Opening (boxOfCore l k) s b by f v hand) where
-      v′ : List ℕ
-      v′ = setRow v s b f
+    -- slots of one page are opened
+    module _ (z : Quiet a) (said : Reply) (n : refused said ≡ false) {q : ℕ} {t : List ℕ} {h : Slot} {w : List Slot} {cs : List ℕ}
+        (O : Openings (boxOfCore l k) q t h w cs) (spare : k .newest < largestStamp - 63) where
+      E : Last l k S p R q t h w cs
+      E = last l k S p R q O
 
-      w′ : List Slot
-      w′ = k .window ++ (s ∷ [])
-
-      T : Sound l v′ w′
-      unfolding v′ w′
-      T = opening-sound O (ready-sound l k S p R)
-
-      left-over : k .newest < largestStamp
-      left-over = omega (arith, O .stamps)
+      T : Sound l t w
+      T = openings-sound O (rw window-in (ready-sound l k S p R))
 
       core′ : Core
-      core′ = storedCore k v′ hand w′ (joinedCallers k by) (s .0 / 240) (k .recovering)
-
-      row′ : (u : ℕ) → rowAt v′ u ≡ upd (rowAt (k .table)) (s .0) (rowOf (b .0) (f % 8)) u
-      unfolding v′ upd
-      row′ u = set-at l v (O .alike .size) (s .0) (b .0) f (O .low) u
-          ∙ ap (λ (r : Row). cond (eqb u (s .0)) (rowOf (b .0) (f % 8)) r) (O .alike .row u)
-
-      win′ : nums w′ ≡ nums (k .window) ++ (s .0 ∷ [])
-      unfolding w′
-      win′ = nums-append (k .window) (s ∷ []) ∙ ap (λ (r : List ℕ). nums (k .window) ++ r) (nums-one s)
-
-      kept : CallersKept (k .recovering) w′ (joinedCallers k by)
-      unfolding w′ callersIn
-      kept =
-          let open-few = room (ready-sound l k S p R) (O .few) in
-          let few : length (k .window) < 63 = omega (arith, open-few, length-nums (k .window)) in
-          rw on (joined-kept (rw on at (S .callers)) (omega arith) s by few (O .known) (O .import-few))
+      core′ = storedCore k t h w (callerArray cs) q (k .recovering)
 
       shape′ : Shape l core′
       unfolding core′
-      shape′ = stored-shape l k S (newest-is l k S p R) left-over v′ (T .size) (T .legal) hand (O .hand-low) w′ (T .rule)
-          (joinedCallers k by) (s .0 / 240) (meta-of-low l s (O .low)) (k .recovering) kept
+      shape′ = stored-shape l k S (newest-is l k S p R) (omega arith) t (T .size) (T .legal) h (E .hand-low) w (T .rule) (callerArray cs) q
+          (E .page-low) (k .recovering) (rw on (E .callers))
 
-      abs′ : abs l core′ ≡ opened (s .0) (rowOf (b .0) (f % 8)) (abs l k)
-      unfolding core′ abs metaNo
+      abs′ : abs l core′ ≡ stored q (upd (E .before .row) (E .slot) (E .row)) (E .before .window ++ (E .slot ∷ [])) (abs l k)
+      unfolding core′ abs
       abs′ =
-          stored-abs l k S (newest-is l k S p R) left-over v′ (T .size) (T .legal) hand (O .hand-low) w′ (T .rule)
-          (joinedCallers k by) (s .0 / 240) (meta-of-low l s (O .low)) (k .recovering) refl
-          ∙ (λ i. stored (s .0 / 240) (λ u. row′ u i) (win′ i) (abs l k))
+          stored-abs l k S (newest-is l k S p R) (omega arith) t (T .size) (T .legal) h (E .hand-low) w (T .rule) (callerArray cs) q
+          (E .page-low) (k .recovering) refl
+          ∙ (λ i. stored q (λ u. E .rows u i) (E .window i) (abs l k))
 
-      asks : Opens (abs l k) (s .0) (rowOf (b .0) (f % 8))
-      unfolding abs
-      asks = record {
-        is-open = O .is-open;
-        in-blocks = rw (O .block-is) (O .block-low);
-        was-shut = O .was-shut;
-        was-clean = O .was-clean;
-        fresh = λ t n q. rw (O .block-is) (fresh-row l k S p R (O .fresh) t n q);
-        slot-below = O .low;
-        room = room (ready-sound l k S p R) (O .few);
-        stamps-left = O .stamps;
-      }
-
-      opens-next : Inv l (calledAs c (perform (opens s b by f v hand) (boxOfCore l k)) (worldOf l k d))
-      unfolding perform confirmed v′ w′ core′
-      opens-next = next (opens s b by f v hand) core′ p refl (opens-box l k (s .0) (b .0) by f v hand) shape′ (quiet z)
-          (rw abs′ (opens-ready (abs l k) p R asks))
+      announces-next : Inv l (calledAs c (perform (announces said q t h w cs) (boxOfCore l k)) (worldOf l k d))
+      unfolding perform confirmed core′
+      announces-next = next (announces said q t h w cs) core′ p n (announces-box l k said q t h w cs) shape′ (quiet z)
+          (rw abs′ (announced-ready q (abs l k) p R (E .chain) (E .on-page) (E .asked) (unfold abs in spare)))
 
     -- a dirty slot is copied
     module _ (z : Quiet a) {s : Slot} {v : List ℕ} {hand : Slot} (C : Copying (boxOfCore l k) s v hand) where
@@ -226,7 +177,7 @@ module _ (l : Label) (k : Core) (S : Shape l k) (d : Disk) (p : Plain) (A : Agre
     -- a page goes into a slot
     lands-asks : {b s : ℕ} (page : List ℕ) → Held l (k .table) b s → b < l .blocks → Lands (abs l k) s b page
     unfolding abs
-    lands-asks page H bl = let r = held-row l k S p R H in
+    lands-asks page H bl = let r = held-row (S .rows) H in
         record { held = r .0; holds-b = r .1; slot-below = H .low; block-below = bl }
 
     lands-next : (write : Bool) {b s : ℕ} (page : List ℕ) (p′ : Plain) (o : Bool) → Held l (k .table) b s → length page ≡ 4096
@@ -298,7 +249,7 @@ module _ (l : Label) (k : Core) (S : Shape l k) (d : Disk) (p : Plain) (A : Agre
   service-next c K (does-nothing {said = said} z n) = stays c K said p n (quiet c K z) R
   service-next c K (does-use {said = said} z n H) = uses-next c K z said n H
   service-next c K (does-use-all {ss = ss} z T) = all-used c K z ss T
-  service-next c K (does-open z O) = opens-next c K z O
+  service-next c K (does-announce {said = said} z n O spare) = announces-next c K z said n O spare
   service-next c K (does-copy {said = said} z n C) = copies-next c K z C said n
   service-next c K (does-land {b = b} {s = s} {page = page} H bl y size) =
       lands-next c K true page _ (writing (rowFlags (k .table) s)) H size refl (agrees-written b page)

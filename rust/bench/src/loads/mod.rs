@@ -3,6 +3,7 @@
 mod client;
 mod counted;
 mod orders;
+mod scans;
 mod trace;
 
 use crate::report::Table;
@@ -76,13 +77,34 @@ fn shares(kept: &[f64]) -> [String; 2] {
     [mean, least].map(|share| format!("{:.1} %", 100.0 * share))
 }
 
-fn add_row(table: &mut Table, names: [&str; 2], hits: u64, stores: [u64; 3], kept: &[f64]) {
-    let each = |n: u64| format!("{:.2}", n as f64 / REQUESTS as f64);
+/// A row: of so many requests or scans the hits, and the stores of metadata, data and copy-outs, each for one of them.
+fn add_row(table: &mut Table, names: [&str; 2], of: usize, counts: [u64; 4], kept: &[f64]) {
+    let each = |n: u64| format!("{:.2}", n as f64 / of as f64);
     let mut cells: Vec<String> = names.iter().map(|name| name.to_string()).collect();
-    cells.push(each(hits));
-    cells.extend(stores.map(each));
+    cells.extend(counts.map(each));
     cells.extend(shares(kept));
     table.row(cells);
+}
+
+/// Scans of 63 blocks, counted for a whole scan: one that stays on a metadata page, and many, some of which cross to the next.
+fn add_scans(table: &mut Table) {
+    for (name, count) in [
+        (
+            "a scan of 63 blocks, on one metadata page: the whole scan",
+            1,
+        ),
+        ("100 scans of 63 blocks, on several: for a whole scan", 100),
+    ] {
+        for (order, as_list) in [
+            ("box, offered one by one", false),
+            ("box, offered as a list", true),
+        ] {
+            let run = scans::run(SLOTS, BLOCKS, count, as_list);
+            let stores = run.stores;
+            let counts = [0, stores.metadata, stores.data, stores.copy_outs];
+            add_row(table, [name, order], count as usize, counts, &run.kept);
+        }
+    }
 }
 
 /// The box without flushes, with the order of slots before document 02's N2 and with flushes; then the rivals on the decisions of
@@ -104,21 +126,23 @@ fn add_load(table: &mut Table, load: &Load) {
         ("box, flush after each write", &run(load, flushing(1))),
     ];
     for (name, run) in boxes {
-        let stores = [run.stores.metadata, run.stores.data, run.stores.copy_outs];
-        add_row(table, [load.name, name], run.hits, stores, &run.kept[0]);
+        let stores = run.stores;
+        let counts = [run.hits, stores.metadata, stores.data, stores.copy_outs];
+        add_row(table, [load.name, name], REQUESTS, counts, &run.kept[0]);
     }
     let events = without.events;
     for (order, kept) in ORDERS.iter().zip(&without.kept[1..]) {
-        let stores = [
+        let counts = [
+            without.hits,
             (order.updates)(&events),
             events.data_stores(),
             events.copied_out,
         ];
-        add_row(table, [load.name, order.name], without.hits, stores, kept);
+        add_row(table, [load.name, order.name], REQUESTS, counts, kept);
     }
 }
 
-/// Every load, with up to 16 slots open; counts are for each request.
+/// Every load, with up to 16 slots open; counts are for each request. Then scans, with 63.
 pub fn table() -> String {
     let counts = ["hits", "metadata stores", "data stores", "copy-outs"];
     let head = [
@@ -129,6 +153,7 @@ pub fn table() -> String {
     .concat();
     let mut table = Table::new(&head);
     LOADS.iter().for_each(|load| add_load(&mut table, load));
+    add_scans(&mut table);
     table.text()
 }
 

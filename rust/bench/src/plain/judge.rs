@@ -109,13 +109,27 @@ pub fn called(w: &World, block: u32, caller: u32) -> Result<Judged, u32> {
     Ok(judged)
 }
 
+/// 3 to 6, where no block is looked for.
+pub fn judged(w: &World) -> Result<Record, u32> {
+    Ok(ready(w, PAGE, 0)?.record)
+}
+
 /// 17 and 11: whether a caller may have another slot open.
 pub fn room(judged: &Judged, caller: u32) -> Result<(), u32> {
-    if caller == IMPORT && open_by_import(&judged.record) >= 8 {
+    if import_full(&judged.record, caller) {
         return Err(17);
     }
     if judged.writing >= 63 {
         return Err(11);
     }
     Ok(())
+}
+
+fn import_full(r: &Record, caller: u32) -> bool {
+    caller == IMPORT && open_by_import(r) >= 8
+}
+
+/// Whether a caller may have another slot open, where so many are.
+pub fn has_room(r: &Record, writing: u32, caller: u32) -> bool {
+    !import_full(r, caller) && writing < 63
 }

@@ -30,7 +30,7 @@ pub fn look_up_list(w: &mut World, blocks: &[u32], room: usize) -> Result<u32, u
 }
 
 /// The lowest slot of each block plus 1, or 0.
-fn locate(table: &[u32], blocks: &[u32], words: &mut [u32]) {
+pub fn locate(table: &[u32], blocks: &[u32], words: &mut [u32]) {
     let mut marks = [false; MARKS];
     blocks
         .iter()

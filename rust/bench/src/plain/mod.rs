@@ -5,6 +5,7 @@ mod judge;
 mod list;
 mod map;
 mod moves;
+mod offers;
 pub mod record;
 mod reopen;
 mod steps;
@@ -24,6 +25,7 @@ impl Side for Plain {
             Call::Format(slots, blocks) => steps::format(w, slots, blocks),
             Call::Step => steps::step(w),
             Call::Offer(block, caller) => calls::offer(w, block, caller),
+            Call::OfferList(blocks, caller) => offers::offer_list(w, blocks, caller),
             Call::Fetch(block, caller) => calls::fetch(w, block, caller),
             Call::Land(block, page) => calls::land(w, block, page),
             Call::LandFetch(block) => calls::land_fetch(w, block),

@@ -42,13 +42,18 @@ pub fn data_at(r: &Record, slot: u32) -> usize {
     PAGE * (1 + meta_pages(r.slots) as usize + slot as usize)
 }
 
-/// Opens a slot for a caller: row, window, metadata store.
-pub fn open(w: &mut World, r: &mut Record, slot: u32, block: u32, caller: u32, flags: u32) -> u32 {
+/// A slot is open for a caller: row and window.
+pub fn join(w: &mut World, r: &mut Record, slot: u32, block: u32, caller: u32, flags: u32) {
     w.table[2 * slot as usize] = block;
     w.table[2 * slot as usize + 1] = flags;
     r.window[r.count] = slot;
     r.callers[r.count] = caller;
     r.count += 1;
+}
+
+/// Opens a slot for a caller: row, window, metadata store.
+pub fn open(w: &mut World, r: &mut Record, slot: u32, block: u32, caller: u32, flags: u32) -> u32 {
+    join(w, r, slot, block, caller, flags);
     store_meta(w, r, slot as usize / 240);
     pack(&mut w.record, r);
     w.slot = slot;

@@ -2,11 +2,11 @@
 
 use super::judge::{room, Judged};
 use super::moves::{copy_out, open};
-use super::record::pack;
+use super::record::{pack, Record};
 use crate::world::World;
 
 /// The slot that a sweep takes, and how many it passed.
-fn sweep(table: &[u32], slots: u32, hand: u32) -> Option<(u32, u32)> {
+pub fn sweep(table: &[u32], slots: u32, hand: u32) -> Option<(u32, u32)> {
     let mut closed = None;
     for k in 0..slots {
         let s = wrapped(hand + k, slots);
@@ -21,11 +21,21 @@ fn sweep(table: &[u32], slots: u32, hand: u32) -> Option<(u32, u32)> {
     closed
 }
 
-fn wrapped(s: u32, slots: u32) -> u32 {
+pub fn wrapped(s: u32, slots: u32) -> u32 {
     if s < slots {
         s
     } else {
         s - slots
+    }
+}
+
+/// Clears the used flags of the closed slots that a sweep passed.
+pub fn clear_used(table: &mut [u32], r: &Record, passed: u32) {
+    for k in 0..passed {
+        let f = &mut table[2 * wrapped(r.hand + k, r.slots) as usize + 1];
+        if *f / 4 % 2 == 0 && *f / 8 % 2 == 1 {
+            *f -= 8;
+        }
     }
 }
 
@@ -44,12 +54,7 @@ pub fn sweep_for(
     if !dirty && r.newest >= 4_294_967_232 {
         return Err(13);
     }
-    for k in 0..passed {
-        let f = &mut w.table[2 * wrapped(r.hand + k, r.slots) as usize + 1];
-        if *f / 4 % 2 == 0 && *f / 8 % 2 == 1 {
-            *f -= 8;
-        }
-    }
+    clear_used(&mut w.table, &r, passed);
     if dirty {
         copy_out(w, &r, slot);
         r.hand = slot;

@@ -40,15 +40,19 @@ impl Input {
         }
     }
 
-    /// Another list: mostly of blocks from 0 to 7, and with room for as many words.
+    /// Another list: mostly of few blocks, now and then all different, and with room for as many words.
     pub fn list_anew(&mut self, random: &mut Random) {
         let high = random.once_in(4);
-        let n = random.of(&[0, 1, 2, 3, 63, 64, 65]);
-        let any = |_| match high {
-            true => random.of(&[0, 1, 4, 8, 66, u32::MAX]),
-            false => random.below(4),
+        let n: u32 = random.of(&[0, 1, 2, 3, 63, 64, 65]);
+        let first = random.of(&[0, 1, 2, 3, 7, 63, 64]);
+        let apart = random.once_in(2);
+        let any = |at| match (apart, high) {
+            (true, _) => first + at,
+            (_, true) => random.of(&[0, 1, 4, 8, 66, u32::MAX]),
+            (_, false) => random.below(4),
         };
         self.list = (0..n).map(any).collect();
+        let n = n as usize;
         self.room = if random.once_in(4) { n + 1 } else { n };
     }
 

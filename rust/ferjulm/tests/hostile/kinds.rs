@@ -25,7 +25,7 @@ const fn kind(
 const ALL: &[&str] = &["ssd", "hdd", "table", "record", "slot", "place"];
 const LANDING: &[&str] = &["ssd", "table", "record", "place"];
 
-pub const KINDS: [Kind; 14] = [
+pub const KINDS: [Kind; 15] = [
     kind("format", &[1, 3, 4], &[0], &["table", "record"]),
     kind("step", &[3, 4, 5, 6, 13], &[0], &["ssd", "record", "place"]),
     kind("reopen", &[2, 3, 4, 5], &[0], &["table", "record"]),
@@ -34,6 +34,12 @@ pub const KINDS: [Kind; 14] = [
         &[3, 4, 5, 6, 18, 7, 8, 17, 11, 12, 13],
         &[101, 102, 103],
         ALL,
+    ),
+    kind(
+        "offer a list",
+        &[3, 4, 5, 6, 15, 18, 7, 8, 17, 11, 12, 13],
+        &[112, 103],
+        &["ssd", "hdd", "table", "record", "dealt", "place"],
     ),
     kind("land", &[3, 4, 5, 6, 7, 9], &[0], LANDING),
     kind(

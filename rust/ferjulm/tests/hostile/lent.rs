@@ -41,6 +41,7 @@ pub struct Lent {
     pub image: Guarded<u32>,
     pub offset: Guarded<u64>,
     list: Guarded<u32>,
+    pub dealt: Guarded<u32>,
     pub words: Guarded<u32>,
     pub slots: Guarded<u32>,
     pub blocks: Guarded<u32>,
@@ -62,6 +63,7 @@ impl Lent {
             image: Guarded::new(&[UNSET], 0xc3c3_c3c3),
             offset: Guarded::new(&[UNSET as u64], 0xc3c3_c3c3),
             list: Guarded::new(&input.list, 0xc3c3_c3c3),
+            dealt: Guarded::new(&[UNSET], 0xc3c3_c3c3),
             words: Guarded::new(&vec![UNSET; input.room], 0xc3c3_c3c3),
             slots: Guarded::new(&[UNSET], 0xc3c3_c3c3),
             blocks: Guarded::new(&[UNSET], 0xc3c3_c3c3),
@@ -81,6 +83,7 @@ impl Lent {
             (&self.slot, &other.slot),
             (&self.image, &other.image),
             (&self.list, &other.list),
+            (&self.dealt, &other.dealt),
             (&self.words, &other.words),
             (&self.slots, &other.slots),
             (&self.blocks, &other.blocks),
@@ -101,6 +104,7 @@ impl Lent {
             ("record", self.record == other.record),
             ("slot", self.slot == other.slot),
             ("list", self.list == other.list),
+            ("dealt", self.dealt == other.dealt),
             ("words", self.words == other.words),
             (
                 "place",
@@ -144,6 +148,10 @@ impl Lent {
             "step" => calls::step(ssd, hdd, table, record, image, offset),
             "reopen" => calls::reopen(ssd, hdd, table, record),
             "offer" => calls::offer(ssd, hdd, table, record, block, caller, slot, image, offset),
+            "offer a list" => {
+                let (list, dealt) = (self.list.lent(), &mut self.dealt.lent()[0]);
+                calls::offer_list(ssd, hdd, table, record, list, caller, dealt, image, offset)
+            }
             "land" => calls::land(ssd, hdd, table, record, block, page, image, offset),
             "fetch" => calls::fetch(ssd, hdd, table, record, block, caller, slot, image, offset),
             "land a fetch" => calls::land_fetch(ssd, hdd, table, record, block, image, offset),

@@ -7,10 +7,12 @@ mod lent;
 
 use cases::looked::condition;
 use cases::mapped;
+use cases::offered;
+use cases::place::Memory;
 use cases::random::Random;
-use cases::rig::{word, Rig};
+use cases::rig::{word, Answer, Rig};
 use cases::stored::{label, label_page};
-use ferjulm::{Block, Caller, Condition, Geometry, Slot, PAGE};
+use ferjulm::{Block, Caller, Condition, Geometry, Image, Record, Slot, PAGE};
 use input::{boxes, late, opened, Input};
 use kinds::{Kind, KINDS};
 use lent::{Lent, UNSET};
@@ -38,6 +40,9 @@ fn check(kind: &Kind, input: &Input) -> u32 {
             lent == before,
             "{name} refused by {result} changed {changes:?}"
         );
+        if name == "offer a list" && result > 6 {
+            assert_eq!(offered_list(input).err(), Some(result), "{name}");
+        }
         return result;
     }
     assert!(kind.results.contains(&result), "{name} gave {result}");
@@ -49,6 +54,7 @@ fn check(kind: &Kind, input: &Input) -> u32 {
     match name {
         "look up" => check_condition(result, &mut lent, input),
         "look up a list" => check_list(&mut lent, input),
+        "offer a list" => check_offered(result, &mut lent, input),
         "map" => check_sheet(&mut lent, input),
         _ => {}
     }
@@ -90,10 +96,49 @@ fn check_fits(kind: &Kind, lent: &mut Lent, input: &Input) {
         );
         return;
     }
+    if name == "offer a list" {
+        return assert!(input.list[0] < blocks, "{name}");
+    }
     assert!(
         !kind.refusals.contains(&7) || input.block < blocks,
         "{name}: block"
     );
+}
+
+/// What an offer of the list comes to that gets past 6, by document 01's offers one after another; 15 comes before 18.
+fn offered_list(input: &Input) -> Result<offered::Offered, u32> {
+    let words = input.record[..].try_into().expect("a record");
+    let before = Memory {
+        table: input.table.clone(),
+        record: Record::from_words(words),
+    };
+    let blocks: Vec<Block> = input.list.iter().map(|block| Block(*block)).collect();
+    let by = |caller| offered::list(&before, &blocks, caller);
+    match (by(Caller::People), input.caller) {
+        (Err(15), _) => Err(15),
+        (people, 0) => people,
+        (_, 1) => by(Caller::Import),
+        _ => Err(18),
+    }
+}
+
+/// A list that was offered and not refused: answer, table, record and page.
+fn check_offered(result: u32, lent: &mut Lent, input: &Input) {
+    let expected = offered_list(input).unwrap_or_else(|number| panic!("{result}, not {number}"));
+    let (code, dealt) = match expected.answer {
+        Answer::Dealt(places) => (112, places as u32),
+        _ => (103, UNSET),
+    };
+    assert_eq!((result, lent.dealt.lent()[0]), (code, dealt));
+    let (image, offset) = expected.stored.map_or((0, 0), |place| {
+        (1 + (place.image == Image::Hdd) as u32, place.offset)
+    });
+    assert_eq!(
+        (lent.image.lent()[0], lent.offset.lent()[0]),
+        (image, offset)
+    );
+    let Memory { table, record } = expected.after;
+    assert!(lent.table.lent() == table && lent.record.lent() == record.words());
 }
 
 /// A slot is set where the answer carries one, and nowhere else.
@@ -154,7 +199,8 @@ fn check_place(kind: &Kind, result: u32, lent: &mut Lent, before: &Lent, input: 
     let (image, offset) = (lent.image.lent()[0], lent.offset.lent()[0]);
     if kind.stores() {
         let stores = ![102, 106].contains(&result);
-        assert!(stores == (image != 0), "{name}: {result}, image {image}");
+        let told = stores == (image != 0) || result == 112;
+        assert!(told, "{name}: {result}, image {image}");
         assert!(
             changed.iter().all(|&page| page == (image, offset)),
             "{name} named {offset} in image {image} and changed {changed:?}"
@@ -190,8 +236,10 @@ fn any_input_is_refused_or_served_within() {
             inputs.push(late(&inputs[k], stamp));
         }
     }
-    inputs.push(opened(63, Caller::People));
-    inputs.push(opened(8, Caller::Import));
+    for _ in 0..3 {
+        inputs.push(opened(63, Caller::People));
+        inputs.push(opened(8, Caller::Import));
+    }
     let mut random = Random(20);
     let mut counts: BTreeMap<(&str, u32), u32> = BTreeMap::new();
     for _ in 0..150_000 {
@@ -224,19 +272,19 @@ fn any_input_is_refused_or_served_within() {
 #[test]
 fn nothing_lent() {
     type Empty = fn(&mut Input);
-    const FOUR: [u32; 14] = [4, 4, 4, 4, 4, 4, 4, 4, 4, 4, 4, 4, 4, 0];
-    let empties: [(Empty, [u32; 14]); 5] = [
+    const FOUR: [u32; 15] = [4, 4, 4, 4, 4, 4, 4, 4, 4, 4, 4, 4, 4, 4, 0];
+    let empties: [(Empty, [u32; 15]); 5] = [
         (
             |input| input.record.clear(),
-            [3, 3, 3, 3, 3, 3, 3, 3, 3, 3, 3, 3, 3, 0],
+            [3, 3, 3, 3, 3, 3, 3, 3, 3, 3, 3, 3, 3, 3, 0],
         ),
         (
             |input| input.ssd.clear(),
-            [4, 4, 2, 4, 4, 4, 4, 4, 4, 4, 4, 4, 4, 2],
+            [4, 4, 2, 4, 4, 4, 4, 4, 4, 4, 4, 4, 4, 4, 2],
         ),
         (|input| input.hdd.clear(), FOUR),
         (|input| input.table.clear(), FOUR),
-        (clear_all, [3, 3, 2, 3, 3, 3, 3, 3, 3, 3, 3, 3, 3, 2]),
+        (clear_all, [3, 3, 2, 3, 3, 3, 3, 3, 3, 3, 3, 3, 3, 3, 2]),
     ];
     for (empty, numbers) in empties {
         let mut input = Input::of(Rig::formatted(SMALL), SMALL);
@@ -272,7 +320,6 @@ fn a_block_in_two_rows() {
     {
         let mut input = Input::of(Rig::formatted(SMALL), SMALL);
         input.block = 6;
-        (input.list, input.room) = (vec![6, 0, 6], 3);
         input.table[2..6].copy_from_slice(&[6, low, 6, high]);
         let open = [(1, low), (2, high)]
             .into_iter()
@@ -281,12 +328,19 @@ fn a_block_in_two_rows() {
         input.record[word::COUNT] = open.len() as u32;
         input.record[word::WINDOW..][..open.len()].copy_from_slice(&open);
         for kind in &KINDS {
+            // a list that is offered names a block once
+            let list = match kind.name {
+                "offer a list" => vec![6, 0],
+                _ => vec![6, 0, 6],
+            };
+            (input.room, input.list) = (list.len(), list);
             let result = check(kind, &input);
             *seen.entry((kind.name, result)).or_default() += 1;
             let wanted = match (kind.name, low & 7) {
                 ("offer", 1) => 101,
                 ("offer", 3) => 102,
-                ("offer" | "write back", 5 | 7) | ("fetch", 7) => 8,
+                ("offer a list", 1 | 3) => 112,
+                ("offer" | "offer a list" | "write back", 5 | 7) | ("fetch", 7) => 8,
                 ("fetch", _) => 10,
                 ("land", 1 | 5) | ("land a fetch", 1 | 3 | 7) => 9,
                 ("land" | "land a fetch", _) | ("write back", 3) => 0,

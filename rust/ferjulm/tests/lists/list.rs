@@ -1,19 +1,20 @@
 //! A random list: which call comes next, when power fails, and how the box is reopened.
 
 use cases::beside::Beside;
+use cases::looked::condition;
 use cases::random::Random;
 use cases::rig::{Answer, Call, Said};
 use cases::stored::{page, LANDED_PAGES};
 use ferjulm::{Block, Caller, Condition, Geometry, Slot, PAGE};
 use std::collections::{BTreeMap, BTreeSet};
 
-/// How often each call is made, in hundredths: offer, land, fetch, land a fetch, look up, view or map, write back, flush; the rest
-/// are calls that must be refused.
+/// How often each call is made, in hundredths: offer, also of a list, land, fetch, land a fetch, look up, view or map, write back, flush;
+/// the rest are calls that must be refused.
 type Weights = [u32; 8];
 
 /// What a list does for a while: opens many slots, lands them, or does a bit of everything.
 const MOODS: [Weights; 3] = [
-    [58, 0, 14, 0, 3, 1, 20, 0],
+    [56, 0, 16, 0, 4, 1, 19, 0],
     [20, 40, 5, 15, 5, 3, 5, 2],
     [25, 20, 8, 10, 10, 4, 15, 3],
 ];
@@ -38,6 +39,12 @@ pub struct Counts {
     pub landed_twice: u32,
     /// Lists that were looked up.
     pub looked_up_lists: u32,
+    /// Lists that were offered and not refused: the whole list, a part of it, no place but a copy-out; and by one store so many slots
+    /// at most.
+    pub offered_lists: [u32; 3],
+    pub most_announced: usize,
+    /// Cuts in a list that was offered and stored a page, the page old or new.
+    pub cut_lists: u32,
     /// Look-ups of a block that was not cached, clean, dirty, open for writing, open for fetch.
     pub looked_up: [u32; 5],
     /// Slot maps that were not refused.
@@ -148,6 +155,7 @@ impl<'a> List<'a> {
             kind += 1;
         }
         match kind {
+            0 if self.random.once_in(5) => self.offer_list(),
             0 => Call::Offer(self.block(), self.caller()),
             1 => Call::Land(self.open_block(), self.new_page()),
             2 => Call::Fetch(self.block(), self.caller()),
@@ -170,11 +178,31 @@ impl<'a> List<'a> {
         Call::list((0..n).map(|_| self.block()).collect::<Vec<_>>().into_iter())
     }
 
+    /// A list of a few blocks, or of any number up to 65, is offered: half of them have no open block, and now and then one comes twice.
+    fn offer_list(&mut self) -> Call {
+        let n = match self.random.once_in(3) {
+            true => self.random.below(66),
+            false => 1 + self.random.below(6),
+        };
+        let mut blocks: Vec<Block> = (0..n).map(|_| self.block()).collect();
+        if !self.random.once_in(10) {
+            let mut seen = BTreeSet::new();
+            blocks.retain(|block| seen.insert(block.0));
+        }
+        if self.random.once_in(2) {
+            let table = &self.b.rig.table;
+            let is_open =
+                |condition| matches!(condition, Condition::OpenWrite(_) | Condition::OpenFetch(_));
+            blocks.retain(|block| !is_open(condition(table, *block)));
+        }
+        Call::OfferList(blocks, self.caller())
+    }
+
     /// A call that a ready box refuses.
     fn refused_call(&mut self) -> Call {
         let Geometry { slots, blocks } = self.b.geometry;
         let high = Block(blocks + self.random.below(3));
-        match self.random.below(9) {
+        match self.random.below(10) {
             6 => Call::list([self.block(), high].into_iter()),
             7 => Call::LookUpList(
                 vec![high; self.random.of(&[0, 2, 65])],
@@ -186,6 +214,10 @@ impl<'a> List<'a> {
             3 => Call::Step,
             4 => Call::Format(Geometry { slots: 0, blocks }),
             5 => Call::Map(self.b.geometry.map_bytes() - 1),
+            8 => Call::OfferList(
+                self.random.of(&[&[][..], &[high, high], &[high]]).to_vec(),
+                Caller::Import,
+            ),
             _ => Call::Format(Geometry {
                 slots: slots + 1,
                 blocks,
@@ -207,10 +239,26 @@ impl<'a> List<'a> {
         }
     }
 
+    /// Counts a list that was offered and answered so, with so many slots open before it.
+    fn count_list(&mut self, blocks: &[Block], answer: Answer, open: usize) {
+        let kind = match answer {
+            Answer::Dealt(places) if places == blocks.len() => 0,
+            Answer::Dealt(_) => 1,
+            _ => 2,
+        };
+        self.counts.offered_lists[kind] += 1;
+        let announced = self.b.rig.record.window().count() - open;
+        self.counts.most_announced = self.counts.most_announced.max(announced);
+    }
+
     fn make(&mut self, call: Call) {
         self.counts.events += 1;
         let again = self.fetched_again(&call);
+        let open = self.b.rig.record.window().count();
         let said = self.b.make(&call);
+        if let (Call::OfferList(blocks, _), Ok(answer)) = (&call, said) {
+            self.count_list(blocks, answer, open);
+        }
         if let Some((which, number)) = again {
             assert_eq!(
                 said.map_err(|refusal| refusal.number()),
@@ -256,10 +304,12 @@ impl<'a> List<'a> {
         let arrives = self.random.once_in(2);
         let random = &mut self.random;
         let word = || random.word() & mask;
-        match call {
-            Some(call) => self.b.cut_in(&call, arrives, word),
+        match &call {
+            Some(call) => self.b.cut_in(call, arrives, word),
             None => self.b.cut(word),
         }
+        let stored = self.b.stored.is_some();
+        self.counts.cut_lists += (stored && matches!(call, Some(Call::OfferList(..)))) as u32;
         self.last = None;
     }
 

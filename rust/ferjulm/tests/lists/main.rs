@@ -75,7 +75,13 @@ fn random_lists_beside_the_plain_disk() {
     assert!(all.mapped > 100);
     println!("lists looked up: {}", all.looked_up_lists);
     assert!(all.looked_up_lists > 100);
-    for number in [1, 4, 6, 7, 8, 9, 10, 11, 12, 14, 16, 17] {
+    println!(
+        "lists offered, dealt with in whole, in part, copied out: {:?}; at most {} announced by one store; {} cut in their store",
+        all.offered_lists, all.most_announced, all.cut_lists
+    );
+    assert!(all.offered_lists.iter().all(|&count| count > 100));
+    assert!(all.most_announced > 30 && all.cut_lists > 100);
+    for number in [1, 4, 6, 7, 8, 9, 10, 11, 12, 14, 15, 16, 17] {
         assert!(
             all.refused.contains_key(&number),
             "no call was refused by {number}"

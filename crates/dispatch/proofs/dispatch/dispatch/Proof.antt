@@ -73,6 +73,12 @@ look-up-list-requires c κs = search needs
 enum-known-request-7 : tie.Need-enum-known-request-7
 enum-known-request-7 c = search needs
 
+offer-list-requires : tie.Need-offer-list-requires
+offer-list-requires c κs = search needs
+
+enum-known-request-8 : tie.Need-enum-known-request-8
+enum-known-request-8 c = search needs
+
 write-back-requires : tie.Need-write-back-requires
 write-back-requires c κs = search needs
 
@@ -222,9 +228,9 @@ same-length-28 c = search needs
 
 returns-9 : tie.Need-returns-9
 returns-9 c =
-    let k = c .before .before .before .before in
+    let k = c .before .before .before .before .before .before in
     let r = k .before .before .before .before .before in
-    as-call (r .before .before .before .before .before .before .before .before) (r .request7 .given .1) (k .write-back .ensures)
+    as-call (r .before .before .before .before .before .before .before .before) (r .request7 .given .1) (k .offer-list .ensures)
 
 same-length-29 : tie.Need-same-length-29
 same-length-29 c = search needs
@@ -237,9 +243,9 @@ same-length-31 c = search needs
 
 returns-10 : tie.Need-returns-10
 returns-10 c =
-    let k = c .before .before in
-    let r = k .before .before .before .before in
-    as-call (r .before .before .before .before .before .before .before .before) (r .enum-told3 .given .1) (k .flush .ensures)
+    let k = c .before .before .before .before in
+    let r = k .before .before .before .before .before in
+    as-call (r .before .before .before .before .before .before .before .before) (r .request8 .given .1) (k .write-back .ensures)
 
 same-length-32 : tie.Need-same-length-32
 same-length-32 c = search needs
@@ -252,6 +258,21 @@ same-length-34 c = search needs
 
 returns-11 : tie.Need-returns-11
 returns-11 c =
+    let k = c .before .before in
+    let r = k .before .before .before .before in
+    as-call (r .before .before .before .before .before .before .before .before) (r .enum-told3 .given .1) (k .flush .ensures)
+
+same-length-35 : tie.Need-same-length-35
+same-length-35 c = search needs
+
+same-length-36 : tie.Need-same-length-36
+same-length-36 c = search needs
+
+same-length-37 : tie.Need-same-length-37
+same-length-37 c = search needs
+
+returns-12 : tie.Need-returns-12
+returns-12 c =
     let k = c .before .before in
     let r = k .before .before .before .before in
     as-call (r .before .before .before .before .before .before .before .before) (r .enum-told4 .given .1) (k .reopen .ensures)
@@ -277,6 +298,8 @@ dispatch-spec =
     enum-told-2
     look-up-list-requires
     enum-known-request-7
+    offer-list-requires
+    enum-known-request-8
     write-back-requires
     enum-told-3
     flush-requires
@@ -326,4 +349,8 @@ dispatch-spec =
     same-length-32
     same-length-33
     same-length-34
-    returns-11)
+    returns-11
+    same-length-35
+    same-length-36
+    same-length-37
+    returns-12)

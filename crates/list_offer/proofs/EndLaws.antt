@@ -1,0 +1,90 @@
+-- What a slot's metadata page ends a run by.
+use Prim.Native.Nat.{ℕ, zero, suc, _+_, _-_}
+use mathlib.Core.Path.{_≡_, refl, sym, ap}
+use mathlib.Core.Logic.{_≢_}
+use mathlib.Core.Bool.{Bool, true, false}
+use mathlib.Core.Option.{none}
+use native.Mathlib.Omega.{arith}
+use mathlib.Core.List.{List}
+use lib.Dec.{eqb}
+use Rattle.layout.specs.declared.Slot.{Slot}
+use Rattle.layout.specs.declared.Block.{Block}
+use Rattle.protocol.specs.Plan.{onPage}
+use Rattle.turns.specs.declared.turn.Turn.{Turn}
+use Rattle.turns.specs.declared.turn.Turn.the-variants.{Refused, Passes, Opens, CopiesOut}
+use Rattle.turns.specs.Turns.{spent}
+use Rattle.list_offer.specs.declared.Run.{Run}
+use Rattle.list_offer.specs.Runs.{pageOf, endOf, ended, openedIf, rowIf, runAfter, tableAfterTurn, endBy, stateAfter, pageAfter, rowAfter}
+
+-- a page, where none was announced on yet, and where one was
+module _ (page p : ℕ) where
+  pub page-first : page ≡ 0 → true ≡ onPage (pageOf page) p
+  page-first e = rw e
+
+  pub page-again : page ≢ 0 → eqb p (page - 1) ≡ onPage (pageOf page) p
+  page-again = go page
+    where
+      go : (q : ℕ) → q ≢ 0 → eqb p (q - 1) ≡ onPage (pageOf q) p
+      go zero n = absurd (n refl)
+      go (suc q) n = let e : suc q - 1 ≡ q = omega arith in rw e
+
+-- the four ends
+module _ (newest p : ℕ) where
+  pub end-other : (page : ℕ) → onPage (pageOf page) p ≡ false → 1 ≡ endOf page newest p
+  end-other page e = rw (e, endOf)
+
+  pub end-again : (page : ℕ) → onPage (pageOf page) p ≡ true → page ≢ 0 → 0 ≡ endOf page newest p
+  end-again zero e n = absurd (n refl)
+  end-again (suc q) e n = rw (e, endOf)
+
+  pub end-spent : (page : ℕ) → page ≡ 0 → spent newest ≡ true → 13 ≡ endOf page newest p
+  end-spent (suc q) e s = absurd (omega arith)
+  end-spent zero e s = ap (λ (b : Bool). elim b [ true ↦ 13 | false ↦ 0 ]) (sym s)
+
+  pub end-first : (page : ℕ) → page ≡ 0 → spent newest ≡ false → 0 ≡ endOf page newest p
+  end-first (suc q) e s = absurd (omega arith)
+  end-first zero e s = ap (λ (b : Bool). elim b [ true ↦ 13 | false ↦ 0 ]) (sym s)
+
+-- an end other than 0 leaves all as it is
+module _ (n : ℕ) (r : Run) (s : Slot) where
+  pub opened-not : (caller : ℕ) (hand : Slot) → n ≢ 0 → ended n r ≡ openedIf n r s caller hand
+  opened-not caller hand = go n
+    where
+      go : (m : ℕ) → m ≢ 0 → ended m r ≡ openedIf m r s caller hand
+      go zero z = absurd (z refl)
+      go (suc m) z = refl
+
+  pub row-not : (b : Block) (flags k : ℕ) (t : List ℕ) → n ≢ 0 → t ≡ rowIf n r b s flags k t
+  row-not b flags k t = go n
+    where
+      go : (m : ℕ) → m ≢ 0 → t ≡ rowIf m r b s flags k t
+      go zero z = absurd (z refl)
+      go (suc m) z = refl
+
+-- a turn by which the run goes on, and one by which it ends
+module _ (r : Run) (caller : ℕ) (b : Block) (t : List ℕ) where
+  pub run-goes : (T : Turn) → endBy T (r .page) (r .state .newest) ≡ 0
+      → runAfter T r caller
+      ≡ record { state = stateAfter T (r .state) caller; page = pageAfter T (r .page); places = r .places + 1; end = r .end }
+  run-goes (Refused n) e = absurd (omega arith)
+  run-goes Passes e = refl
+  run-goes (Opens s flags n hand) e = ap (λ (m : ℕ). openedIf m r s caller hand) e
+  run-goes (CopiesOut s n) e = absurd (omega arith)
+
+  pub table-goes : (T : Turn) → endBy T (r .page) (r .state .newest) ≡ 0 → tableAfterTurn T r b t ≡ rowAfter T (r .state) b t
+  table-goes (Refused n) e = refl
+  table-goes Passes e = refl
+  table-goes (Opens s flags n hand) e = ap (λ (m : ℕ). rowIf m r b s flags n t) e
+  table-goes (CopiesOut s n) e = refl
+
+  pub run-ends : (T : Turn) → endBy T (r .page) (r .state .newest) ≢ 0 → runAfter T r caller ≡ ended (endBy T (r .page) (r .state .newest)) r
+  run-ends (Refused n) e = refl
+  run-ends Passes e = absurd (e refl)
+  run-ends (Opens s flags n hand) e = sym (opened-not _ r s caller hand e)
+  run-ends (CopiesOut s n) e = refl
+
+  pub table-ends : (T : Turn) → endBy T (r .page) (r .state .newest) ≢ 0 → tableAfterTurn T r b t ≡ t
+  table-ends (Refused n) e = refl
+  table-ends Passes e = refl
+  table-ends (Opens s flags n hand) e = sym (row-not _ r s b flags n t e)
+  table-ends (CopiesOut s n) e = refl
