@@ -1,4 +1,3 @@
 pub mod Examples
 pub mod WordLaws
 pub mod RoundTrip
-pub mod ClosedLaws

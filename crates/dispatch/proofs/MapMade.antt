@@ -10,7 +10,7 @@ use Rattle.protocol.specs.Calls.{boxOf, MapLeft, mapOf}
 use Rattle.protocol.specs.ReferenceDisk.{Disk}
 use Rattle.protocol.specs.Events.{World, called}
 use Rattle.protocol.specs.Beside.{saidBy}
-use Rattle.protocol.proofs.SlotMaps.{changes-nothing, map-says}
+use Rattle.laws.proofs.SlotMaps.{changes-nothing, map-says}
 use Rattle.protocol.proofs.cases.Disk.{map-unfed}
 use Rattle.dispatch.specs.Dispatch.{madeBy}
 

@@ -8,7 +8,7 @@ use Rattle.layout.specs.declared.Block.{Block}
 use Rattle.record.specs.declared.Record.{Record}
 use Rattle.protocol.specs.Calls.{View, boxOf, viewOf}
 use Rattle.protocol.specs.Events.{readOf}
-use Rattle.protocol.proofs.ReadsAnywhere.{reads-anywhere}
+use Rattle.laws.proofs.ReadsAnywhere.{reads-anywhere}
 
 -- `e` is what view's contract promises of the number and the part that it returned
 pub view-reads : (ssd hdd : Part) (table : List ℕ) (state : Record) (b : Block) (number : ℕ) (handed : Part)

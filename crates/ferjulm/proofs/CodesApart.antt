@@ -18,9 +18,9 @@ use Rattle.protocol.specs.Plan.{Call}
 use Rattle.protocol.specs.Judge.{Reason, badLimits, noLabel, badRecord, wrongLength, badRows, wrongPhase, blockTooHigh, slotOpen, wrongState, hasSlot, windowFull, allOpen, stampsSpent, sheetShort, badScan, badList, importFull, unknownCaller, numberOf, judged}
 use Rattle.protocol.specs.Calls.{decided, effectOf, resultOf, boxOf}
 use Rattle.layout.proofs.Booleans.{clash}
-use Rattle.protocol.proofs.why.Answers.{plan-answers}
-use Rattle.c_record.specs.declared.Place.{Place}
-use Rattle.c_record.specs.Codes.{codeOf, slotAfter, dealtAfter, placeAfter}
+use Rattle.laws.proofs.why.Answers.{plan-answers}
+use Rattle.c_answers.specs.declared.Place.{Place}
+use Rattle.c_answers.specs.Codes.{codeOf, slotAfter, dealtAfter, placeAfter}
 use Rattle.ferjulm.specs.Calls.{kept, leftBy}
 
 pub record IsRefusal (code : ℕ) : Type 0 where

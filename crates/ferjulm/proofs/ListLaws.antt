@@ -32,21 +32,21 @@ use Rattle.protocol.specs.Judge.{Reason, badRows, test, judged}
 use Rattle.protocol.specs.Calls.{decided, effectOf, resultOf}
 use Rattle.protocol.specs.ReferenceDisk.{Disk}
 use Rattle.protocol.specs.Events.{World, call, called, run}
-use Rattle.protocol.proofs.Judged as judging
-use Rattle.protocol.proofs.Accepted.{service-legal, service-ready, legal-sound}
-use Rattle.protocol.proofs.Sound.{Sound, room}
-use Rattle.protocol.proofs.Does.{Does, does-nothing, does-use, does-use-all, does-announce, does-copy, does-land, does-fetch, does-rest, does-confirm, Openings, opens-one, opens-more, grown-window, openings-sound}
-use Rattle.protocol.proofs.Sorted.{Sorted, is-format, is-reopen, is-step, is-service, sorted}
-use Rattle.protocol.proofs.refine.Windows.{length-nums}
-use Rattle.protocol.proofs.why.Answers.{plan-answers}
-use Rattle.protocol.proofs.SlotMaps.{changes-nothing}
+use Rattle.laws.proofs.Judged as judging
+use Rattle.laws.proofs.Accepted.{service-legal, service-ready, legal-sound}
+use Rattle.laws.proofs.Sound.{Sound, room}
+use Rattle.laws.proofs.Does.{Does, does-nothing, does-use, does-use-all, does-announce, does-copy, does-land, does-fetch, does-rest, does-confirm, Openings, opens-one, opens-more, grown-window, openings-sound}
+use Rattle.laws.proofs.Sorted.{Sorted, is-format, is-reopen, is-step, is-service, sorted}
+use Rattle.laws.proofs.refine.Windows.{length-nums}
+use Rattle.laws.proofs.why.Answers.{plan-answers}
+use Rattle.laws.proofs.SlotMaps.{changes-nothing}
 use Rattle.stored.specs.Stored.{numberedOf}
 use Rattle.stored.proofs.StoredLaws.{found, newest-bounded}
 use Rattle.stored.proofs.RuleLaws.{passed}
 use Rattle.c_record.specs.Words.{recordWords, wordsOf, unpacked, isRecord, recordIn}
-use Rattle.c_record.specs.Codes.{wordsAfter}
+use Rattle.c_answers.specs.Codes.{wordsAfter}
 use Rattle.c_record.proofs.WordLaws.{window-length, callers-length}
-use Rattle.c_record.proofs.ClosedLaws.{record-length}
+use Rattle.c_answers.proofs.ClosedLaws.{record-length}
 use Rattle.c_record.proofs.RoundTrip.{Whole, packed-is, unpacked-is, unpacked-packed}
 use Rattle.ferjulm.specs.Calls.{Left, kept, leftBy, resultBy, leftIn, cCall, cFresh}
 use Rattle.ferjulm.specs.Lists.{cServed, cMade, cRun, reaches, withIf, reached, boxIn, ranFrom, RunsAlike}

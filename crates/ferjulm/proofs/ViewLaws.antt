@@ -24,9 +24,10 @@ use Rattle.judging.specs.declared.Judged.{Judged}
 use Rattle.judging.specs.Judging.{servesThen, judgedBy}
 use Rattle.judging.proofs.JudgingLaws.{found, looked}
 use Rattle.judging.proofs.ServeLaws.{view-judges, first-judged, judged-on}
-use Rattle.c_record.specs.declared.Place.{Place}
+use Rattle.c_answers.specs.declared.Place.{Place}
 use Rattle.c_record.specs.Words.{unpacked, isRecord}
-use Rattle.ferjulm.specs.View.{placeFor, ViewLeft, placed, viewPlaceOf, cView}
+use Rattle.c_answers.specs.Seen.{placeFor}
+use Rattle.ferjulm.specs.View.{ViewLeft, placed, viewPlaceOf, cView}
 use Rattle.ferjulm.proofs.CodesApart.{number-refuses}
 
 module _ (ssd hdd table : List ℕ) (state : Record) (b : Block) (before : Place) where

@@ -3,27 +3,15 @@ use Prim.Native.Nat.{ℕ}
 use mathlib.Core.List.{List}
 use mathlib.Core.Option.{Option, some, none}
 use Rattle.layout.specs.declared.Block.{Block}
-use Rattle.layout.specs.declared.Label.{Label}
-use Rattle.layout.specs.Places.{dataPlace, blockPlace}
 use Rattle.record.specs.declared.Record.{Record}
-use Rattle.protocol.specs.declared.Condition.{Condition}
-use Rattle.protocol.specs.declared.Condition.the-variants.{NotCached, Clean, Dirty, Writing, Fetching}
 use Rattle.record.specs.Record.{labelIn}
 use Rattle.protocol.specs.Condition.{conditionOf}
 use Rattle.protocol.specs.Plan.{view}
 use Rattle.protocol.specs.Judge.{Reason, numberOf, judged}
 use Rattle.protocol.specs.Calls.{boxOf}
-use Rattle.c_record.specs.declared.Place.{Place}
+use Rattle.c_answers.specs.declared.Place.{Place}
 use Rattle.c_record.specs.Words.{recordIn}
-use Rattle.c_record.specs.Codes.{pageOf}
-
--- where a view's page lies: in the SSD, if cached and not open; else in the HDD
-abbrev pub placeFor : Label → Block → Condition → Place
-placeFor l b NotCached = pageOf 2 (blockPlace l b)
-placeFor l b (Clean s) = pageOf 1 (dataPlace l s)
-placeFor l b (Dirty s) = pageOf 1 (dataPlace l s)
-placeFor l b (Writing s) = pageOf 2 (blockPlace l b)
-placeFor l b (Fetching s) = pageOf 2 (blockPlace l b)
+use Rattle.c_answers.specs.Seen.{placeFor}
 
 pub record ViewLeft : Type 0 where
   pub code : ℕ

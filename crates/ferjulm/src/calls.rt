@@ -1,7 +1,7 @@
 // The calls but a view: the words are judged and unpacked, the box's call is made, and what it leaves is packed.
+use c_answers::answers;
+use c_answers::closing;
 use c_record::RECORD_WORDS;
-use c_record::answers;
-use c_record::closing;
 use c_record::words;
 use layout::Block;
 use layout::LabelRead;

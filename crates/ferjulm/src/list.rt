@@ -1,6 +1,6 @@
 // Lists of blocks: looked up, and offered as one.
-use c_record::answers;
-use c_record::closing;
+use c_answers::answers;
+use c_answers::closing;
 use c_record::words;
 ghost use mathlib.Core.Path.{_≡_};
 ghost use lib.ListN.{length};

@@ -18,8 +18,8 @@ use Rattle.layout.proofs.Booleans.{Told, told, told-true, told-false, clash, an
 use Rattle.layout.proofs.RuleLaws.{page-rule}
 use Rattle.protocol.specs.Rows.{valid, eachRow}
 use Rattle.protocol.specs.Recovery.{entryIn, eachLegal, blockIn, noneTwice, storedRows}
-use Rattle.protocol.proofs.refine.Entries.{length-rows, rows-block, rows-flags}
-use Rattle.protocol.proofs.refine.Tables.{each-of}
+use Rattle.laws.proofs.refine.Entries.{length-rows, rows-block, rows-flags}
+use Rattle.laws.proofs.refine.Tables.{each-of}
 use Rattle.image_rules.specs.Twice.{bitOf, marked, inSpan, visited, allFresh}
 use Rattle.image_rules.proofs.BitLaws.{bit-marked, bit-none}
 use Rattle.stored.proofs.StoredLaws.{legal-at}

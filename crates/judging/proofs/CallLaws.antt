@@ -21,7 +21,7 @@ use Rattle.protocol.specs.SlotMap.{mapBytes, mapText}
 use Rattle.protocol.specs.Judge.{Reason, slotOpen, wrongState, stampsSpent, sheetShort, test, firstOf, judged}
 use Rattle.protocol.specs.Calls.{boxOf, lookUpOf, writeBackOf, landOf, landFetchOf, flushOf, lookUpListOf, wordsBy, wordsLeft, listWordsOf, viewed, viewPart, viewOf, mapped, mapOf}
 use Rattle.judging.specs.Judging.{readyThen, servesThen, listThen}
-use Rattle.protocol.proofs.Judged.{first-yes, first-no, performs, refused-as}
+use Rattle.laws.proofs.Judged.{first-yes, first-no, performs, refused-as}
 use Rattle.judging.proofs.ServeLaws.{Judges, end, first-judged, refused-by, judged-on, list-begins, list-judges, flush-judges, map-judges, look-up-judges, view-judges, write-back-judges, land-judges, land-fetch-judges}
 use Rattle.judging.proofs.JudgingLaws.{goes-on, ready-asks}
 

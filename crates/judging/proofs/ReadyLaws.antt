@@ -22,8 +22,8 @@ use Rattle.protocol.specs.Judge.{lengthsTest, lengthTest, rowsTest, agreeTest, 
 use Rattle.record.specs.Window.{eachSlot}
 use Rattle.protocol.specs.Calls.{boxOf}
 use Rattle.layout.proofs.Booleans.{clash, and-parts}
-use Rattle.protocol.proofs.Accepted.{Legal, legal}
-use Rattle.protocol.proofs.refine.Tables.{each-get}
+use Rattle.laws.proofs.Accepted.{Legal, legal}
+use Rattle.laws.proofs.refine.Tables.{each-get}
 use Rattle.table.specs.Scan.{legalRows}
 use Rattle.record.proofs.RecordLaws.{parts}
 use Rattle.agreement.proofs.AgreeLaws.{ready-is}

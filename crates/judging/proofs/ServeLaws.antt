@@ -16,7 +16,7 @@ use Rattle.protocol.specs.Plan.{Call, flush, offer, fetch, landFetch, lookUp, v
 use Rattle.protocol.specs.Judge.{lengthsTest, Reason, badRecord, wrongLength, badRows, wrongPhase, blockTooHigh, slotOpen, wrongState, hasSlot, windowFull, allOpen, stampsSpent, importFull, unknownCaller, badScan, badList, sheetShort, numberOf, lengthTest, test, chain, firstOf, judged}
 use Rattle.protocol.specs.Calls.{resultOf, boxOf}
 use Rattle.layout.proofs.Booleans.{Told, told, told-true, told-false, clash}
-use Rattle.protocol.proofs.Judged.{first-yes, first-no, refused-as}
+use Rattle.laws.proofs.Judged.{first-yes, first-no, refused-as}
 use Rattle.protocol.proofs.Reasons.{number-some}
 use Rattle.judging.specs.Judging.{refuseIf, soundThen, readyThen, servesThen, listThen, scanThen}
 

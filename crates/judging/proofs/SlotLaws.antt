@@ -19,8 +19,8 @@ use Rattle.protocol.specs.Rows.{rowFlags, dirty, writing}
 use Rattle.record.specs.Record.{labelIn}
 use Rattle.protocol.specs.Condition.{conditionOf}
 use Rattle.protocol.specs.Judge.{rowTest}
-use Rattle.protocol.proofs.refine.Conditions.{Held, Stands, absent, is-clean, is-dirty, is-writing, is-fetching, stands}
-use Rattle.protocol.proofs.refine.Tables.{each-get}
+use Rattle.laws.proofs.refine.Conditions.{Held, Stands, absent, is-clean, is-dirty, is-writing, is-fetching, stands}
+use Rattle.laws.proofs.refine.Tables.{each-get}
 use Rattle.table.specs.Scan.{legalRows}
 
 -- slot s holds the block, and its row is open (or not) and dirty (or not)

@@ -6,7 +6,6 @@ use protocol::Condition;
 use record::IMPORT;
 use record::Phase;
 use record::Record;
-use record::rule;
 use table::condition;
 use table::rows;
 ghost use mathlib.Core.Path.{_≡_};
@@ -83,7 +82,7 @@ pub fn judge_box(
 ) -> Judged
     ensures { λ r. ⌜ r ≡ judgedBy (soundThen ssd hdd page (now (table .entry)) state 0) (now (table .entry)) b ⌝ }
 {
-    if !rule::record_ok(state) {
+    if !record_rule::record_ok(state) {
         return refused(3);
     }
     let l = state.label;

@@ -24,7 +24,7 @@ use Rattle.protocol.specs.Recovery.{metasOf, entryIn, newestOf, pagesTest, reco
 use Rattle.protocol.specs.Box.{Result}
 use Rattle.protocol.specs.Judge.{lengthsTest}
 use Rattle.protocol.specs.Calls.{reopenOf}
-use Rattle.protocol.proofs.refine.Entries.{rows-block, rows-flags}
+use Rattle.laws.proofs.refine.Entries.{rows-block, rows-flags}
 use Rattle.stored.specs.Stored.{labelIf}
 use Rattle.stored.proofs.ReopenLaws as reopens
 use Rattle.list_image.specs.Listing.{refusedKey, field, headText, fateText, entryText, dropped, lineIf, lineOf, imageText, refusalText, listingOf}

@@ -23,16 +23,16 @@ use Rattle.protocol.specs.Rows.{setRow, writing, openRows}
 use Rattle.protocol.specs.Perform.{joined}
 use Rattle.protocol.specs.Judge.{agreeTest, rowsTest}
 use Rattle.protocol.specs.Why.{ReadyAgree}
-use Rattle.protocol.proofs.model.Model.{openRow}
-use Rattle.protocol.proofs.refine.Flags.{rowOf, LegalRow}
-use Rattle.protocol.proofs.refine.Tables.{rowAt, Rows}
-use Rattle.protocol.proofs.refine.Sweeps.{Alike}
-use Rattle.protocol.proofs.refine.Windows.{length-nums, distinct-nums, below-nums, window-of}
-use Rattle.protocol.proofs.Sound.{Sound, room, sound-of, sound-agree, sound-alike, sound-opens, rows-legal}
-use Rattle.protocol.proofs.Does.{grown-window}
-use Rattle.protocol.proofs.why.RowsRules.{agree-same}
+use Rattle.laws.proofs.model.Model.{openRow}
+use Rattle.laws.proofs.refine.Flags.{rowOf, LegalRow}
+use Rattle.laws.proofs.refine.Tables.{rowAt, Rows}
+use Rattle.laws.proofs.refine.Sweeps.{Alike}
+use Rattle.laws.proofs.refine.Windows.{length-nums, distinct-nums, below-nums, window-of}
+use Rattle.laws.proofs.Sound.{Sound, room, sound-of, sound-agree, sound-alike, sound-opens, rows-legal}
+use Rattle.laws.proofs.Does.{grown-window}
+use Rattle.laws.proofs.why.RowsRules.{agree-same}
 use Rattle.protocol.specs.Calls.{boxOf}
-use Rattle.protocol.proofs.Accepted.{legal-rows}
+use Rattle.laws.proofs.Accepted.{legal-rows}
 use Rattle.judging.proofs.ReadyLaws.{ReadyBox, agree-count}
 use Rattle.table.specs.Scan.{legalRows}
 use Rattle.turns.specs.Turns.{Seen}

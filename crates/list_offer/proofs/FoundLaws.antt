@@ -20,11 +20,11 @@ use Rattle.layout.proofs.Booleans.{and-parts}
 use Rattle.protocol.specs.declared.Condition.the-variants.{NotCached}
 use Rattle.protocol.specs.Rows.{setRow, valid}
 use Rattle.protocol.specs.Condition.{slotOf, conditionAt, conditionOf}
-use Rattle.protocol.proofs.model.Model as model
-use Rattle.protocol.proofs.model.Model.{blockOf}
-use Rattle.protocol.proofs.refine.Tables.{Rows, at-valid, at-block}
-use Rattle.protocol.proofs.refine.Sweeps.{Alike}
-use Rattle.protocol.proofs.refine.Conditions.{Located, at, nowhere, located}
+use Rattle.laws.proofs.model.Model as model
+use Rattle.laws.proofs.model.Model.{blockOf}
+use Rattle.laws.proofs.refine.Tables.{Rows, at-valid, at-block}
+use Rattle.laws.proofs.refine.Sweeps.{Alike}
+use Rattle.laws.proofs.refine.Conditions.{Located, at, nowhere, located}
 use Rattle.table.specs.Scan.{holdsIn, numberOr, conditionIn}
 use Rattle.table.proofs.ConditionLaws.{condition-is}
 use Rattle.locating.specs.Places.{placeWord, placesOf}

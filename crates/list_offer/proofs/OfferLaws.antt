@@ -25,8 +25,8 @@ use Rattle.protocol.specs.Plan.{Call, Move, offer, offerList, stay, importOpen,
 use Rattle.protocol.specs.Perform.{confirmed, perform}
 use Rattle.protocol.specs.Judge.{Reason, blockTooHigh, slotOpen, importFull, windowFull, allOpen, stampsSpent, test, firstOf, judged}
 use Rattle.protocol.specs.Calls.{decided, effectOf, resultOf, boxOf}
-use Rattle.protocol.proofs.Judged.{first-yes, first-no, refused-as, performs}
-use Rattle.protocol.proofs.OfferLists.{both}
+use Rattle.laws.proofs.Judged.{first-yes, first-no, refused-as, performs}
+use Rattle.laws.proofs.OfferLists.{both}
 use Rattle.judging.specs.Judging.{readyThen, servesThen, scanThen}
 use Rattle.judging.specs.Fits.{FitsRecord}
 use Rattle.judging.proofs.JudgingLaws.{goes-on, ready-asks}

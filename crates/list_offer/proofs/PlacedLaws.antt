@@ -22,11 +22,11 @@ use Rattle.protocol.specs.Box.{Box}
 use Rattle.protocol.specs.Condition.{conditionOf}
 use Rattle.protocol.specs.Sweep.{nextSlot}
 use Rattle.protocol.specs.Plan.{stay, opens, takes, takesAs, offering, importOpen, Offered, declines, dealtWith, placedAs}
-use Rattle.protocol.proofs.model.Model.{Row, openRow}
-use Rattle.protocol.proofs.refine.Flags.{rowOf, LegalRow, f7, Changed, changed-open, changed-row}
-use Rattle.protocol.proofs.refine.Tables.{Rows, at-open}
-use Rattle.protocol.proofs.refine.Conditions.{Stands, absent, is-clean, is-dirty, is-writing, is-fetching, stands}
-use Rattle.protocol.proofs.refine.Sweeps.{alike-same, next-low}
+use Rattle.laws.proofs.model.Model.{Row, openRow}
+use Rattle.laws.proofs.refine.Flags.{rowOf, LegalRow, f7, Changed, changed-open, changed-row}
+use Rattle.laws.proofs.refine.Tables.{Rows, at-open}
+use Rattle.laws.proofs.refine.Conditions.{Stands, absent, is-clean, is-dirty, is-writing, is-fetching, stands}
+use Rattle.laws.proofs.refine.Sweeps.{alike-same, next-low}
 use Rattle.sweeping.specs.declared.Swept.{Swept}
 use Rattle.sweeping.specs.declared.Swept.the-variants.{Took, Stuck}
 use Rattle.sweeping.specs.Sweeps.{sweptOf, clearedFrom}

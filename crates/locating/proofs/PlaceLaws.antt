@@ -21,8 +21,8 @@ use Rattle.protocol.specs.declared.Condition.{Condition}
 use Rattle.protocol.specs.Rows.{rowFlags, setFlags, dirty, writing, used, withUsed}
 use Rattle.protocol.specs.Condition.{openAs, closedAs, slotOf, conditionAt, conditionOf, wordOf, wordsOf, closedSlot, closedSlots}
 use Rattle.protocol.specs.Perform.{usedAll}
-use Rattle.protocol.proofs.refine.Conditions.{Located, at, nowhere, located}
-use Rattle.protocol.proofs.Used.{used-at, used-both}
+use Rattle.laws.proofs.refine.Conditions.{Located, at, nowhere, located}
+use Rattle.laws.proofs.Used.{used-at, used-both}
 use Rattle.table.specs.Scan.{legalRows}
 use Rattle.judging.proofs.SlotLaws.{flags-low}
 use Rattle.locating.specs.Places.{placeWord, placeOf, placesOf, conditionThere, closedWords, slotsThere}

@@ -1,15 +1,2 @@
-pub mod cases
 pub mod Reasons
-pub mod model
-pub mod refine
-pub mod Sound
-pub mod Judged
-pub mod Accepted
-pub mod Closed
-pub mod Used
-pub mod Does
-pub mod OfferLists
-pub mod Sorted
-pub mod ReadsAnywhere
-pub mod why
-pub mod SlotMaps
+pub mod cases

@@ -1,7 +1,6 @@
 pub mod Each
 pub mod WindowLaws
 pub mod LeaveLaws
-pub mod DistinctLaws
 pub mod RecordLaws
 pub mod CallerLaws
 pub mod RuleLaws

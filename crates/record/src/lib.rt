@@ -1,9 +1,8 @@
-// Document 01's record: its rule (number 3), its window, and every function that makes a record or changes one.
+// Document 01's record: its window, and every function that makes a record or changes one.
 use layout::Label;
 use layout::Slot;
 use layout::WINDOW;
 
-pub mod rule;
 pub mod state;
 pub mod window;
 

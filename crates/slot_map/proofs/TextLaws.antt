@@ -19,7 +19,7 @@ use Rattle.layout.specs.MetaPage.{firsts}
 use Rattle.layout.proofs.Booleans.{Told, told, told-true, told-false}
 use Rattle.layout.proofs.JudgeLaws.{length-firsts, get-firsts}
 use Rattle.protocol.specs.SlotMap.{letterOf, letterAt, aligned, mapLine, linesOf}
-use Rattle.protocol.proofs.SlotMaps.{columnOf, columns, number-columns, length-number, length-lines}
+use Rattle.laws.proofs.SlotMaps.{columnOf, columns, number-columns, length-number, length-lines}
 
 -- the byte at place j of a line's letters: of the first n the row's letter, then a space
 abbrev pub byteAt : ℕ → List ℕ → ℕ → ℕ → ℕ

@@ -25,7 +25,7 @@ use Rattle.protocol.specs.Calls.{boxOf, stepOf}
 use Rattle.layout.proofs.Booleans.{Told, told, told-true, told-false, clash, and-parts}
 use Rattle.judging.specs.Judging.{soundThen}
 use Rattle.judging.proofs.ServeLaws.{Judges, numbers, end, judged-on}
-use Rattle.protocol.proofs.Judged.{first-yes, first-no, performs, refused-as}
+use Rattle.laws.proofs.Judged.{first-yes, first-no, performs, refused-as}
 use Rattle.judging.proofs.ReadyLaws.{SoundBox}
 
 -- what a step of a format leaves: its store is one of the SSD image

@@ -20,7 +20,7 @@ use Rattle.protocol.specs.Plan.{reopen, recovers, plan}
 use Rattle.protocol.specs.Perform.{perform}
 use Rattle.protocol.specs.Judge.{lengthsTest, noLabel, wrongLength, badRows, isLabel, lengthTest, test, firstOf, judged}
 use Rattle.protocol.specs.Calls.{boxOf, reopenOf}
-use Rattle.protocol.proofs.Judged.{first-yes, first-no, performs, refused-as}
+use Rattle.laws.proofs.Judged.{first-yes, first-no, performs, refused-as}
 use Rattle.stored.specs.Stored.{labelIf}
 use Rattle.stored.proofs.ReadLaws.{label-test, legal-read}
 

@@ -23,9 +23,9 @@ use Rattle.layout.proofs.RuleLaws.{count-rule, page-rows}
 use Rattle.layout.proofs.JudgeLaws.{length-window, length-firsts}
 use Rattle.layout.specs.Window.{arrayOf, windowFrom}
 use Rattle.protocol.specs.Recovery.{metasOf, Newest, newer, newestFrom, newestOf, eachLegal}
-use Rattle.protocol.proofs.why.PagesRules.{legal-get}
+use Rattle.laws.proofs.why.PagesRules.{legal-get}
 use Rattle.record.proofs.WindowLaws.{take-array, array-more}
-use Rattle.protocol.proofs.refine.Metas.{length-metas, metas-at}
+use Rattle.laws.proofs.refine.Metas.{length-metas, metas-at}
 use Rattle.stored.specs.declared.Newest.{Newest as Numbered}
 use Rattle.layout.specs.declared.Window.{Window}
 use Rattle.stored.specs.Stored.{newestAt, newerIf, newerAt, numberedFrom, numberedOf}

@@ -18,8 +18,8 @@ use Rattle.layout.specs.Places.{tableLength}
 use Rattle.protocol.specs.Rows.{rowFlags, setFlags, writing, used, withoutUsed}
 use Rattle.protocol.specs.Sweep.{nextSlot, Victim, sweepFrom, sweep}
 use Rattle.layout.proofs.Booleans.{Told, told, told-true, told-false, clash}
-use Rattle.protocol.proofs.refine.Flags.{changed-unused}
-use Rattle.protocol.proofs.refine.Sweeps.{Alike, alike-flags, next-low}
+use Rattle.laws.proofs.refine.Flags.{changed-unused}
+use Rattle.laws.proofs.refine.Sweeps.{Alike, alike-flags, next-low}
 use Rattle.sweeping.specs.declared.Swept.{Swept}
 use Rattle.sweeping.specs.declared.Swept.the-variants.{Took, Stuck}
 use Rattle.table.specs.Scan.{lowestOf}

@@ -28,9 +28,9 @@ use Rattle.protocol.specs.Perform.{confirmed, perform}
 use Rattle.protocol.specs.Judge.{Reason, slotOpen, hasSlot, allOpen, test, judged}
 use Rattle.protocol.specs.Calls.{decided, effectOf, resultOf}
 use Rattle.protocol.specs.Beside.{OfferAnswer, says-announced, says-overwrite, says-copied, FetchAnswer, fetch-announced, fetch-copied, Answers}
-use Rattle.protocol.proofs.refine.Sweeps.{next-low}
-use Rattle.protocol.proofs.Judged.{passed}
-use Rattle.protocol.proofs.Accepted.{Legal, service-legal}
+use Rattle.laws.proofs.refine.Sweeps.{next-low}
+use Rattle.laws.proofs.Judged.{passed}
+use Rattle.laws.proofs.Accepted.{Legal, service-legal}
 use Rattle.theorem.proofs.UpdateFirst.{none-of}
 
 -- so many steps of a sweep lead from one slot to another

@@ -23,19 +23,19 @@ use Rattle.protocol.specs.ReferenceDisk.{MayBe}
 use Rattle.protocol.specs.Events.{World, Memory, Event, call, reopens, cut, called, lent, readOf, mayFinish, finished, withMemory, takenIf, reopened, crashed, steps, apply, Fits}
 use Rattle.protocol.specs.Demand3.{Reopening, own, whole, broken, slotSaid, before, reopenedBox, finishes, Mends}
 use Rattle.layout.proofs.Booleans.{clash, and-parts}
-use Rattle.protocol.proofs.model.Model as model
-use Rattle.protocol.proofs.model.Model.{Plain, Mending}
+use Rattle.laws.proofs.model.Model as model
+use Rattle.laws.proofs.model.Model.{Plain, Mending}
 use Rattle.theorem.proofs.model.View as seen
-use Rattle.protocol.proofs.refine.Windows.{length-nums}
-use Rattle.protocol.proofs.Judged.{passed}
-use Rattle.protocol.proofs.Sorted.{Sorted, is-format, is-reopen, is-step, is-service, sorted}
+use Rattle.laws.proofs.refine.Windows.{length-nums}
+use Rattle.laws.proofs.Judged.{passed}
+use Rattle.laws.proofs.Sorted.{Sorted, is-format, is-reopen, is-step, is-service, sorted}
 use Rattle.theorem.proofs.refine.ReadyCalls.{worldOf}
 use Rattle.theorem.proofs.refine.Passes.{flush-judged, step-judged, some-pending, pending-rule}
 use Rattle.theorem.proofs.refine.Views.{view-number, read-view, look-page}
 use Rattle.theorem.proofs.refine.Reopens.{reopenedCore, reopen-shape}
 use Rattle.theorem.proofs.refine.MendingCalls.{finishedWorld, finish-allowed, fewer, mendedCore, mended-here, mended-core-shape, mended-core-abs, step-plan, step-world, reopened-here, reopen-world}
 use Rattle.theorem.proofs.Reachable.{at-core, inv-stored, reopen-taken, crashed-inv, table-right}
-use Rattle.protocol.proofs.refine.Abstract.{Core, phaseFor, boxOfCore, abs, Shape, Phased, is-ready, is-mending, Inv}
+use Rattle.laws.proofs.refine.Abstract.{Core, phaseFor, boxOfCore, abs, Shape, Phased, is-ready, is-mending, Inv}
 
 pub ready-off : (r : Bool) → isReady (phaseFor r) ≡ true → r ≡ false
 ready-off true e = sym e

@@ -24,9 +24,9 @@ use Rattle.protocol.specs.Judge.{Reason, judged}
 use Rattle.protocol.specs.Calls.{decided, effectOf, resultOf}
 use Rattle.protocol.specs.Beside.{CopiesOnce}
 use Rattle.layout.proofs.Booleans.{clash}
-use Rattle.protocol.proofs.refine.Flags.{Flags, f0, f1, f3, f5, f7, f9, f11, f13, f15}
-use Rattle.protocol.proofs.refine.Sweeps.{Alike, alike-same, Swept, took, swept}
-use Rattle.protocol.proofs.Accepted.{Legal, service-legal}
+use Rattle.laws.proofs.refine.Flags.{Flags, f0, f1, f3, f5, f7, f9, f11, f13, f15}
+use Rattle.laws.proofs.refine.Sweeps.{Alike, alike-same, Swept, took, swept}
+use Rattle.laws.proofs.Accepted.{Legal, service-legal}
 
 -- the answers are not the same
 number : Reply → ℕ

@@ -28,22 +28,22 @@ use Rattle.protocol.specs.Events.{World, Event, run, formatted, startOf, AllFit
 use Rattle.protocol.specs.Demand3.{Safe, Demand3}
 use Rattle.protocol.specs.Beside.{UpdateBeforeData, Bounded, ImportBounded}
 use Rattle.layout.proofs.Booleans.{clash}
-use Rattle.protocol.proofs.model.Base.{Window, nil-window, has-nil}
-use Rattle.protocol.proofs.model.Model as model
-use Rattle.protocol.proofs.model.Model.{Row, Plain}
-use Rattle.protocol.proofs.refine.Windows.{nums, length-nums}
-use Rattle.protocol.proofs.refine.Flags.{rowOf, f0}
-use Rattle.protocol.proofs.refine.Tables.{rowAt, Rows}
-use Rattle.protocol.proofs.refine.Metas.{metas-at, length-metas, newest-none}
+use Rattle.laws.proofs.model.Base.{Window, nil-window, has-nil}
+use Rattle.laws.proofs.model.Model as model
+use Rattle.laws.proofs.model.Model.{Row, Plain}
+use Rattle.laws.proofs.refine.Windows.{nums, length-nums}
+use Rattle.laws.proofs.refine.Flags.{rowOf, f0}
+use Rattle.laws.proofs.refine.Tables.{rowAt, Rows}
+use Rattle.laws.proofs.refine.Metas.{metas-at, length-metas, newest-none}
 use Rattle.theorem.proofs.refine.Stores.{page-stamp, page-entry, page-legal}
 use Rattle.theorem.proofs.refine.Formatting.{freeTable, Formatted, whole-format}
 use Rattle.theorem.proofs.Reachable.{run-inv}
 use Rattle.theorem.proofs.Claims.{views-of, reads-of, looks-of, allowed-of, taken-of, mends-of, flushes-of}
 use Rattle.theorem.proofs.Keeps.{keeps-of}
 use Rattle.theorem.proofs.UpdateFirst.{update-first}
-use Rattle.protocol.proofs.refine.Callers.{nobody-kept}
+use Rattle.laws.proofs.refine.Callers.{nobody-kept}
 use Rattle.theorem.proofs.refine.Passes.{pending-rule}
-use Rattle.protocol.proofs.refine.Abstract.{Core, phaseFor, boxOfCore, entryRow, abs, Pages, Shape, ready-sound, Phased, is-ready, is-mending, Inv}
+use Rattle.laws.proofs.refine.Abstract.{Core, phaseFor, boxOfCore, entryRow, abs, Pages, Shape, ready-sound, Phased, is-ready, is-mending, Inv}
 
 -- what is safe of every reachable world
 pub safe : (l : Label) (w : World) → Inv l w → Safe l w

@@ -22,18 +22,18 @@ use Rattle.protocol.specs.ReferenceDisk.{Disk}
 use Rattle.protocol.specs.Events.{World, Memory, Arrival, Event, call, reopens, cut, called, withMemory, takenIf, reopened, crashed, apply, run, CallFits, Fits, AllFit}
 use Rattle.protocol.specs.Demand3.{Outside, Place, place, Reopening, own, whole, broken, before, NotYet, Back, AllBack, Kept}
 use Rattle.layout.proofs.Booleans.{Told, told, told-true, told-false, clash}
-use Rattle.protocol.proofs.model.Base.{has}
-use Rattle.protocol.proofs.model.Model as model
-use Rattle.protocol.proofs.model.Model.{Plain, Stored, Mending, dirtyRow, openRow, blockOf, shut, revived}
-use Rattle.protocol.proofs.model.Model as model
-use Rattle.protocol.proofs.model.Rows.{shut-dirty}
+use Rattle.laws.proofs.model.Base.{has}
+use Rattle.laws.proofs.model.Model as model
+use Rattle.laws.proofs.model.Model.{Plain, Stored, Mending, dirtyRow, openRow, blockOf, shut, revived}
+use Rattle.laws.proofs.model.Model as model
+use Rattle.laws.proofs.model.Rows.{shut-dirty}
 use Rattle.theorem.proofs.model.View as seen
 use Rattle.theorem.proofs.model.View.{Found, found}
 use Rattle.theorem.proofs.model.Reopened.{fixed}
 use Rattle.theorem.proofs.model.Finished.{over-ready}
 use Rattle.theorem.proofs.model.Places as places
 use Rattle.theorem.proofs.model.Places.{shutAt, first, again, mended-like, Alike}
-use Rattle.protocol.proofs.refine.Tables.{rowAt, at-open, at-block, at-valid, at-dirty}
+use Rattle.laws.proofs.refine.Tables.{rowAt, at-open, at-block, at-valid, at-dirty}
 use Rattle.theorem.proofs.refine.ReadyCalls.{refused-same, worldOf}
 use Rattle.theorem.proofs.refine.Reopens.{reopenedCore, reopen-shape, reopen-abs, dirty-entry}
 use Rattle.theorem.proofs.refine.Views.{asSlot}
@@ -41,7 +41,7 @@ use Rattle.theorem.proofs.refine.MendingCalls.{mendedCore, mended-here,
 use Rattle.theorem.proofs.Reachable.{Mendable, steps, reopens-it, mendable, inv-stored, crashed-or, crashed-inv, table-right}
 use Rattle.theorem.proofs.Claims.{unready-on, reopened-taken, before-inv, memory-taken, own-size}
 use Rattle.theorem.proofs.PlaceOf.{modelPlace, model-outside, place-model}
-use Rattle.protocol.proofs.refine.Abstract.{Core, boxOfCore, entryRow, abs, Shape, Phased, is-ready, is-mending, Inv}
+use Rattle.laws.proofs.refine.Abstract.{Core, boxOfCore, entryRow, abs, Shape, Phased, is-ready, is-mending, Inv}
 
 -- a world since a reopening began: mending, or finished
 pub record Under (l : Label) (w : World) : Type 0 where

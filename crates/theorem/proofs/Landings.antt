@@ -34,12 +34,12 @@ use Rattle.protocol.specs.Kinds.{Purpose, toLandFetch, toLand, aims, aService, 
 use Rattle.protocol.specs.Judge.{wrongLength, blockTooHigh, wrongState, lengthTest, stateTest, test, judged}
 use Rattle.protocol.specs.Calls.{effectOf}
 use Rattle.protocol.specs.Beside.{Landing, ofWrite, ofFetch, landingCall, landingBlock, LandsOpen, OtherBlock, TwoOpen, landed, EitherOrder, StillOpen}
-use Rattle.protocol.proofs.refine.Flags.{changed-landed}
-use Rattle.protocol.proofs.refine.Conditions.{Held, Stands, is-writing, is-fetching, stands, condition-kept}
-use Rattle.protocol.proofs.Judged.{passed, accepted, does}
-use Rattle.protocol.proofs.Accepted.{Legal, callers-size, service-legal, service-ready, legal-first}
-use Rattle.protocol.proofs.Closed.{closed, closed-is, closed-legal}
-use Rattle.protocol.proofs.why.Answers.{plan-answers}
+use Rattle.laws.proofs.refine.Flags.{changed-landed}
+use Rattle.laws.proofs.refine.Conditions.{Held, Stands, is-writing, is-fetching, stands, condition-kept}
+use Rattle.laws.proofs.Judged.{passed, accepted, does}
+use Rattle.laws.proofs.Accepted.{Legal, callers-size, service-legal, service-ready, legal-first}
+use Rattle.laws.proofs.Closed.{closed, closed-is, closed-legal}
+use Rattle.laws.proofs.why.Answers.{plan-answers}
 use Rattle.theorem.proofs.Reachable.{said-of}
 use Rattle.theorem.proofs.UpdateFirst.{none-of}
 use Rattle.theorem.proofs.StoresLegally.{stores-whole}

@@ -24,11 +24,11 @@ use Rattle.protocol.specs.Judge.{Reason, blockTooHigh, test, judged}
 use Rattle.protocol.specs.Calls.{decided, effectOf, resultOf, wordsBy, wordsLeft}
 use Rattle.protocol.specs.Demand3.{slotSaid}
 use Rattle.protocol.specs.Beside.{wordSaid, Singles, singles, LooksAlike}
-use Rattle.protocol.proofs.refine.Sweeps.{alike-same}
-use Rattle.protocol.proofs.Judged.{passed, accepted, performs}
-use Rattle.protocol.proofs.Accepted.{Legal, service-legal, service-ready, legal-first}
-use Rattle.protocol.proofs.Used.{AllValid, closed-valid, used-alike, alike-legal, conditions-used, words-kept, closed-kept, used-both}
-use Rattle.protocol.proofs.why.Answers.{plan-answers}
+use Rattle.laws.proofs.refine.Sweeps.{alike-same}
+use Rattle.laws.proofs.Judged.{passed, accepted, performs}
+use Rattle.laws.proofs.Accepted.{Legal, service-legal, service-ready, legal-first}
+use Rattle.laws.proofs.Used.{AllValid, closed-valid, used-alike, alike-legal, conditions-used, words-kept, closed-kept, used-both}
+use Rattle.laws.proofs.why.Answers.{plan-answers}
 use Rattle.theorem.proofs.UpdateFirst.{none-of}
 
 -- the box with another table

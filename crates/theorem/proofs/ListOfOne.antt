@@ -20,10 +20,10 @@ use Rattle.protocol.specs.Perform.{confirmed, perform}
 use Rattle.protocol.specs.Judge.{Reason, badRecord, wrongLength, badRows, wrongPhase, unknownCaller, blockTooHigh, slotOpen, importFull, windowFull, allOpen, stampsSpent, badScan, names, namesOnce, test, firstOf, judged}
 use Rattle.protocol.specs.Calls.{effectOf}
 use Rattle.protocol.specs.Beside.{isTaken, ListOfOne}
-use Rattle.protocol.proofs.Judged.{NoneHold, none-hold, first-none, first-yes, first-no, does, refuses}
-use Rattle.protocol.proofs.Accepted.{Legal, legal-judged}
-use Rattle.protocol.proofs.Does.{still-overwrite, still-nothing, Taken, taken-stay, taken-open, taken-copy, fit, here, offers}
-use Rattle.protocol.proofs.OfferLists.{grown-self}
+use Rattle.laws.proofs.Judged.{NoneHold, none-hold, first-none, first-yes, first-no, does, refuses}
+use Rattle.laws.proofs.Accepted.{Legal, legal-judged}
+use Rattle.laws.proofs.Does.{still-overwrite, still-nothing, Taken, taken-stay, taken-open, taken-copy, fit, here, offers}
+use Rattle.laws.proofs.OfferLists.{grown-self}
 use Rattle.theorem.proofs.Answered.{answers}
 use Rattle.theorem.proofs.ListOffers.{never, one-of}
 

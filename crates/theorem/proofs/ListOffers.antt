@@ -35,14 +35,14 @@ use Rattle.protocol.specs.Perform.{confirmed, perform}
 use Rattle.protocol.specs.Judge.{Reason, numberOf, blockTooHigh, slotOpen, windowFull, allOpen, importFull, unknownCaller, agreeTest, test, judged}
 use Rattle.protocol.specs.Calls.{effectOf, resultOf}
 use Rattle.protocol.specs.Beside.{OfferAnswer, says-announced, says-overwrite, says-copied, stampedAt, atStamp, isTaken, Offers, storedPages, oneByOne, EndsList, by-refusal, by-copy, by-page, AsOffers, ListAsOffers}
-use Rattle.protocol.proofs.model.Base.{Window}
-use Rattle.protocol.proofs.refine.Windows.{nums, length-nums}
-use Rattle.protocol.proofs.Sound.{Sound, room, sound-agree}
-use Rattle.protocol.proofs.Judged.{passed, accepted, does, refuses}
-use Rattle.protocol.proofs.Accepted.{Legal, callers-size, callers-known, service-legal, service-ready, legal-sound, legal-first}
-use Rattle.protocol.proofs.Does.{Opening, later, grown-window, opening-sound, still-overwrite, still-nothing, Taken, taken-stay, taken-open, taken-copy, fit, here, offers}
-use Rattle.protocol.proofs.OfferLists.{grown-self, both, offeredOf, Ran, ran-none, ran-some, RanTo, ran}
-use Rattle.protocol.proofs.why.RowsRules.{agree-same}
+use Rattle.laws.proofs.model.Base.{Window}
+use Rattle.laws.proofs.refine.Windows.{nums, length-nums}
+use Rattle.laws.proofs.Sound.{Sound, room, sound-agree}
+use Rattle.laws.proofs.Judged.{passed, accepted, does, refuses}
+use Rattle.laws.proofs.Accepted.{Legal, callers-size, callers-known, service-legal, service-ready, legal-sound, legal-first}
+use Rattle.laws.proofs.Does.{Opening, later, grown-window, opening-sound, still-overwrite, still-nothing, Taken, taken-stay, taken-open, taken-copy, fit, here, offers}
+use Rattle.laws.proofs.OfferLists.{grown-self, both, offeredOf, Ran, ran-none, ran-some, RanTo, ran}
+use Rattle.laws.proofs.why.RowsRules.{agree-same}
 use Rattle.theorem.proofs.Answered.{answers}
 use Rattle.theorem.proofs.StoresLegally.{stores-whole}
 use Rattle.theorem.proofs.UpdateFirst.{none-of}

@@ -22,11 +22,11 @@ use Rattle.protocol.specs.Calls.{decided, effectOf, resultOf}
 use Rattle.protocol.specs.Events.{steps}
 use Rattle.protocol.specs.Beside.{MendsSoon}
 use Rattle.layout.proofs.Booleans.{and-parts}
-use Rattle.protocol.proofs.refine.Windows.{length-nums, some-length}
+use Rattle.laws.proofs.refine.Windows.{length-nums, some-length}
 use Rattle.record.proofs.WindowLaws.{take-array}
 use Rattle.theorem.proofs.refine.MendingCalls.{fewer}
 use Rattle.theorem.proofs.UpdateFirst.{none-of}
-use Rattle.protocol.proofs.Accepted.{step-legal}
+use Rattle.laws.proofs.Accepted.{step-legal}
 
 -- a step that is not refused leaves the pending slots of other pages
 module _ (x : Box) (e : judged step x ≡ none) (on : x .state .phase ≡ Recovering) where

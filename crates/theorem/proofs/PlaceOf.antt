@@ -22,22 +22,22 @@ use Rattle.protocol.specs.Recovery.{metasOf, entryIn, newestOf, storedRows}
 use Rattle.protocol.specs.Judge.{isReady}
 use Rattle.protocol.specs.Demand3.{Outside, inWindow, Place, entryPlace, storedSlot, placeIf, place}
 use Rattle.layout.proofs.Booleans.{Told, told, told-true, told-false, clash}
-use Rattle.protocol.proofs.model.Base.{has, eqb-same}
-use Rattle.protocol.proofs.model.Model as model
-use Rattle.protocol.proofs.model.Model.{Plain, Stored, Mending, blockOf}
+use Rattle.laws.proofs.model.Base.{has, eqb-same}
+use Rattle.laws.proofs.model.Model as model
+use Rattle.laws.proofs.model.Model.{Plain, Stored, Mending, blockOf}
 use Rattle.theorem.proofs.model.View as seen
 use Rattle.theorem.proofs.model.View.{Found, found, viewAt}
 use Rattle.theorem.proofs.model.Places as places
 use Rattle.theorem.proofs.model.Places.{shutAt, down-outside, down-inside}
-use Rattle.protocol.proofs.refine.Windows.{has-nums}
-use Rattle.protocol.proofs.refine.Tables.{rowAt}
-use Rattle.protocol.proofs.refine.Conditions.{Located, located}
-use Rattle.protocol.proofs.refine.Entries.{length-rows, rows-block, rows-flags}
+use Rattle.laws.proofs.refine.Windows.{has-nums}
+use Rattle.laws.proofs.refine.Tables.{rowAt}
+use Rattle.laws.proofs.refine.Conditions.{Located, located}
+use Rattle.laws.proofs.refine.Entries.{length-rows, rows-block, rows-flags}
 use Rattle.theorem.proofs.refine.Reopens.{valid-entry, block-entry, window-block}
 use Rattle.theorem.proofs.refine.Passes.{shut-row}
 use Rattle.theorem.proofs.refine.Views.{asSlot, read-view, look-slot}
 use Rattle.theorem.proofs.Claims.{ready-of, mending-of, unready-on}
-use Rattle.protocol.proofs.refine.Abstract.{Core, phaseFor, boxOfCore, entryRow, abs, Shape, Phased}
+use Rattle.laws.proofs.refine.Abstract.{Core, phaseFor, boxOfCore, entryRow, abs, Shape, Phased}
 
 -- the model's
 abbrev pub modelPlace : Label → Core → ℕ → Place

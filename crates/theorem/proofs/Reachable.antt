@@ -21,14 +21,14 @@ use Rattle.protocol.specs.ReferenceDisk.{Disk}
 use Rattle.protocol.specs.Events.{World, Memory, Arrival, old, new, Event, call, reopens, cut, called, withMemory, takenIf, reopened, survived, made, crashed, apply, run, CallFits, Fits, AllFit}
 use Rattle.layout.proofs.Booleans.{clash, and-parts}
 use Rattle.protocol.specs.Beside.{CutLeaves}
-use Rattle.protocol.proofs.model.Model as model
-use Rattle.protocol.proofs.model.Model.{Plain, Stored, Mending}
-use Rattle.protocol.proofs.Judged.{passed, passed-first}
-use Rattle.protocol.proofs.Sorted.{Sorted, is-format, is-reopen, is-step, is-service, sorted}
+use Rattle.laws.proofs.model.Model as model
+use Rattle.laws.proofs.model.Model.{Plain, Stored, Mending}
+use Rattle.laws.proofs.Judged.{passed, passed-first}
+use Rattle.laws.proofs.Sorted.{Sorted, is-format, is-reopen, is-step, is-service, sorted}
 use Rattle.theorem.proofs.refine.ReadyCalls.{calledAs, called-as, refused-same, worldOf, service-next}
 use Rattle.theorem.proofs.refine.Reopens.{label-is, reopen-judged}
 use Rattle.theorem.proofs.refine.MendingCalls.{phased-stored, step-inv, reopen-inv}
-use Rattle.protocol.proofs.refine.Abstract.{Core, boxOfCore, abs, ImagesKept, Shape, Agrees, Phased, is-ready, is-mending, Inv}
+use Rattle.laws.proofs.refine.Abstract.{Core, boxOfCore, abs, ImagesKept, Shape, Agrees, Phased, is-ready, is-mending, Inv}
 
 -- a call that no reason refuses answers what its plan says
 pub said-of : (c : Call) (x : Box) → judged c x ≡ none → refused (resultOf c x .said) ≡ refused (perform (plan c x) x .said)

@@ -19,8 +19,8 @@ use Rattle.layout.proofs.RuleLaws.{page-rule}
 use Rattle.layout.proofs.RoundTrip.{legal-back, legal-back-slots}
 use Rattle.protocol.specs.Recovery.{metasOf, entryIn, storedRows}
 use Rattle.protocol.specs.Beside.{ReadsBack, TableBack}
-use Rattle.protocol.proofs.refine.Entries.{length-rows, rows-block, rows-flags}
-use Rattle.protocol.proofs.refine.Metas.{metas-at}
+use Rattle.laws.proofs.refine.Entries.{length-rows, rows-block, rows-flags}
+use Rattle.laws.proofs.refine.Metas.{metas-at}
 
 -- a stored page is 4,096 bytes
 abbrev Bytes : List ℕ → Type 0

@@ -32,19 +32,19 @@ use Rattle.protocol.specs.Judge.{Reason, isEmpty, agreeTest, test, judged, stam
 use Rattle.protocol.specs.Calls.{decided, effectOf}
 use Rattle.protocol.specs.Beside.{stampStored, MetaStored, StoresLegally}
 use Rattle.layout.proofs.Booleans.{Told, told, told-true, told-false, clash, and-parts}
-use Rattle.protocol.proofs.model.Base.{Window, keep-window}
-use Rattle.protocol.proofs.refine.Windows.{nums, length-nums, nums-off}
+use Rattle.laws.proofs.model.Base.{Window, keep-window}
+use Rattle.laws.proofs.refine.Windows.{nums, length-nums, nums-off}
 use Rattle.record.proofs.WindowLaws.{take-array}
-use Rattle.protocol.proofs.refine.Tables.{Rows}
+use Rattle.laws.proofs.refine.Tables.{Rows}
 use Rattle.protocol.specs.Kinds.{Aim}
 use Rattle.theorem.proofs.refine.Stores.{rows-length, page-stamp, page-window, page-entry, page-legal}
 use Rattle.theorem.proofs.RoundTrip.{encoded-page, reads-back}
-use Rattle.protocol.proofs.Judged.{passed}
+use Rattle.laws.proofs.Judged.{passed}
 use Rattle.theorem.proofs.UpdateFirst.{none-of}
-use Rattle.protocol.proofs.Sound.{Sound}
-use Rattle.protocol.proofs.Accepted.{Legal, step-legal, service-legal, service-ready, legal-sound}
-use Rattle.protocol.proofs.Does.{Openings, Does, does-nothing, does-use, does-use-all, does-announce, does-copy, does-land, does-fetch, does-rest, does-confirm, grown-window, openings-sound}
-use Rattle.protocol.proofs.Sorted.{Sorted, is-format, is-reopen, is-step, is-service, sorted}
+use Rattle.laws.proofs.Sound.{Sound}
+use Rattle.laws.proofs.Accepted.{Legal, step-legal, service-legal, service-ready, legal-sound}
+use Rattle.laws.proofs.Does.{Openings, Does, does-nothing, does-use, does-use-all, does-announce, does-copy, does-land, does-fetch, does-rest, does-confirm, grown-window, openings-sound}
+use Rattle.laws.proofs.Sorted.{Sorted, is-format, is-reopen, is-step, is-service, sorted}
 
 -- a page of this table, window and stamp
 meta-stored : (l : Label) → Limits l → (table : List ℕ) → length table ≡ tableLength l → Rows l table → (t : ℕ) → t < 2 ^ 32

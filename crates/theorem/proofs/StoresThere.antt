@@ -16,7 +16,7 @@ use Rattle.protocol.specs.Plan.{Call}
 use Rattle.protocol.specs.Judge.{Reason, judged}
 use Rattle.protocol.specs.Calls.{decided, effectOf, resultOf}
 use Rattle.protocol.specs.Beside.{OnePage, StoresThere}
-use Rattle.protocol.proofs.why.Answers.{plan-answers}
+use Rattle.laws.proofs.why.Answers.{plan-answers}
 use Rattle.theorem.proofs.StoresLegally.{stores-whole}
 
 -- which image, and which page of it

@@ -22,16 +22,16 @@ use Rattle.protocol.specs.ReferenceDisk.{Disk}
 use Rattle.protocol.specs.Events.{World, mayFinish, CallFits}
 use Rattle.protocol.specs.Beside.{StoredOpen, StoredWriting, StoredDirty, UpdateFirst}
 use Rattle.layout.proofs.Booleans.{clash}
-use Rattle.protocol.proofs.model.Base.{has}
-use Rattle.protocol.proofs.model.Model as model
-use Rattle.protocol.proofs.model.Model.{Plain, openRow}
-use Rattle.protocol.proofs.refine.Windows.{nums, has-nums}
-use Rattle.protocol.proofs.refine.Tables.{rowAt, at-open, at-block, at-valid, at-dirty}
-use Rattle.protocol.proofs.refine.Conditions.{Held, Stands, is-writing, is-dirty, is-fetching, stands}
+use Rattle.laws.proofs.model.Base.{has}
+use Rattle.laws.proofs.model.Model as model
+use Rattle.laws.proofs.model.Model.{Plain, openRow}
+use Rattle.laws.proofs.refine.Windows.{nums, has-nums}
+use Rattle.laws.proofs.refine.Tables.{rowAt, at-open, at-block, at-valid, at-dirty}
+use Rattle.laws.proofs.refine.Conditions.{Held, Stands, is-writing, is-dirty, is-fetching, stands}
 use Rattle.theorem.proofs.refine.Reopens.{valid-entry, block-entry, dirty-entry, open-entry}
 use Rattle.theorem.proofs.refine.ReadyCalls.{worldOf}
 use Rattle.theorem.proofs.Reachable.{Mendable, steps, reopens-it, mendable}
-use Rattle.protocol.proofs.refine.Abstract.{Core, boxOfCore, abs, Shape, Phased, is-ready, is-mending, Inv}
+use Rattle.laws.proofs.refine.Abstract.{Core, boxOfCore, abs, Shape, Phased, is-ready, is-mending, Inv}
 
 -- a call that is neither refused nor one of mending finds a ready box
 pub none-of : (c : Call) (x : Box) → refused (resultOf c x .said) ≡ false → judged c x ≡ none

@@ -13,10 +13,10 @@ use Rattle.layout.specs.Places.{tableLength}
 use Rattle.protocol.specs.Rows.{rowBlock, rowFlags, valid, dirty, writing, allWriting}
 use Rattle.protocol.specs.Sweep.{nextSlot, Victim, sweep}
 use Rattle.layout.proofs.Booleans.{Told, told, told-true, told-false, clash}
-use Rattle.protocol.proofs.model.Model.{dirtyRow, openRow}
-use Rattle.protocol.proofs.refine.Flags.{Flags, f0, f1, f3, f5, f7, f9, f11, f13, f15}
-use Rattle.protocol.proofs.refine.Tables.{Rows, at-dirty, at-open, each-get, each-of}
-use Rattle.protocol.proofs.refine.Sweeps.{alike-same, next-low, swept}
+use Rattle.laws.proofs.model.Model.{dirtyRow, openRow}
+use Rattle.laws.proofs.refine.Flags.{Flags, f0, f1, f3, f5, f7, f9, f11, f13, f15}
+use Rattle.laws.proofs.refine.Tables.{Rows, at-dirty, at-open, each-get, each-of}
+use Rattle.laws.proofs.refine.Sweeps.{alike-same, next-low, swept}
 use Rattle.sweeping.specs.declared.Swept.{Swept}
 use Rattle.sweeping.specs.declared.Swept.the-variants.{Took, Stuck}
 use Rattle.table.specs.Scan.{lowestOf}
@@ -129,14 +129,14 @@ module _ (l : Label) (t : List ℕ) (h s : Slot) (k : ℕ) (size : length t ≡ 
   pub swept-is : sweep l t h ≡ some (record { slot = s; table = clearedFrom k l t h })
   swept-is = sweep-is l t h size low ∙ ap (victimOf l t h) (sym e)
 
-  of : {v : Victim} → Rattle.protocol.proofs.refine.Sweeps.Swept l t (some v) → Found l t (v .slot)
-  of (Rattle.protocol.proofs.refine.Sweeps.took v a w u A) = record {
+  of : {v : Victim} → Rattle.laws.proofs.refine.Sweeps.Swept l t (some v) → Found l t (v .slot)
+  of (Rattle.laws.proofs.refine.Sweeps.took v a w u A) = record {
     low = a;
     shut = sym (at-open l t R (v .slot .0) a) ∙ ap openRow (sym (A .row (v .slot .0))) ∙ at-open l (v .table) (A .legal) (v .slot .0) a ∙ w;
   }
 
   pub took-is : Found l t s
-  took-is = of (subst (Rattle.protocol.proofs.refine.Sweeps.Swept l t) swept-is (swept (2 * l .slots) l t t (alike-same l t size R) h low))
+  took-is = of (subst (Rattle.laws.proofs.refine.Sweeps.Swept l t) swept-is (swept (2 * l .slots) l t t (alike-same l t size R) h low))
 
   -- 12 does not hold
   pub not-all : allWriting t ≡ false

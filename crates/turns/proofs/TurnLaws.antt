@@ -30,8 +30,8 @@ use Rattle.protocol.specs.Plan.{Call, Move, offer, fetch, stay, opens, copies, 
 use Rattle.protocol.specs.Perform.{perform}
 use Rattle.protocol.specs.Judge.{Reason, slotOpen, hasSlot, windowFull, allOpen, stampsSpent, importFull, opensAnother, rowTest, test, firstOf, judged}
 use Rattle.protocol.specs.Calls.{effectOf, boxOf}
-use Rattle.protocol.proofs.refine.Flags.{legal-row}
-use Rattle.protocol.proofs.refine.Tables.{Rows, each-get}
+use Rattle.laws.proofs.refine.Flags.{legal-row}
+use Rattle.laws.proofs.refine.Tables.{Rows, each-get}
 use Rattle.sweeping.specs.declared.Swept.{Swept}
 use Rattle.sweeping.specs.declared.Swept.the-variants.{Took, Stuck}
 use Rattle.table.specs.Scan.{legalRows}
@@ -41,7 +41,7 @@ use Rattle.turns.specs.declared.turn.Turn.the-variants.{Refused, Passes,
 use Rattle.judging.specs.declared.Judged.{Judged}
 use Rattle.judging.specs.Judging.{servesThen}
 use Rattle.turns.specs.Turns.{Seen, Within, isPass, crowdOf, ifRoom, takeTurn, sweepTurn, cleanTurn, offerTurn, fetchTurn, Performable, spent, tableAfter, turned}
-use Rattle.protocol.proofs.Judged.{refuses, does, first-yes, first-no}
+use Rattle.laws.proofs.Judged.{refuses, does, first-yes, first-no}
 use Rattle.judging.proofs.ServeLaws.{end, judged-on, offer-judges, fetch-judges}
 use Rattle.judging.proofs.ReadyLaws.{ReadyBox, serves, open-count}
 use Rattle.judging.proofs.SlotLaws.{Where}

@@ -3,7 +3,7 @@ use lib.ListN.{take}
 use borrow.Author.Tests.{not-true, not-false}
 use Rattle.protocol.specs.Recovery.{metasOf, Newest, newestOf, allOpenIn}
 use Rattle.record.proofs.WindowLaws.{take-array}
-use Rattle.protocol.proofs.refine.Metas.{length-metas}
+use Rattle.laws.proofs.refine.Metas.{length-metas}
 use Rattle.layout.specs.declared.Window.{Window}
 use Rattle.stored.proofs.StoredLaws.{found, newest-bounded, pending-bounded}
 use Rattle.stored.proofs.RuleLaws.{page-bad, stamps-bad, blocks-bad, by-open}

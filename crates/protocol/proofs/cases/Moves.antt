@@ -1,5 +1,5 @@
 -- Moves: what a call does where nothing refuses it. They need no whole image, so they are computed first: most wrong definitions stop
--- here. The laws' first modules import the last of these files, so that all cases stand first in the log.
+-- here. The laws stand in a crate of their own, laws, so that a wrong definition stops at a case.
 use Prim.Native.Nat.{ℕ}
 use mathlib.Core.Path.{refl}
 use mathlib.Core.Bool.{Bool, true, false}

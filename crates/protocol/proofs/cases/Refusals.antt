@@ -1,23 +1,22 @@
 -- Refusals: each leaves everything as it was.
 use Prim.Native.Nat.{ℕ, zero, suc}
 use mathlib.Core.Path.{_≡_, refl, _∙_}
-use mathlib.Core.Bool.{true, false}
+use mathlib.Core.Bool.{true, false, _||_}
 use mathlib.Core.List.{List, [], _∷_, _++_}
-use mathlib.Core.Option.{some, none}
+use mathlib.Core.Option.{Option, some, none}
+use lib.Dec.{eqb}
 use lib.ListN.{replicate}
 use Rattle.record.specs.declared.Record.{Record}
 use Rattle.record.specs.declared.Phase.the-variants.{Formatting, Recovering, Ready}
 use Rattle.record.specs.Record.{recordOf, withCallers}
 use Rattle.protocol.specs.Box.{Box, Effect, refusing}
-use Rattle.protocol.specs.Plan.{Call, format, step, flush, offer, land, fetch, landFetch, lookUp, reopen, writeBack, lookUpList, offerList, ask, slotMap}
-use Rattle.protocol.specs.Judge.{windowFull, allOpen, labelFor, lengthsTest, lengthTest, judged, stampsSpent, importFull, unknownCaller, badList}
+use Rattle.protocol.specs.Plan.{Call, format, step, flush, offer, land, fetch, landFetch, lookUp, view, reopen, writeBack, lookUpList, offerList, ask, slotMap}
+use Rattle.protocol.specs.Judge.{Reason, numberOf, chain, firstOf, windowFull, allOpen, labelFor, lengthsTest, lengthTest, judged, stampsSpent, importFull, unknownCaller, badList}
 use Rattle.protocol.specs.Calls.{effectOf}
 use Rattle.protocol.proofs.cases.Report.{diskOf, filled, metaPage, labelPage}
 use Rattle.protocol.proofs.cases.Known.{Sized, known, effectKnown, effect-known}
 use Rattle.protocol.specs.Kinds.{kind}
 use Rattle.layout.proofs.PlaceLaws.{sameLabel}
-use Rattle.protocol.proofs.cases.Report.{diskOf, filled, metaPage, labelPage}
-use Rattle.protocol.proofs.cases.Known.{Sized, known, effectKnown, effect-known}
 use Rattle.protocol.proofs.cases.Case.{Case, AllHold, _also_, _first_, usual, one, two, textOf, fresh, imageless, recovery, effect, condition}
 use Rattle.protocol.proofs.cases.TwoPages.{Same-stamps}
 
@@ -170,11 +169,15 @@ call-refusals =
     ∷ refusesBy 13 flush (boxed (0 ∷ 0 ∷ []) (unsettledAt 4294967295))
     ∷ []
 
--- a look-up while mending; block 2 of 2 where a fetch lands; a fetch with all slots open; a map into 66 bytes, and while mending into none
+-- a look-up while mending; block 2 of 2 where a fetch lands, of a view and of a write back, which is judged of its own block; a fetch with
+-- all slots open; a map into 66 bytes, and while mending into none
 abbrev pub edge-refusals : List Case
 edge-refusals =
     refusesBy 6 (lookUp (record { 0 = 0 })) (boxed (0 ∷ 0 ∷ []) (recordOf one (record { 0 = 0 }) 1 Recovering false (record { 0 = 0 } ∷ [])))
     ∷ refusesBy 7 (landFetch (record { 0 = 2 })) (boxed (0 ∷ 5 ∷ []) (openAt 1))
+    ∷ refusesBy 7 (view (record { 0 = 2 })) (boxed (0 ∷ 1 ∷ []) (settledAt 1))
+    ∷ refusesBy 7 (writeBack (record { 0 = 2 })) (boxed (0 ∷ 1 ∷ []) (settledAt 1))
+    ∷ refusesBy 8 (writeBack (record { 0 = 1 })) (boxed (1 ∷ 7 ∷ []) (openAt 1))
     ∷ refusesBy 12 (fetch (record { 0 = 1 }) 0) (boxed (0 ∷ 7 ∷ []) (openAt 1))
     -- block 2 of 2 from caller 2 (document 02, N7)
     ∷ refusesBy 18 (offer (record { 0 = 2 }) 2) (boxed (0 ∷ 0 ∷ []) (settledAt 0))
@@ -246,9 +249,17 @@ Imports =
     Lengths first
     (refl, (refl, (refl, (refl, (refl, (refl, (refl, (refl, (refl, (refl, (refl, (refl, (refl, (refl, tt))))))))))))))
 
+-- 17 "before 11" (document 02, N7): of an offer, a fetch and a list, where both conditions hold
+abbrev crowded : Call → Option Reason
+crowded c = firstOf (chain c) (λ r. eqb (numberOf r) 11 || eqb (numberOf r) 17)
+
+Crowded : (crowded (offer (record { 0 = 0 }) 1) ≡ some importFull) × ((crowded (fetch (record { 0 = 0 }) 1) ≡ some importFull) × (crowded (offerList (0 ∷ []) 1) ≡ some importFull))
+unfolding firstOf
+Crowded = Imports first (refl, (refl, refl))
+
 Page-refusals : AllHold page-refusals
 unfolding known
-Page-refusals = Imports first (refl, (refl, (refl, (refl, (refl, (refl, (refl, (refl, (refl, (refl, (refl, (refl, (refl, (refl, (refl, tt)))))))))))))))
+Page-refusals = Crowded first (refl, (refl, (refl, (refl, (refl, (refl, (refl, (refl, (refl, (refl, (refl, (refl, (refl, (refl, (refl, tt)))))))))))))))
 
 pub sized-one : Sized one (fresh one (textOf 49 50) .images)
 unfolding known textOf
@@ -297,6 +308,9 @@ Edge-refusals : AllHold edge-refusals
 unfolding known textOf
 Edge-refusals =
     Call-refusals first counted _ _ _ _ refl refl
+    also counted _ _ _ _ refl refl
+    also counted _ _ _ _ refl refl
+    also counted _ _ _ _ refl refl
     also counted _ _ _ _ refl refl
     also counted _ _ _ _ refl refl
     also counted _ _ _ _ refl refl

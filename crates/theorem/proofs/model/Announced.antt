@@ -8,8 +8,8 @@ use lib.ListN.{length, length-append}
 use lib.Dec.{eqb}
 use Rattle.record.specs.Record.{largestStamp}
 use Rattle.layout.proofs.Booleans.{Told, told, told-true, told-false}
-use Rattle.protocol.proofs.model.Base.{upd, metaNo}
-use Rattle.protocol.proofs.model.Model.{Row, Model, Plain, Ready, same-path, stored, opened}
+use Rattle.laws.proofs.model.Base.{upd, metaNo}
+use Rattle.laws.proofs.model.Model.{Row, Model, Plain, Ready, same-path, stored, opened}
 use Rattle.theorem.proofs.model.Moves.{Opens, opens-ready}
 
 -- with another newest stamp

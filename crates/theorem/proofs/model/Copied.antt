@@ -5,9 +5,9 @@ use mathlib.Core.Logic.{_≢_}
 use mathlib.Core.Bool.{true, false}
 use mathlib.Core.List.{List·Memᴰ, Memᴰ·cast}
 use native.Mathlib.Decide.{ℕ-discrete}
-use Rattle.protocol.proofs.model.Base.{upd, has, upd-same, upd-other}
-use Rattle.protocol.proofs.model.Model.{Row, valid, dirtyRow, openRow, blockOf, cleaned, Model, Plain, copied, Ready}
-use Rattle.protocol.proofs.model.Rows.{cleaned-valid, cleaned-block, cleaned-open, dirty-valid}
+use Rattle.laws.proofs.model.Base.{upd, has, upd-same, upd-other}
+use Rattle.laws.proofs.model.Model.{Row, valid, dirtyRow, openRow, blockOf, cleaned, Model, Plain, copied, Ready}
+use Rattle.laws.proofs.model.Rows.{cleaned-valid, cleaned-block, cleaned-open, dirty-valid}
 
 module _ (x : Model) (p : Plain) (R : Ready x p) (s : ℕ) (was-dirty : dirtyRow (x .row s) ≡ true) (was-shut : openRow (x .row s) ≡ false) where
   keeps {ℓ} : {A : Type ℓ} (f : Row → A) → ((r : Row) → f (cleaned r) ≡ f r) → (t : ℕ)

@@ -4,8 +4,8 @@ use mathlib.Core.Path.{_≡_, refl, sym, _∙_}
 use mathlib.Core.Bool.{false, not}
 use mathlib.Core.List.{List, [], _∷_, List·Memᴰ}
 use Rattle.layout.proofs.Booleans.{clash}
-use Rattle.protocol.proofs.model.Base.{has-nil}
-use Rattle.protocol.proofs.model.Model.{shut, Model, Plain, Ready, Mending, empty}
+use Rattle.laws.proofs.model.Base.{has-nil}
+use Rattle.laws.proofs.model.Model.{shut, Model, Plain, Ready, Mending, empty}
 use Rattle.theorem.proofs.model.View.{view}
 use Rattle.theorem.proofs.model.Reopened.{fixed, finished-allowed, finished-ready}
 

@@ -8,9 +8,9 @@ use native.Mathlib.Omega.{arith}
 use lib.ListN.{length}
 use lib.Dec.{eqb}
 use Rattle.layout.proofs.Booleans.{Told, told, told-true, told-false, clash}
-use Rattle.protocol.proofs.model.Base.{has, metaNo}
-use Rattle.protocol.proofs.model.Model.{Row, valid, dirtyRow, openRow, blockOf, Model, Plain, stored, flushed, Ready, settle}
-use Rattle.protocol.proofs.model.Rows.{dirty-valid}
+use Rattle.laws.proofs.model.Base.{has, metaNo}
+use Rattle.laws.proofs.model.Model.{Row, valid, dirtyRow, openRow, blockOf, Model, Plain, stored, flushed, Ready, settle}
+use Rattle.laws.proofs.model.Rows.{dirty-valid}
 
 module _ (x : Model) (p : Plain) (R : Ready x p) where
   -- a block with no closed row is on the disk

@@ -9,9 +9,9 @@ use native.Mathlib.Decide.{ℕ-discrete}
 use lib.ListN.{length}
 use lib.Dec.{eqb}
 use Rattle.layout.proofs.Booleans.{Told, told, told-true, told-false, clash}
-use Rattle.protocol.proofs.model.Base.{keep-window, upd, has, without, upd-same, upd-other, has-keep-in, has-keep-out, length-keep, length-keep-lt, not-same, not-other}
-use Rattle.protocol.proofs.model.Model.{Row, valid, dirtyRow, openRow, blockOf, shut, Model, Plain, landed, Ready, count, count-le}
-use Rattle.protocol.proofs.model.Rows.{shut-valid, shut-block, shut-dirty, shut-open}
+use Rattle.laws.proofs.model.Base.{keep-window, upd, has, without, upd-same, upd-other, has-keep-in, has-keep-out, length-keep, length-keep-lt, not-same, not-other}
+use Rattle.laws.proofs.model.Model.{Row, valid, dirtyRow, openRow, blockOf, shut, Model, Plain, landed, Ready, count, count-le}
+use Rattle.laws.proofs.model.Rows.{shut-valid, shut-block, shut-dirty, shut-open}
 
 module _
     (x : Model)

@@ -6,9 +6,9 @@ use native.Mathlib.Omega.{arith}
 use lib.ListN.{length}
 use lib.Dec.{eqb}
 use Rattle.layout.proofs.Booleans.{Told, told, told-true, told-false, clash}
-use Rattle.protocol.proofs.model.Base.{keep-window, has, metaNo, off, has-keep-in, has-keep-out, length-keep-lt, eqb-same}
-use Rattle.protocol.proofs.model.Model.{Row, valid, dirtyRow, openRow, blockOf, shut, revived, Model, Plain, Stored, Mending, reopened, mended}
-use Rattle.protocol.proofs.model.Rows.{shut-valid, shut-block, shut-dirty, shut-shut}
+use Rattle.laws.proofs.model.Base.{keep-window, has, metaNo, off, has-keep-in, has-keep-out, length-keep-lt, eqb-same}
+use Rattle.laws.proofs.model.Model.{Row, valid, dirtyRow, openRow, blockOf, shut, revived, Model, Plain, Stored, Mending, reopened, mended}
+use Rattle.laws.proofs.model.Rows.{shut-valid, shut-block, shut-dirty, shut-shut}
 
 -- a reopening leaves a mending box (or, with nothing pending, what Reopened calls finished)
 pub reopened-mending : (x : Model) (p : Plain) → Stored x p → Mending (reopened x) p

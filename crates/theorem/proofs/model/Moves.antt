@@ -9,9 +9,9 @@ use lib.ListN.{length}
 use Rattle.record.specs.Record.{largestStamp}
 use Rattle.theorem.proofs.model.Reopened.{fixed}
 use Rattle.layout.proofs.Booleans.{clash}
-use Rattle.protocol.proofs.model.Base.{upd, upd-same, upd-other}
-use Rattle.protocol.proofs.model.Model.{Page, Row, valid, dirtyRow, openRow, blockOf, Model, Plain, Ready, landed, copied, opened}
-use Rattle.protocol.proofs.model.Rows.{dirty-valid}
+use Rattle.laws.proofs.model.Base.{upd, upd-same, upd-other}
+use Rattle.laws.proofs.model.Model.{Page, Row, valid, dirtyRow, openRow, blockOf, Model, Plain, Ready, landed, copied, opened}
+use Rattle.laws.proofs.model.Rows.{dirty-valid}
 use Rattle.theorem.proofs.model.View.{at}
 use Rattle.theorem.proofs.model.Opened.{opened-ready}
 use Rattle.theorem.proofs.model.Landed.{landed-ready}

@@ -11,9 +11,9 @@ use lib.Dec.{eqb}
 use borrow.Author.Tests.{eqb-true}
 use Rattle.record.specs.Record.{largestStamp}
 use Rattle.layout.proofs.Booleans.{Told, told, told-true, told-false, clash}
-use Rattle.protocol.proofs.model.Base.{upd, has, metaNo, upd-same, upd-other, has-snoc, has-snoc-other, eqb-same, Window, snoc-window}
-use Rattle.protocol.proofs.model.Rows.{dirty-valid}
-use Rattle.protocol.proofs.model.Model.{Row, valid, dirtyRow, openRow, blockOf, Model, Plain, stored, opened, Ready}
+use Rattle.laws.proofs.model.Base.{upd, has, metaNo, upd-same, upd-other, has-snoc, has-snoc-other, eqb-same, Window, snoc-window}
+use Rattle.laws.proofs.model.Rows.{dirty-valid}
+use Rattle.laws.proofs.model.Model.{Row, valid, dirtyRow, openRow, blockOf, Model, Plain, stored, opened, Ready}
 
 module _
     (x : Model)

@@ -5,9 +5,9 @@ use mathlib.Core.Logic.{_≢_}
 use mathlib.Core.Bool.{Bool, true, false, cond}
 use mathlib.Core.Option.{Option, some, none}
 use Rattle.layout.proofs.Booleans.{Told, told, told-true, told-false, clash}
-use Rattle.protocol.proofs.model.Base.{has}
-use Rattle.protocol.proofs.model.Model.{Row, valid, openRow, blockOf, shut, revived, Model, Plain, Ready, Mending, reopened, mended}
-use Rattle.protocol.proofs.model.Rows.{open-valid, shut-valid, shut-block, shut-open}
+use Rattle.laws.proofs.model.Base.{has}
+use Rattle.laws.proofs.model.Model.{Row, valid, openRow, blockOf, shut, revived, Model, Plain, Ready, Mending, reopened, mended}
+use Rattle.laws.proofs.model.Rows.{open-valid, shut-valid, shut-block, shut-open}
 use Rattle.theorem.proofs.model.View.{holds, holds-is, find, Found, found, at, nowhere, view, viewAt}
 
 -- the slot that a look-up names: of a block that is cached and not open

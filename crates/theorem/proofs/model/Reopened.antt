@@ -7,9 +7,9 @@ use mathlib.Core.List.{[], _∷_, List·Memᴰ, List·Memᴰ·head, Memᴰ·cast
 use mathlib.Core.Option.{Option}
 use native.Mathlib.Omega.{arith}
 use Rattle.layout.proofs.Booleans.{Told, told, told-true, told-false, clash}
-use Rattle.protocol.proofs.model.Base.{nil-window, has, has-nil}
-use Rattle.protocol.proofs.model.Model.{valid, dirtyRow, openRow, blockOf, shut, Model, Plain, Ready, Stored}
-use Rattle.protocol.proofs.model.Rows.{dirty-valid, shut-valid, shut-block, shut-dirty, shut-open}
+use Rattle.laws.proofs.model.Base.{nil-window, has, has-nil}
+use Rattle.laws.proofs.model.Model.{valid, dirtyRow, openRow, blockOf, shut, Model, Plain, Ready, Stored}
+use Rattle.laws.proofs.model.Rows.{dirty-valid, shut-valid, shut-block, shut-dirty, shut-open}
 use Rattle.theorem.proofs.model.View.{Found, found, at, nowhere, view, viewAt}
 
 -- a ready box may be cut at any time

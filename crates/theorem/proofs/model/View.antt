@@ -9,9 +9,9 @@ use native.Mathlib.Decide.{ℕ-discrete}
 use lib.Dec.{eqb}
 use borrow.Author.Tests.{eqb-true}
 use Rattle.layout.proofs.Booleans.{Told, told, told-true, told-false, clash}
-use Rattle.protocol.proofs.model.Base.{eqb-same}
-use Rattle.protocol.proofs.model.Model.{Row, valid, openRow, blockOf, Model, Plain, Page, Ready}
-use Rattle.protocol.proofs.model.Rows.{dirty-valid}
+use Rattle.laws.proofs.model.Base.{eqb-same}
+use Rattle.laws.proofs.model.Model.{Row, valid, openRow, blockOf, Model, Plain, Page, Ready}
+use Rattle.laws.proofs.model.Rows.{dirty-valid}
 
 abbrev pub holds : Row → ℕ → Bool
 holds r b = valid r && eqb (blockOf r) b

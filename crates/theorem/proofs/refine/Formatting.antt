@@ -37,8 +37,8 @@ use Rattle.protocol.specs.Events.{steps, formatted}
 use Rattle.protocol.specs.Beside.{WholeFormat}
 use Rattle.record.proofs.WindowLaws.{length-array, zero-past}
 use Rattle.record.proofs.CallerLaws.{zeros-test}
-use Rattle.protocol.proofs.refine.Tables.{each-of}
-use Rattle.protocol.proofs.Judged.{passed, accepted}
+use Rattle.laws.proofs.refine.Tables.{each-of}
+use Rattle.laws.proofs.Judged.{passed, accepted}
 
 -- a table of free rows
 abbrev pub freeTable : Label → List ℕ

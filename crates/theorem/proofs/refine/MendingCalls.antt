@@ -21,23 +21,23 @@ use Rattle.protocol.specs.Calls.{decided}
 use Rattle.protocol.specs.ReferenceDisk.{Disk, durable, fed}
 use Rattle.protocol.specs.Events.{World, readsIf, readOf, called}
 use Rattle.layout.proofs.Booleans.{clash}
-use Rattle.protocol.proofs.model.Base.{has, metaNo, eqb-same, length-keep-lt}
-use Rattle.protocol.proofs.model.Model as model
-use Rattle.protocol.proofs.model.Model.{Model, Plain, Stored, Mending, mended}
-use Rattle.protocol.proofs.model.Rows.{open-valid}
+use Rattle.laws.proofs.model.Base.{has, metaNo, eqb-same, length-keep-lt}
+use Rattle.laws.proofs.model.Model as model
+use Rattle.laws.proofs.model.Model.{Model, Plain, Stored, Mending, mended}
+use Rattle.laws.proofs.model.Rows.{open-valid}
 use Rattle.theorem.proofs.model.View as seen
 use Rattle.theorem.proofs.model.Reopened.{ready-stored, fixed}
 use Rattle.theorem.proofs.model.Mended.{reopened-mending, mended-mending}
 use Rattle.theorem.proofs.model.Finished.{over-ready, over-allowed}
-use Rattle.protocol.proofs.refine.Windows.{nums, length-nums, has-nums, nums-off}
+use Rattle.laws.proofs.refine.Windows.{nums, length-nums, has-nums, nums-off}
 use Rattle.theorem.proofs.refine.Performed.{after, storedCore, stored-shape, mended-abs, mends-box}
 use Rattle.record.proofs.RecordLaws.{window-in}
 use Rattle.theorem.proofs.refine.ReadyCalls.{calledAs, called-as, worldOf}
 use Rattle.theorem.proofs.refine.Reopens.{reopenedCore, reopen-judged, reopen-box, reopen-shape, reopen-abs}
 use Rattle.theorem.proofs.refine.Passes.{mending-left, step-judged, pending-rule, some-pending}
 use Rattle.theorem.proofs.refine.Views.{read-view}
-use Rattle.protocol.proofs.refine.Callers.{mended-kept}
-use Rattle.protocol.proofs.refine.Abstract.{Core, phaseFor, boxOfCore, abs, ImagesKept, Shape, Agrees, Phased, is-ready, is-mending, Inv}
+use Rattle.laws.proofs.refine.Callers.{mended-kept}
+use Rattle.laws.proofs.refine.Abstract.{Core, phaseFor, boxOfCore, abs, ImagesKept, Shape, Agrees, Phased, is-ready, is-mending, Inv}
 
 -- the images of either phase
 pub phased-stored : (x : Model) (p : Plain) → Phased x p → Stored x p
@@ -159,9 +159,9 @@ module _ (l : Label) (k : Core) (S : Shape l k) (p : Plain) (M : Mending (abs l 
   mended-here = mended-mending (abs l k) p M (lowestPage (k .window)) (pend .slot .0) (unfold abs in pend-has)
       (unfold metaNo in (pend .onto))
 
-  rest-rule : Rattle.protocol.proofs.model.Base.Window (l .slots) (nums (offPage (lowestPage (k .window)) (k .window)))
+  rest-rule : Rattle.laws.proofs.model.Base.Window (l .slots) (nums (offPage (lowestPage (k .window)) (k .window)))
   rest-rule = rw (nums-off (lowestPage (k .window)) (k .window))
-      (Rattle.protocol.proofs.model.Base.keep-window _ (l .slots) (nums (k .window)) (pending-rule l k S p M on))
+      (Rattle.laws.proofs.model.Base.keep-window _ (l .slots) (nums (k .window)) (pending-rule l k S p M on))
 
   pub mended-core-shape : Shape l (mendedCore k)
   mended-core-shape =

@@ -16,20 +16,20 @@ use Rattle.protocol.specs.Rows.{setRow, openRows}
 use Rattle.record.specs.Callers.{callerArray}
 use Rattle.record.specs.Record.{labelIn, windowIn, callersIn, largestStamp}
 use Rattle.protocol.specs.Box.{Box}
-use Rattle.protocol.proofs.model.Base.{upd, metaNo}
-use Rattle.protocol.proofs.model.Model as model
-use Rattle.protocol.proofs.model.Model.{Row, Model, Plain, blockOf, stored, opened}
+use Rattle.laws.proofs.model.Base.{upd, metaNo}
+use Rattle.laws.proofs.model.Model as model
+use Rattle.laws.proofs.model.Model.{Row, Model, Plain, blockOf, stored, opened}
 use Rattle.theorem.proofs.model.Moves.{Opens}
 use Rattle.theorem.proofs.model.Announced.{restamped, Chain, none-yet, one-more, chain-ready, chain-spare, chain-rest}
-use Rattle.protocol.proofs.refine.Windows.{nums, length-nums, nums-append, nums-one}
-use Rattle.protocol.proofs.refine.Flags.{rowOf}
-use Rattle.protocol.proofs.refine.Tables.{rowAt, Rows, set-at, at-block, at-valid}
-use Rattle.protocol.proofs.refine.Conditions.{Held}
-use Rattle.protocol.proofs.refine.Abstract.{Core, boxOfCore, abs, CallersKept, Shape, ready-sound}
-use Rattle.protocol.proofs.refine.Callers.{joined-kept}
+use Rattle.laws.proofs.refine.Windows.{nums, length-nums, nums-append, nums-one}
+use Rattle.laws.proofs.refine.Flags.{rowOf}
+use Rattle.laws.proofs.refine.Tables.{rowAt, Rows, set-at, at-block, at-valid}
+use Rattle.laws.proofs.refine.Conditions.{Held}
+use Rattle.laws.proofs.refine.Abstract.{Core, boxOfCore, abs, CallersKept, Shape, ready-sound}
+use Rattle.laws.proofs.refine.Callers.{joined-kept}
 use Rattle.record.proofs.RecordLaws.{window-in}
-use Rattle.protocol.proofs.Sound.{Sound, room}
-use Rattle.protocol.proofs.Does.{Absent, Opening, Openings, opens-one, opens-more, later, grown-window, openings-sound}
+use Rattle.laws.proofs.Sound.{Sound, room}
+use Rattle.laws.proofs.Does.{Absent, Opening, Openings, opens-one, opens-more, later, grown-window, openings-sound}
 
 -- a slot that holds a block, in the model
 pub held-row : {l : Label} {t : List ℕ} → Rows l t → {b s : ℕ} → Held l t b s

@@ -19,23 +19,23 @@ use Rattle.layout.specs.Window.{arrayOf}
 use Rattle.protocol.specs.Plan.{step, flush, lookUp, view, flushing, plan, storesMeta, Call}
 use Rattle.record.specs.Rule.{stepsTest}
 use Rattle.protocol.specs.Judge.{isEmpty, agreeTest, test, judged, pageLengthTest, askedFirst}
-use Rattle.protocol.proofs.model.Base as base
+use Rattle.laws.proofs.model.Base as base
 use Rattle.protocol.specs.Kinds.{Aim, aService, kind}
 use Rattle.layout.proofs.Booleans.{Told, told, told-true, told-false, clash}
-use Rattle.protocol.proofs.model.Base.{has, Window}
-use Rattle.protocol.proofs.model.Model as model
-use Rattle.protocol.proofs.model.Model.{Row, Plain, Mending, openRow, revived}
-use Rattle.protocol.proofs.model.Rows.{open-valid, shut-open}
-use Rattle.protocol.proofs.refine.Windows.{nums, length-nums, has-nums, empty-nums, some-length}
-use Rattle.protocol.proofs.refine.Flags.{rowOf, Flags, f0, f1, f3, f5, f7, f9, f11, f13, f15, LegalRow}
-use Rattle.protocol.proofs.refine.Tables.{rowAt, each-of, at-open}
-use Rattle.protocol.proofs.Judged.{NoneHold, accepted}
-use Rattle.protocol.proofs.Accepted.{Legal, legal-record, legal-lengths, legal-rows, legal-first}
+use Rattle.laws.proofs.model.Base.{has, Window}
+use Rattle.laws.proofs.model.Model as model
+use Rattle.laws.proofs.model.Model.{Row, Plain, Mending, openRow, revived}
+use Rattle.laws.proofs.model.Rows.{open-valid, shut-open}
+use Rattle.laws.proofs.refine.Windows.{nums, length-nums, has-nums, empty-nums, some-length}
+use Rattle.laws.proofs.refine.Flags.{rowOf, Flags, f0, f1, f3, f5, f7, f9, f11, f13, f15, LegalRow}
+use Rattle.laws.proofs.refine.Tables.{rowAt, each-of, at-open}
+use Rattle.laws.proofs.Judged.{NoneHold, accepted}
+use Rattle.laws.proofs.Accepted.{Legal, legal-record, legal-lengths, legal-rows, legal-first}
 use Rattle.record.proofs.RecordLaws.{window-in}
-use Rattle.protocol.proofs.refine.Abstract.{Core, phaseFor, boxOfCore, abs, Shape, ready-sound}
-use Rattle.protocol.proofs.Sound.{Sound, sound-agree}
+use Rattle.laws.proofs.refine.Abstract.{Core, phaseFor, boxOfCore, abs, Shape, ready-sound}
+use Rattle.laws.proofs.Sound.{Sound, sound-agree}
 use Rattle.record.proofs.Each.{listed-same}
-use Rattle.protocol.proofs.why.RowsRules.{agree-same}
+use Rattle.laws.proofs.why.RowsRules.{agree-same}
 
 -- a legal row that is free is zero
 free-zero : {l : Label} {b f : ℕ} → LegalRow l b f → rowOf b (f % 8) ≡ Row.free → (b ≡ 0) × (f ≡ 0)

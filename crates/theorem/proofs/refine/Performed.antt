@@ -28,16 +28,16 @@ use Rattle.protocol.specs.Plan.{Move, uses, usesAll, announces, lands, copies, 
 use Rattle.protocol.specs.Perform.{confirmed, landedFlags, landedState, usedAll, perform}
 use Rattle.protocol.specs.Judge.{isEmpty}
 use Rattle.record.proofs.RecordLaws.{window-in}
-use Rattle.protocol.proofs.model.Base as base
-use Rattle.protocol.proofs.model.Base.{upd, upd-same, upd-other, Window, metaNo}
-use Rattle.protocol.proofs.model.Model as model
-use Rattle.protocol.proofs.model.Model.{Row, blockOf, shut, cleaned, stored, landed, copied, mended, same-path}
-use Rattle.protocol.proofs.refine.Windows.{keep-all, nums, nums-off, nums-without, empty-nums}
-use Rattle.protocol.proofs.refine.Flags.{rowOf, Changed, changed-row, changed-clean, changed-used, changed-landed}
-use Rattle.protocol.proofs.refine.Tables.{rowAt, Rows, flags-at, flags-rows, at-open, at-block}
-use Rattle.protocol.proofs.refine.Sweeps.{Alike, alike-flags, alike-same}
+use Rattle.laws.proofs.model.Base as base
+use Rattle.laws.proofs.model.Base.{upd, upd-same, upd-other, Window, metaNo}
+use Rattle.laws.proofs.model.Model as model
+use Rattle.laws.proofs.model.Model.{Row, blockOf, shut, cleaned, stored, landed, copied, mended, same-path}
+use Rattle.laws.proofs.refine.Windows.{keep-all, nums, nums-off, nums-without, empty-nums}
+use Rattle.laws.proofs.refine.Flags.{rowOf, Changed, changed-row, changed-clean, changed-used, changed-landed}
+use Rattle.laws.proofs.refine.Tables.{rowAt, Rows, flags-at, flags-rows, at-open, at-block}
+use Rattle.laws.proofs.refine.Sweeps.{Alike, alike-flags, alike-same}
 use Rattle.theorem.proofs.refine.Stores.{put-kept, put-entry, put-newest, put-page, data-kept, data-metas, data-page, disk-kept, disk-page}
-use Rattle.protocol.proofs.refine.Abstract.{Core, phaseFor, boxOfCore, entryRow, abs, CallersKept, Shape}
+use Rattle.laws.proofs.refine.Abstract.{Core, phaseFor, boxOfCore, entryRow, abs, CallersKept, Shape}
 
 -- the box that a move leaves
 abbrev pub after : Label → Core → Move → Box

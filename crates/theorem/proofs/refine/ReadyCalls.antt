@@ -27,21 +27,21 @@ use Rattle.protocol.specs.Judge.{Reason, judged, isReady}
 use Rattle.protocol.specs.Calls.{decided, effectOf}
 use Rattle.protocol.specs.ReferenceDisk.{Disk, durable, written, fedCall, fed}
 use Rattle.protocol.specs.Events.{World, mayFinish, readsIf, called}
-use Rattle.protocol.proofs.model.Base.{upd}
-use Rattle.protocol.proofs.model.Model as model
-use Rattle.protocol.proofs.model.Model.{Plain, dirtyRow, openRow, settle, stored, opened, flushed, landed}
-use Rattle.protocol.proofs.model.Rows.{dirty-valid}
+use Rattle.laws.proofs.model.Base.{upd}
+use Rattle.laws.proofs.model.Model as model
+use Rattle.laws.proofs.model.Model.{Plain, dirtyRow, openRow, settle, stored, opened, flushed, landed}
+use Rattle.laws.proofs.model.Rows.{dirty-valid}
 use Rattle.theorem.proofs.model.Moves.{Copies, Lands, landing as modelLanding, copies-ready, lands-ready, fetch-ready}
 use Rattle.theorem.proofs.model.Flushed.{flushed-ready, settled-ready}
-use Rattle.protocol.proofs.refine.Windows.{length-nums, distinct-nums}
-use Rattle.protocol.proofs.refine.Tables.{rowAt, at-open, at-valid, at-dirty}
-use Rattle.protocol.proofs.refine.Sweeps.{Alike}
-use Rattle.protocol.proofs.refine.Conditions.{Held, is-dirty}
-use Rattle.protocol.proofs.Sound.{Sound, writing-is}
-use Rattle.protocol.proofs.Does.{Openings, Copying, Quiet, Does, does-nothing, does-use, does-use-all, does-announce, does-copy, does-land, does-fetch, does-rest, does-confirm, openings-sound}
+use Rattle.laws.proofs.refine.Windows.{length-nums, distinct-nums}
+use Rattle.laws.proofs.refine.Tables.{rowAt, at-open, at-valid, at-dirty}
+use Rattle.laws.proofs.refine.Sweeps.{Alike}
+use Rattle.laws.proofs.refine.Conditions.{Held, is-dirty}
+use Rattle.laws.proofs.Sound.{Sound, writing-is}
+use Rattle.laws.proofs.Does.{Openings, Copying, Quiet, Does, does-nothing, does-use, does-use-all, does-announce, does-copy, does-land, does-fetch, does-rest, does-confirm, openings-sound}
 use Rattle.theorem.proofs.refine.Performed.{after, tabled-abs, tabled-shape, uses-box, all-box, uses-alike, storedCore, stored-shape, stored-abs, announces-box, confirms-box, leftWindow, leftCallers, landedCore, lands-box, lands-shape, lands-abs, copiedCore, copies-box, copies-shape, copies-abs}
-use Rattle.protocol.proofs.refine.Abstract.{Core, boxOfCore, abs, CallersKept, Shape, ready-sound, Agrees, is-ready, Inv}
-use Rattle.protocol.proofs.refine.Callers.{left-kept}
+use Rattle.laws.proofs.refine.Abstract.{Core, boxOfCore, abs, CallersKept, Shape, ready-sound, Agrees, is-ready, Inv}
+use Rattle.laws.proofs.refine.Callers.{left-kept}
 use Rattle.theorem.proofs.refine.Openings.{held-row, Last, last}
 use Rattle.theorem.proofs.model.Announced.{announced-ready}
 use Rattle.record.specs.Callers.{callerArray}

@@ -28,19 +28,19 @@ use Rattle.protocol.specs.Recovery.{labelRead, labelAt, metasOf, entryIn, newes
 use Rattle.protocol.specs.Plan.{reopen, recovers}
 use Rattle.protocol.specs.Perform.{perform}
 use Rattle.protocol.specs.Judge.{labelTest, lengthsTest, lengthTest, test, judged, isEmpty}
-use Rattle.protocol.proofs.model.Base.{has}
-use Rattle.protocol.proofs.model.Model as model
-use Rattle.protocol.proofs.model.Model.{Row, Plain, Stored, dirtyRow, openRow, blockOf, revived, reopened, same-path}
-use Rattle.protocol.proofs.model.Rows.{open-valid}
-use Rattle.protocol.proofs.refine.Windows.{nums, has-nums, empty-nums}
-use Rattle.protocol.proofs.refine.Flags.{rowOf}
-use Rattle.protocol.proofs.refine.Tables.{rowAt, rowAt-out, Rows}
-use Rattle.protocol.proofs.refine.Metas.{length-metas}
-use Rattle.protocol.proofs.refine.Entries.{length-rows, rows-block, rows-flags, LegalEntry, legal-entry, SameEntry, same-entry, entry-in, recovered-row, recovered-legal, each-legal, stamps-differ, none-twice, all-open}
-use Rattle.protocol.proofs.Judged.{accepted}
+use Rattle.laws.proofs.model.Base.{has}
+use Rattle.laws.proofs.model.Model as model
+use Rattle.laws.proofs.model.Model.{Row, Plain, Stored, dirtyRow, openRow, blockOf, revived, reopened, same-path}
+use Rattle.laws.proofs.model.Rows.{open-valid}
+use Rattle.laws.proofs.refine.Windows.{nums, has-nums, empty-nums}
+use Rattle.laws.proofs.refine.Flags.{rowOf}
+use Rattle.laws.proofs.refine.Tables.{rowAt, rowAt-out, Rows}
+use Rattle.laws.proofs.refine.Metas.{length-metas}
+use Rattle.laws.proofs.refine.Entries.{length-rows, rows-block, rows-flags, LegalEntry, legal-entry, SameEntry, same-entry, entry-in, recovered-row, recovered-legal, each-legal, stamps-differ, none-twice, all-open}
+use Rattle.laws.proofs.Judged.{accepted}
 use Rattle.theorem.proofs.refine.Performed.{phase-empty}
-use Rattle.protocol.proofs.refine.Callers.{nobody-kept}
-use Rattle.protocol.proofs.refine.Abstract.{Core, boxOfCore, entryRow, abs, ImagesKept, Shape}
+use Rattle.laws.proofs.refine.Callers.{nobody-kept}
+use Rattle.laws.proofs.refine.Abstract.{Core, boxOfCore, entryRow, abs, ImagesKept, Shape}
 
 revived-free : (h : Bool) → revived h Row.free ≡ Row.free
 revived-free true = refl

@@ -24,14 +24,14 @@ use Rattle.protocol.specs.Recovery.{metasOf, entryIn, newestOf}
 use Rattle.protocol.specs.Rows.{valid}
 use Rattle.protocol.specs.Judge.{rowTest}
 use Rattle.layout.proofs.Booleans.{Told, told, told-true, told-false, and-parts}
-use Rattle.protocol.proofs.model.Base.{Window}
-use Rattle.protocol.proofs.model.Base as base
-use Rattle.protocol.proofs.model.Model.{Row}
-use Rattle.protocol.proofs.refine.Windows.{nums, length-nums, distinct-nums, below-nums}
-use Rattle.protocol.proofs.refine.Flags.{rowOf, LegalRow, row-legal}
-use Rattle.protocol.proofs.refine.Tables.{rowAt, rowAt-out, Rows}
-use Rattle.protocol.proofs.refine.Metas.{metas-put, metas-else, length-metas, entry-set, newest-set, stamp-most}
-use Rattle.protocol.proofs.refine.Abstract.{entryRow, Pages, ImagesKept}
+use Rattle.laws.proofs.model.Base.{Window}
+use Rattle.laws.proofs.model.Base as base
+use Rattle.laws.proofs.model.Model.{Row}
+use Rattle.laws.proofs.refine.Windows.{nums, length-nums, distinct-nums, below-nums}
+use Rattle.laws.proofs.refine.Flags.{rowOf, LegalRow, row-legal}
+use Rattle.laws.proofs.refine.Tables.{rowAt, rowAt-out, Rows}
+use Rattle.laws.proofs.refine.Metas.{metas-put, metas-else, length-metas, entry-set, newest-set, stamp-most}
+use Rattle.laws.proofs.refine.Abstract.{entryRow, Pages, ImagesKept}
 
 -- the row of slot s stands in the rows of its page
 module _ (l : Label) (table : List ℕ) (size : length table ≡ tableLength l) (p : ℕ) where

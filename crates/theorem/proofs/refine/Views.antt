@@ -22,16 +22,16 @@ use Rattle.protocol.specs.Calls.{effectOf, resultOf, viewPart, viewed, viewOf}
 use Rattle.protocol.specs.Events.{lent, readOf}
 use Rattle.protocol.specs.Demand3.{slotSaid}
 use Rattle.layout.proofs.Booleans.{Told, told, told-true, told-false}
-use Rattle.protocol.proofs.model.Model as model
-use Rattle.protocol.proofs.model.Model.{Plain, openRow, blockOf}
+use Rattle.laws.proofs.model.Model as model
+use Rattle.laws.proofs.model.Model.{Plain, openRow, blockOf}
 use Rattle.theorem.proofs.model.View as seen
 use Rattle.theorem.proofs.model.View.{Found, found, viewAt}
 use Rattle.theorem.proofs.model.Places.{shutAt}
 use Rattle.theorem.proofs.model.Places as places
-use Rattle.protocol.proofs.refine.Tables.{rowAt, at-open, at-block, at-valid}
-use Rattle.protocol.proofs.refine.Conditions.{Held, Stands, absent, is-clean, is-dirty, is-writing, is-fetching, stands}
+use Rattle.laws.proofs.refine.Tables.{rowAt, at-open, at-block, at-valid}
+use Rattle.laws.proofs.refine.Conditions.{Held, Stands, absent, is-clean, is-dirty, is-writing, is-fetching, stands}
 use Rattle.theorem.proofs.refine.Passes.{view-judged, look-judged}
-use Rattle.protocol.proofs.refine.Abstract.{Core, boxOfCore, abs, Shape}
+use Rattle.laws.proofs.refine.Abstract.{Core, boxOfCore, abs, Shape}
 
 -- the closed slot of a condition, and the page
 abbrev pub closedSlot : Condition → Option Slot

@@ -2,9 +2,9 @@ use mathlib.Core.Path.{_≡_, sym, _∙_}
 use mathlib.Core.Bool.{true}
 use borrow.Author.Tests.{not-true, not-false}
 use Rattle.layout.specs.declared.Block.{Block}
-use Rattle.c_record.specs.declared.Place.{Place}
+use Rattle.c_answers.specs.declared.Place.{Place}
 use Rattle.c_record.specs.Words.{isRecord}
-use Rattle.c_record.proofs.ClosedLaws.{record-length}
+use Rattle.c_answers.proofs.ClosedLaws.{record-length}
 use Rattle.ferjulm.proofs.ViewLaws.{view-stops, view-passes, no-view, on-view}
 use borrow.Author.Needs.{needs}
 use Rattle.ferjulm.proofs.view.ferjulm_view.Statement.{statement}

@@ -1,5 +1,5 @@
 use borrow.Author.Tests.{not-true, not-false}
-use Rattle.protocol.proofs.refine.Metas.{length-metas}
+use Rattle.laws.proofs.refine.Metas.{length-metas}
 use Rattle.image_rules.proofs.TwiceLaws.{once-none, once-more, found-twice, once-all, OnceBelow}
 use Prim.Native.Nat.{_+_, _-_, _%_, _≤_}
 use mathlib.Core.Path.{_≡_, refl, sym, _∙_}

@@ -1,5 +1,5 @@
 use Rattle.protocol.specs.Recovery.{metasOf}
-use Rattle.protocol.proofs.refine.Metas.{length-metas}
+use Rattle.laws.proofs.refine.Metas.{length-metas}
 use Rattle.stored.specs.Stored.{newestAt}
 use Rattle.stored.proofs.StoredLaws.{found, newest-bounded, pending-bounded}
 use Rattle.stored.proofs.RuleLaws.{passed}

@@ -1,7 +1,7 @@
 use lib.ListN.{length}
 use Rattle.protocol.specs.Recovery.{metasOf}
-use Rattle.protocol.proofs.refine.Metas.{length-metas}
-use Rattle.protocol.proofs.refine.Entries.{length-rows}
+use Rattle.laws.proofs.refine.Metas.{length-metas}
+use Rattle.laws.proofs.refine.Entries.{length-rows}
 use Rattle.stored.specs.Stored.{newestAt}
 use Rattle.stored.proofs.StoredLaws.{found, newest-bounded, pending-bounded}
 use Rattle.stored.proofs.RuleLaws.{passed}

@@ -6,7 +6,7 @@ use lib.ListN.{length, set, length-set}
 use borrow.Rule.Slice.PartMut.{putMid}
 use Rattle.layout.proofs.JudgeLaws.{length-firsts}
 use Rattle.protocol.specs.SlotMap.{letterAt}
-use Rattle.protocol.proofs.SlotMaps.{length-number}
+use Rattle.laws.proofs.SlotMaps.{length-number}
 use Rattle.slot_map.proofs.TextLaws.{number-length, letters-length, line-is}
 use borrow.Author.Needs.{needs}
 use Rattle.slot_map.proofs.text.put_line.Statement.{statement}

@@ -1,4 +1,4 @@
-use Rattle.protocol.proofs.refine.Metas.{length-metas}
+use Rattle.laws.proofs.refine.Metas.{length-metas}
 use Rattle.stored.proofs.StoredLaws.{pages-most, numbered-more, numbered-all}
 use Prim.Native.Nat.{_-_, _≤_, _<_}
 use mathlib.Core.Path.{_≡_, refl, sym}

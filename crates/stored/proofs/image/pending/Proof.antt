@@ -1,5 +1,5 @@
 use Rattle.protocol.specs.Recovery.{metasOf}
-use Rattle.protocol.proofs.refine.Metas.{length-metas}
+use Rattle.laws.proofs.refine.Metas.{length-metas}
 use Rattle.layout.specs.Window.{windowFrom}
 use Rattle.stored.proofs.StoredLaws.{page-read, legal-at, count-low, no-window, some-window}
 use Prim.Native.Nat.{_-_}

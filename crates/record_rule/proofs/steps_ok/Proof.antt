@@ -1,0 +1,43 @@
+use Rattle.layout.specs.Places.{metaPages}
+use native.Mathlib.Omega.{arith}
+use borrow.Author.Needs.{needs}
+use Rattle.record_rule.proofs.steps_ok.Statement.{statement}
+use Rattle.record_rule.proofs.steps_ok.Tie as tie
+
+enum-known-phase : tie.Need-enum-known-phase
+enum-known-phase c = search needs
+
+meta-pages-requires : tie.Need-meta-pages-requires
+meta-pages-requires c κs = search needs
+
+add-last : tie.Need-add-last
+unfolding metaPages
+add-last c = omega (arith, c .meta-pages .ensures)
+
+enum-told : tie.Need-enum-told
+enum-told c = search needs
+
+enum-told-2 : tie.Need-enum-told-2
+enum-told-2 c = search needs
+
+returns : tie.Need-returns
+returns c = rw (c .meta-pages .ensures, c .before .before .phase .given .1)
+
+returns-2 : tie.Need-returns-2
+returns-2 c = search needs
+
+returns-3 : tie.Need-returns-3
+returns-3 c = search needs
+
+pub steps-ok-spec : {M : Type 1} → statement M
+steps-ok-spec =
+    tie.close
+    (tie.spec
+    enum-known-phase
+    meta-pages-requires
+    add-last
+    enum-told
+    enum-told-2
+    returns
+    returns-2
+    returns-3)
