@@ -1,20 +1,23 @@
 -- What a slot's metadata page ends a run by.
 use Prim.Native.Nat.{ℕ, zero, suc, _+_, _-_}
 use mathlib.Core.Path.{_≡_, refl, sym, ap}
-use mathlib.Core.Logic.{_≢_}
+use mathlib.Core.Logic.{_≢_, ⊎-elim}
 use mathlib.Core.Bool.{Bool, true, false}
 use mathlib.Core.Option.{none}
 use native.Mathlib.Omega.{arith}
-use mathlib.Core.List.{List}
+use mathlib.Core.List.{List, [], _∷_}
 use lib.Dec.{eqb}
 use Rattle.layout.specs.declared.Slot.{Slot}
 use Rattle.layout.specs.declared.Block.{Block}
 use Rattle.protocol.specs.Plan.{onPage}
+use denote.Enum.Declared.{tagOf}
+use types.Run.{OneOf}
+use Rattle.turns.proofs.turn.Turn.{the-type}
 use Rattle.turns.specs.declared.turn.Turn.{Turn}
 use Rattle.turns.specs.declared.turn.Turn.the-variants.{Refused, Passes, Opens, CopiesOut}
 use Rattle.turns.specs.Turns.{spent}
 use Rattle.list_offer.specs.declared.Run.{Run}
-use Rattle.list_offer.specs.Runs.{pageOf, endOf, ended, openedIf, rowIf, runAfter, tableAfterTurn, endBy, stateAfter, pageAfter, rowAfter}
+use Rattle.list_offer.specs.Runs.{pageOf, endOf, ended, openedIf, rowIf, runAfter, tableAfterTurn, endBy}
 
 -- a page, where none was announced on yet, and where one was
 module _ (page p : ℕ) where
@@ -61,22 +64,8 @@ module _ (n : ℕ) (r : Run) (s : Slot) where
       go zero z = absurd (z refl)
       go (suc m) z = refl
 
--- a turn by which the run goes on, and one by which it ends
+-- a turn by which the run ends
 module _ (r : Run) (caller : ℕ) (b : Block) (t : List ℕ) where
-  pub run-goes : (T : Turn) → endBy T (r .page) (r .state .newest) ≡ 0
-      → runAfter T r caller
-      ≡ record { state = stateAfter T (r .state) caller; page = pageAfter T (r .page); places = r .places + 1; end = r .end }
-  run-goes (Refused n) e = absurd (omega arith)
-  run-goes Passes e = refl
-  run-goes (Opens s flags n hand) e = ap (λ (m : ℕ). openedIf m r s caller hand) e
-  run-goes (CopiesOut s n) e = absurd (omega arith)
-
-  pub table-goes : (T : Turn) → endBy T (r .page) (r .state .newest) ≡ 0 → tableAfterTurn T r b t ≡ rowAfter T (r .state) b t
-  table-goes (Refused n) e = refl
-  table-goes Passes e = refl
-  table-goes (Opens s flags n hand) e = ap (λ (m : ℕ). rowIf m r b s flags n t) e
-  table-goes (CopiesOut s n) e = refl
-
   pub run-ends : (T : Turn) → endBy T (r .page) (r .state .newest) ≢ 0 → runAfter T r caller ≡ ended (endBy T (r .page) (r .state .newest)) r
   run-ends (Refused n) e = refl
   run-ends Passes e = absurd (e refl)
@@ -88,3 +77,10 @@ module _ (r : Run) (caller : ℕ) (b : Block) (t : List ℕ) where
   table-ends Passes e = refl
   table-ends (Opens s flags n hand) e = sym (row-not _ r s b flags n t e)
   table-ends (CopiesOut s n) e = refl
+
+-- a turn that opens no slot, by which the run goes on: it passes
+pub goes-passes : (T : Turn) (page newest : ℕ) → OneOf (0 ∷ 1 ∷ 3 ∷ []) (tagOf the-type T) → endBy T page newest ≡ 0 → T ≡ Passes
+goes-passes (Refused n) page newest k e = absurd (omega arith)
+goes-passes Passes page newest k e = refl
+goes-passes (Opens s flags n hand) page newest k e = absurd (⊎-elim (λ w. omega arith) (λ v. ⊎-elim (λ w. omega arith) (λ w. omega arith) v) k)
+goes-passes (CopiesOut s n) page newest k e = absurd (omega arith)

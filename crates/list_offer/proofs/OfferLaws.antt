@@ -32,7 +32,7 @@ use Rattle.judging.specs.Fits.{FitsRecord}
 use Rattle.judging.proofs.JudgingLaws.{goes-on, ready-asks}
 use Rattle.judging.proofs.ServeLaws.{end, judged-on, refused-by, offer-judges, offers-begin, offers-judges}
 use Rattle.turns.specs.declared.turn.Turn.{Turn}
-use Rattle.turns.specs.Turns.{turned, spent}
+use Rattle.turns.specs.Turns.{crowdOf, turned, spent}
 use Rattle.turns.proofs.TurnLaws.{offer-turned}
 use Rattle.list_offer.specs.declared.Run.{Run}
 use Rattle.list_offer.specs.Runs.{Fair, pageOf, bare, placeTurn, offeredBy, offeredAs, announcesAny, refused13, Ended}
@@ -141,9 +141,9 @@ module _ (ssd hdd t : List ℕ) (r : Record) (blocks : List ℕ) (caller : ℕ) 
             at e p = ap (λ (T : Turn). left (turned T b caller x) (x .images)) (sym e) ∙ p
 
             go : Told (leb (r .label .blocks) (b .0)) → left (turned (placeTurn t r b caller) b caller x) (x .images) ≡ resultOf c x
-            go (told-true e) = at (turn-high t r b caller (leb-true _ _ e))
+            go (told-true e) = at (turn-high (labelIn r) t (r .hand) (crowdOf t r caller) b (leb-true _ _ e))
                 (refused-as c x blockTooHigh (asked ∙ first-yes _ blockTooHigh _ e))
-            go (told-false e) = at (turn-low t r b caller (leb-false _ _ e))
+            go (told-false e) = at (turn-low (labelIn r) t (r .hand) (crowdOf t r caller) b (leb-false _ _ e))
                 (ap (λ (f : Effect). left f (x .images)) (sym (offer-turned ssd hdd t r b caller (serves (leb-false _ _ e))) ∙ sym (low-same (leb-false _ _ e))))
 
       -- some place was: the first one is not declined, and what is announced goes out

@@ -33,11 +33,31 @@ use Rattle.sweeping.specs.Sweeps.{sweptOf, clearedFrom}
 use Rattle.sweeping.proofs.SweepLaws.{cleared-alike}
 use Rattle.turns.specs.declared.turn.Turn.{Turn}
 use Rattle.turns.specs.declared.turn.Turn.the-variants.{Refused, Passes, Opens, CopiesOut}
-use Rattle.turns.specs.Turns.{crowdOf, ifRoom, takeTurn, offerTurn, Performable}
+use Rattle.turns.specs.Turns.{Within, crowdOf, ifRoom, takeTurn, offerTurnAt, offerTurn, Performable}
 use Rattle.turns.proofs.SweepingLaws.{Found, stuck-all, swept-is, took-is, not-all, passed-is}
 use Rattle.turns.proofs.TurnLaws.{hand-low, crowd-import, crowd-full, crowd-none}
-use Rattle.list_offer.specs.Runs.{Fair, bare, placeTurn}
+use Rattle.list_offer.specs.Runs.{Fair, bare, placeTurnAt, placeTurn}
 use Rattle.list_offer.proofs.FairLaws.{fair-rows, fair-count, Opened}
+
+-- the slot that a block's condition names
+pub stands-within : {l : Label} {t : List ℕ} {b : ℕ} {k : Condition} → Stands l t b k → Within (l .slots) k
+stands-within (absent h) = tt
+stands-within (is-clean s H w d) = H .low
+stands-within (is-dirty s H w d) = H .low
+stands-within (is-writing s H w d) = H .low
+stands-within (is-fetching s H w d) = H .low
+
+-- the turn of a place: refused by 7, or by its condition
+module _ (l : Label) (t : List ℕ) (hand : Slot) (n : ℕ) (b : Block) where
+  by-block : {q : Bool} → leb (l .blocks) (b .0) ≡ q
+      → elim q [ true ↦ Refused 7 | false ↦ offerTurnAt l t hand n (conditionOf t b) ] ≡ placeTurnAt l t hand n b
+  by-block e = ap (λ (q : Bool). elim q [ true ↦ Refused 7 | false ↦ offerTurnAt l t hand n (conditionOf t b) ]) (sym e)
+
+  pub turn-high : l .blocks ≤ b .0 → Refused 7 ≡ placeTurnAt l t hand n b
+  turn-high h = by-block (le-leb (l .blocks) (b .0) h)
+
+  pub turn-low : b .0 < l .blocks → offerTurnAt l t hand n (conditionOf t b) ≡ placeTurnAt l t hand n b
+  turn-low h = by-block (lt-leb (l .blocks) (b .0) h)
 
 module _ (t : List ℕ) (r : Record) (b : Block) (caller : ℕ) where
   abbrev x : Box
@@ -171,18 +191,9 @@ module _ (t : List ℕ) (r : Record) (b : Block) (caller : ℕ) where
       high : declines x b caller k ≡ true
       high = rw e
 
-  -- the turn of a place: refused by 7, or by its condition
-  pub turn-high : r .label .blocks ≤ b .0 → Refused 7 ≡ placeTurn t r b caller
-  turn-high h = ap (λ (q : Bool). elim q [ true ↦ Refused 7 | false ↦ offerTurn t r caller (conditionOf t b) ])
-      (sym (le-leb (r .label .blocks) (b .0) h))
-
-  pub turn-low : b .0 < r .label .blocks → offerTurn t r caller (conditionOf t b) ≡ placeTurn t r b caller
-  turn-low h = ap (λ (q : Bool). elim q [ true ↦ Refused 7 | false ↦ offerTurn t r caller (conditionOf t b) ])
-      (sym (lt-leb (r .label .blocks) (b .0) h))
-
   pub place-turn : Fair t r → Placing (conditionOf t b) (placeTurn t r b caller)
   place-turn F = go (told (leb (r .label .blocks) (b .0)))
     where
       go : Told (leb (r .label .blocks) (b .0)) → Placing (conditionOf t b) (placeTurn t r b caller)
-      go (told-true e) = subst (λ (T : Turn). Placing (conditionOf t b) T) (turn-high (leb-true _ _ e)) (placing-high e (conditionOf t b))
-      go (told-false e) = subst (λ (T : Turn). Placing (conditionOf t b) T) (turn-low (leb-false _ _ e)) (placing F (leb-false _ _ e))
+      go (told-true e) = subst (λ (T : Turn). Placing (conditionOf t b) T) (turn-high (labelIn r) t (r .hand) (crowdOf t r caller) b (leb-true _ _ e)) (placing-high e (conditionOf t b))
+      go (told-false e) = subst (λ (T : Turn). Placing (conditionOf t b) T) (turn-low (labelIn r) t (r .hand) (crowdOf t r caller) b (leb-false _ _ e)) (placing F (leb-false _ _ e))

@@ -8,6 +8,7 @@ use mathlib.Core.Option.{Option, some, none}
 use native.Mathlib.Omega.{arith}
 use native.Mathlib.Decide.{ℕ-discrete}
 use native.Mathlib.Numerals.{add-one}
+use lib.Dec.{eqb}
 use lib.ListN.{length, getD, take, drop, length-append, drop-of-length-le}
 use borrow.Author.Tests.{eqb-true}
 use Rattle.layout.specs.declared.Slot.{Slot}
@@ -17,11 +18,11 @@ use Rattle.layout.proofs.PlaceLaws.{meta-of-low}
 use Rattle.layout.proofs.Booleans.{Told, told, told-true, told-false}
 use Rattle.layout.proofs.Loops.{left}
 use Rattle.record.specs.declared.Record.{Record}
-use Rattle.record.specs.Callers.{callerArray}
+use Rattle.record.specs.Callers.{openBy, callerArray}
 use Rattle.record.specs.Record.{labelIn, windowIn, callersIn}
 use Rattle.record.specs.Rule.{recordTest}
-use Rattle.record.proofs.CallerLaws.{take-callers}
-use Rattle.record.proofs.RecordLaws.{parts, window-length, callers-length, remade-same}
+use Rattle.record.proofs.CallerLaws.{by-more, take-callers}
+use Rattle.record.proofs.RecordLaws.{Parts, parts, window-length, callers-length, remade-same}
 use Rattle.protocol.specs.declared.Condition.{Condition}
 use Rattle.protocol.specs.Reply.{overwrite}
 use Rattle.protocol.specs.Rows.{setRow}
@@ -34,7 +35,7 @@ use Rattle.locating.specs.Places.{placesOf}
 use Rattle.sweeping.specs.Sweeps.{clearedFrom}
 use Rattle.turns.specs.declared.turn.Turn.{Turn}
 use Rattle.turns.specs.declared.turn.Turn.the-variants.{Opens}
-use Rattle.turns.specs.Turns.{spent}
+use Rattle.turns.specs.Turns.{heldBy, spent}
 use Rattle.list_offer.specs.declared.Run.{Run}
 use Rattle.list_offer.specs.Found.{bound, Found}
 use Rattle.list_offer.specs.Runs.{Fair, pageOf, begun, ended, passed, endOf, openedIf, rowIf, runAfter, tableAfterTurn, dealtRun, dealtTable, bare, offeredBy, offeredAs, announcesAny, refused13, Ended, Ran}
@@ -117,6 +118,33 @@ joined-callers r e s caller hand =
     let n : length (windowIn r ++ (s ∷ [])) ≡ length cs =
     length-append (windowIn r) (s ∷ []) ∙ ap (λ (m : ℕ). m + 1) (window-length r P ∙ sym (callers-length r P)) ∙ sym (length-append (callersIn r) (caller ∷ [])) in
     ap (λ (m : ℕ). take m (callerArray cs)) n ∙ take-callers cs
+
+-- how many slots count against its caller's most, then
+module _ (r : Record) (e : recordTest r ≡ true) where
+  pub held-more : (s : Slot) (caller : ℕ) (hand : Slot) → caller ≤ 1 → heldBy caller (joined s caller hand r) ≡ heldBy caller r + caller
+  unfolding openBy
+  held-more s zero hand k = refl
+  held-more s (suc zero) hand k = ap (openBy 1) (joined-callers r e s 1 hand) ∙ by-more 1 1 (callersIn r)
+  held-more s (suc (suc n)) hand k = absurd (omega arith)
+
+  by-most : (cs : List ℕ) → openBy 1 cs ≤ length cs
+  unfolding openBy
+  by-most [] = omega arith
+  by-most (c ∷ cs) = go (eqb c 1) (by-most cs)
+    where
+      go : (b : Bool) → openBy 1 cs ≤ length cs → elim b [ true ↦ suc (openBy 1 cs) | false ↦ openBy 1 cs ] ≤ length (c ∷ cs)
+      go true h = omega arith
+      go false h = omega arith
+
+  pub held-most : (caller : ℕ) → heldBy caller r ≤ 63
+  held-most caller = go (eqb caller 1)
+    where
+      P : Parts r
+      P = parts r e
+
+      go : (b : Bool) → elim b [ true ↦ openBy 1 (callersIn r) | false ↦ 0 ] ≤ 63
+      go true = omega (arith, by-most (callersIn r), callers-length r P, P .most)
+      go false = omega arith
 
 module _ (t₀ : List ℕ) (r₀ : Record) (blocks words : List ℕ) (caller : ℕ) where
   abbrev x : Box

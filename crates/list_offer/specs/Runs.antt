@@ -9,6 +9,7 @@ use lib.ListN.{length}
 use lib.Dec.{leb}
 use Rattle.layout.specs.declared.Slot.{Slot}
 use Rattle.layout.specs.declared.Block.{Block}
+use Rattle.layout.specs.declared.Label.{Label}
 use Rattle.layout.specs.Places.{tableLength, metaOf, metaPages}
 use Rattle.record.specs.declared.Record.{Record}
 use Rattle.record.specs.declared.Phase.the-variants.{Ready}
@@ -23,7 +24,7 @@ use Rattle.protocol.specs.Judge.{rowsTest}
 use Rattle.sweeping.specs.Sweeps.{clearedFrom}
 use Rattle.turns.specs.declared.turn.Turn.{Turn}
 use Rattle.turns.specs.declared.turn.Turn.the-variants.{Refused, Passes, Opens, CopiesOut}
-use Rattle.turns.specs.Turns.{offerTurn, spent}
+use Rattle.turns.specs.Turns.{crowdOf, offerTurnAt, spent}
 use Rattle.list_offer.specs.declared.Run.{Run}
 
 -- a table and a record that 3 to 6 do not refuse
@@ -87,35 +88,20 @@ tableAfterTurn Passes r b table = table
 tableAfterTurn (Opens s flags n hand) r b table = announcedTable r b s flags n table
 tableAfterTurn (CopiesOut s n) r b table = table
 
--- what a turn ends the run by; where it goes on (0), the record, the page's word and the table after it
+-- what a turn ends the run by; where it goes on, 0
 abbrev pub endBy : Turn → ℕ → ℕ → ℕ
 endBy (Refused n) page newest = 1
 endBy Passes page newest = 0
 endBy (Opens s flags n hand) page newest = endOf page newest (metaOf s)
 endBy (CopiesOut s n) page newest = 1
 
-abbrev pub stateAfter : Turn → Record → ℕ → Record
-stateAfter (Refused n) r caller = r
-stateAfter Passes r caller = r
-stateAfter (Opens s flags n hand) r caller = joined s caller hand r
-stateAfter (CopiesOut s n) r caller = r
-
-abbrev pub pageAfter : Turn → ℕ → ℕ
-pageAfter (Refused n) page = page
-pageAfter Passes page = page
-pageAfter (Opens s flags n hand) page = metaOf s + 1
-pageAfter (CopiesOut s n) page = page
-
-abbrev pub rowAfter : Turn → Record → Block → List ℕ → List ℕ
-rowAfter (Refused n) r b table = table
-rowAfter Passes r b table = table
-rowAfter (Opens s flags n hand) r b table = setRow (clearedFrom n (labelIn r) table (r .hand)) s b flags
-rowAfter (CopiesOut s n) r b table = table
-
 -- the turn of a place: 7 refuses it, or its condition in the running table says what it does
+abbrev pub placeTurnAt : Label → List ℕ → Slot → ℕ → Block → Turn
+placeTurnAt l table hand n b =
+    elim (leb (l .blocks) (b .0)) [ true ↦ Refused 7 | false ↦ offerTurnAt l table hand n (conditionOf table b) ]
+
 abbrev pub placeTurn : List ℕ → Record → Block → ℕ → Turn
-placeTurn table r b caller =
-    elim (leb (r .label .blocks) (b .0)) [ true ↦ Refused 7 | false ↦ offerTurn table r caller (conditionOf table b) ]
+placeTurn table r b caller = placeTurnAt (labelIn r) table (r .hand) (crowdOf table r caller) b
 
 abbrev pub dealtRun : List ℕ → Run → Block → ℕ → Run
 dealtRun table r b caller = runAfter (placeTurn table (r .state) b caller) r caller

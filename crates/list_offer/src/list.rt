@@ -1,8 +1,11 @@
-// The run of a list in memory, place after place.
+// The run of a list in memory, place after place. It changes one record where it stands: a record that is passed is copied.
 use crate::Run;
 use crate::deal;
 use layout::Block;
+use layout::places;
 use record::Record;
+use turns::turn;
+use turns::turn::Turn;
 ghost use mathlib.Core.Path.{_≡_};
 ghost use mathlib.Core.Bool.{true};
 ghost use Prim.Native.Nat.{_≤_};
@@ -22,24 +25,37 @@ pub fn run(table: &mut [u32], state: Record, blocks: &[u32], words: &[u32], call
     ensures { λ q. ⌜ Ran (refused13 (now (table .entry)) state (now (blocks .entry)) caller) (now (table .entry)) state (now (table .exit)) q (offeredAs (now (table .entry)) state (now (blocks .entry)) caller) ⌝ }
 {
     let n = blocks.len();
+    let mut mine = turn::held(state, caller);
     let mut running = state;
     let mut page: u32 = 0;
     let mut j: usize = 0;
     while j < n {
+        let l = running.label;
+        let hand = running.hand;
         let b = Block(blocks[j]);
-        let turn = deal::decide(table, running, b, words[j], caller);
-        let number = deal::end_by(turn, page, running.newest);
-        if number != 0 {
+        let number = turn::crowded(running.count, mine);
+        let turn = deal::decide(l, table, hand, number, b, words[j]);
+        let end = deal::end_by(turn, page, running.newest);
+        if end != 0 {
             return Run {
                 state: running,
                 page,
                 places: j as u32,
-                end: number,
+                end,
             };
         }
-        running = deal::take(table, running, b, caller, turn);
-        page = deal::page_after(turn, page);
         j += 1;
+        let Turn::Opens(s, flags, passed, to) = turn else {
+            continue;
+        };
+        deal::open(l, table, hand, passed, s, b, flags);
+        let at = running.count as usize;
+        running.hand = to;
+        running.window[at] = s;
+        running.callers[at] = caller;
+        running.count = running.count + 1;
+        mine += caller;
+        page = places::meta_of(s) + 1;
     }
     Run {
         state: running,

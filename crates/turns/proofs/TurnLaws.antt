@@ -6,7 +6,7 @@ use mathlib.Core.Bool.{Bool, true, false, not, _&&_}
 use mathlib.Core.List.{List, [], _∷_}
 use native.Mathlib.Omega.{arith}
 use lib.ListN.{length}
-use lib.Dec.{leb}
+use lib.Dec.{eqb, leb}
 use borrow.Author.Tests.{leb-false, ltb-true}
 use Rattle.layout.specs.declared.Slot.{Slot}
 use Rattle.layout.specs.declared.Block.{Block}
@@ -15,7 +15,8 @@ use Rattle.layout.specs.Places.{Limits, tableLength}
 use Rattle.layout.proofs.Booleans.{Told, told, told-true, told-false, clash}
 use Rattle.layout.proofs.PlaceLaws.{within}
 use Rattle.record.specs.declared.Record.{Record}
-use Rattle.record.specs.Record.{labelIn}
+use Rattle.record.specs.Callers.{openBy}
+use Rattle.record.specs.Record.{labelIn, callersIn}
 use Rattle.record.specs.Rule.{recordTest}
 use Rattle.record.proofs.RecordLaws.{parts}
 use Rattle.protocol.specs.declared.Condition.{Condition}
@@ -40,7 +41,7 @@ use Rattle.turns.specs.declared.turn.Turn.{Turn}
 use Rattle.turns.specs.declared.turn.Turn.the-variants.{Refused, Passes, Opens, CopiesOut}
 use Rattle.judging.specs.declared.Judged.{Judged}
 use Rattle.judging.specs.Judging.{servesThen}
-use Rattle.turns.specs.Turns.{Seen, Within, isPass, crowdOf, ifRoom, takeTurn, sweepTurn, cleanTurn, offerTurn, fetchTurn, Performable, spent, tableAfter, turned}
+use Rattle.turns.specs.Turns.{Sweepable, Seen, Within, isPass, heldBy, crowdBy, crowdOf, ifRoom, takeTurn, sweepTurn, cleanTurn, offerTurn, fetchTurn, Performable, spent, tableAfter, turned}
 use Rattle.laws.proofs.Judged.{refuses, does, first-yes, first-no}
 use Rattle.judging.proofs.ServeLaws.{end, judged-on, offer-judges, fetch-judges}
 use Rattle.judging.proofs.ReadyLaws.{ReadyBox, serves, open-count}
@@ -91,14 +92,29 @@ turn-room (suc n) T h = absurd (omega arith)
 
 -- 17, 11, or neither
 module _ (t : List ℕ) (r : Record) (caller : ℕ) where
+  held-full : leb 8 (heldBy caller r) ≡ importOpen caller r
+  held-full = go (eqb caller 1)
+    where
+      go : (b : Bool) → leb 8 (elim b [ true ↦ openBy 1 (callersIn r) | false ↦ 0 ]) ≡ (b && leb 8 (openBy 1 (callersIn r)))
+      go true = refl
+      go false = refl
+
   pub crowd-import : importOpen caller r ≡ true → 17 ≡ crowdOf t r caller
-  crowd-import a = rw (a, crowdOf)
+  crowd-import a = rw (held-full, a, crowdBy)
 
   pub crowd-full : importOpen caller r ≡ false → leb 63 (openRows t) ≡ true → 11 ≡ crowdOf t r caller
-  crowd-full a f = rw (a, f, crowdOf)
+  crowd-full a f = rw (held-full, a, f, crowdBy)
 
   pub crowd-none : importOpen caller r ≡ false → leb 63 (openRows t) ≡ false → 0 ≡ crowdOf t r caller
-  crowd-none a f = rw (a, f, crowdOf)
+  crowd-none a f = rw (held-full, a, f, crowdBy)
+
+  -- of what is counted
+  pub crowd-seen : {w m n : ℕ} → Seen t r w → n ≡ crowdBy w m → m ≡ heldBy caller r → n ≡ crowdOf t r caller
+  crowd-seen S e h = e ∙ (λ i. crowdBy (S .counted i) (h i))
+
+-- what a turn is decided on, of a record
+pub seen-sweeps : {t : List ℕ} {r : Record} {w : ℕ} → Seen t r w → Sweepable (labelIn r) t (r .hand)
+seen-sweeps {r = r} S = record { size = S .size; rows = S .rows; low = hand-low r (S .record-kept) }
 
 -- 13, or a slot is opened
 module _ (s : Slot) (flags passed : ℕ) (hand : Slot) (b : Block) (caller : ℕ) (x : Box) where
@@ -165,7 +181,7 @@ module _ (c : Call) (x : Box) (b : Block) (caller flags : ℕ) (size : length (x
   abbrev l : Label
   l = labelIn (x .state)
 
-  sweeping : effectOf c x ≡ turned (sweepTurn (x .table) (x .state) caller flags) b caller x
+  sweeping : effectOf c x ≡ turned (sweepTurn l (x .table) (x .state .hand) (crowdOf (x .table) (x .state) caller) flags) b caller x
   sweeping = go (crowd c x b caller (allOpen ∷ stampsSpent ∷ []) j e17 e11) (sweptOf l (x .table) (x .state .hand)) refl
     where
       took : (s : Slot) (k : ℕ) → Told (dirty (rowFlags (x .table) s)) → sweptOf l (x .table) (x .state .hand) ≡ Took s k
@@ -194,7 +210,7 @@ module _ (c : Call) (x : Box) (b : Block) (caller flags : ℕ) (size : length (x
           (n ∙ first-no _ allOpen _ (e12 ∙ not-all l (x .table) (x .state .hand) s k size R low (sym f)))
 
       go : Crowd c x b caller (allOpen ∷ stampsSpent ∷ []) → (w : Swept) → sweptOf l (x .table) (x .state .hand) ≡ w
-          → effectOf c x ≡ turned (sweepTurn (x .table) (x .state) caller flags) b caller x
+          → effectOf c x ≡ turned (sweepTurn l (x .table) (x .state .hand) (crowdOf (x .table) (x .state) caller) flags) b caller x
       go (crowded f) w q = f _
       go (roomy f n) w q =
           swept w q n ∙ ap (λ (v : Swept). turned (takeTurn l (x .table) flags v) b caller x) (sym q) ∙ f _
@@ -234,7 +250,7 @@ module _ (ssd hdd t : List ℕ) (r : Record) (b : Block) (caller : ℕ)
           (ap (λ (k : Condition). opensAnother toWrite k && leb 63 (openRows t)) e))
         where
           clean : Crowd (offer b caller) x b caller (allOpen ∷ stampsSpent ∷ [])
-              → effectOf (offer b caller) x ≡ turned (cleanTurn t r caller s) b caller x
+              → effectOf (offer b caller) x ≡ turned (cleanTurn t (r .hand) (crowdOf t r caller) s) b caller x
           clean (crowded f) = f _
           clean (roomy f n) =
               opening (offer b caller) x b caller 0 (n ∙ first-no _ allOpen _ (ap (λ (k : Condition). not (isCached k) && allWriting t) e))
@@ -285,7 +301,7 @@ module _ (ssd hdd t : List ℕ) (r : Record) (b : Block) (caller : ℕ)
   few : leb 63 (openRows t) ≡ false → r .count < 63
   few a = rw (open-count ssd hdd 4096 t r B) (leb-false 63 (openRows t) a)
 
-  sweep-performs : (flags : ℕ) → Performable (sweepTurn t r caller flags) t r
+  sweep-performs : (flags : ℕ) → Performable (sweepTurn (labelIn r) t (r .hand) (crowdOf t r caller) flags) t r
   sweep-performs flags = room _ (λ a. take (few a) (sweptOf (labelIn r) t (r .hand)) refl)
     where
       took : (s : Slot) (k : ℕ) → r .count < 63 → s .0 < r .label .slots → Told (dirty (rowFlags t s))

@@ -4,14 +4,15 @@ use mathlib.Core.Path.{_≡_}
 use mathlib.Core.Bool.{Bool, true, false}
 use mathlib.Core.List.{List}
 use lib.ListN.{length}
-use lib.Dec.{leb}
+use lib.Dec.{eqb, leb}
 use Rattle.layout.specs.declared.Slot.{Slot}
 use Rattle.layout.specs.declared.Block.{Block}
 use Rattle.layout.specs.declared.Label.{Label}
 use Rattle.layout.specs.Places.{tableLength}
 use Rattle.layout.specs.Window.{windowMost}
 use Rattle.record.specs.declared.Record.{Record}
-use Rattle.record.specs.Record.{labelIn, largestStamp}
+use Rattle.record.specs.Callers.{importCaller, importMost, openBy}
+use Rattle.record.specs.Record.{labelIn, callersIn, largestStamp}
 use Rattle.record.specs.Rule.{recordTest}
 use Rattle.protocol.specs.declared.Condition.{Condition}
 use Rattle.protocol.specs.declared.Condition.the-variants.{NotCached, Clean, Dirty, Writing, Fetching}
@@ -19,7 +20,7 @@ use Rattle.protocol.specs.Reply.{overwrite, copiedOut}
 use Rattle.protocol.specs.Rows.{rowFlags, dirty, withWriting, openRows}
 use Rattle.protocol.specs.Box.{Box, Effect, refusing}
 use Rattle.protocol.specs.Sweep.{nextSlot}
-use Rattle.protocol.specs.Plan.{stay, opens, copies, importOpen}
+use Rattle.protocol.specs.Plan.{stay, opens, copies}
 use Rattle.protocol.specs.Perform.{perform}
 use Rattle.protocol.specs.Judge.{slotOpen, hasSlot, windowFull, allOpen, stampsSpent, importFull, numberOf}
 use Rattle.sweeping.specs.declared.Swept.{Swept}
@@ -29,7 +30,13 @@ use Rattle.sweeping.specs.Sweeps.{sweptOf, clearedFrom}
 use Rattle.turns.specs.declared.turn.Turn.{Turn}
 use Rattle.turns.specs.declared.turn.Turn.the-variants.{Refused, Passes, Opens, CopiesOut}
 
--- what a turn is decided on: a table and a record that 3 to 5 do not refuse, and how many rows are writing
+-- what a turn is decided on: a table of legal rows, and the hand on one of them
+pub record Sweepable (l : Label) (table : List ℕ) (hand : Slot) : Type 0 where
+  pub size : length table ≡ tableLength l
+  pub rows : legalRows l table ≡ true
+  pub low : hand .0 < l .slots
+
+-- a table and a record that 3 to 5 do not refuse, and how many rows are writing
 pub record Seen (table : List ℕ) (r : Record) (writing : ℕ) : Type 0 where
   pub size : length table ≡ tableLength (labelIn r)
   pub record-kept : recordTest r ≡ true
@@ -44,14 +51,21 @@ Within n (Dirty s) = s .0 < n
 Within n (Writing s) = s .0 < n
 Within n (Fetching s) = s .0 < n
 
--- the number that refuses a caller another slot: 17, "from caller 1 with 8 or more open" (document 02, N7), then 11, "while 63 are open";
--- 0 where there is room
-abbrev pub crowdOf : List ℕ → Record → ℕ → ℕ
-crowdOf table r caller =
-    elim (importOpen caller r) [
+-- how many open slots count against a caller's most: "Caller 1 may have at most 8 slots open" (document 02, N7)
+abbrev pub heldBy : ℕ → Record → ℕ
+heldBy caller r = elim (eqb caller importCaller) [ true ↦ openBy importCaller (callersIn r) | false ↦ 0 ]
+
+-- the number that refuses a caller another slot, where so many are open and so many of these count against its most: 17, "from caller 1
+-- with 8 or more open", then 11, "while 63 are open"; 0 where there is room
+abbrev pub crowdBy : ℕ → ℕ → ℕ
+crowdBy all mine =
+    elim (leb importMost mine) [
       | true ↦ numberOf importFull
-      | false ↦ elim (leb windowMost (openRows table)) [ true ↦ numberOf windowFull | false ↦ 0 ]
+      | false ↦ elim (leb windowMost all) [ true ↦ numberOf windowFull | false ↦ 0 ]
     ]
+
+abbrev pub crowdOf : List ℕ → Record → ℕ → ℕ
+crowdOf table r caller = crowdBy (openRows table) (heldBy caller r)
 
 -- refused by that number, or the turn
 abbrev pub ifRoom : ℕ → Turn → Turn
@@ -65,30 +79,36 @@ takeTurn l table flags (Took s passed) =
     elim (dirty (rowFlags table s)) [ true ↦ CopiesOut s passed | false ↦ Opens s flags passed (nextSlot l s) ]
 takeTurn l table flags Stuck = Refused (numberOf allOpen)
 
--- a block not cached is swept for, its row to have these flags
-abbrev pub sweepTurn : List ℕ → Record → ℕ → ℕ → Turn
-sweepTurn table r caller flags =
-    ifRoom (crowdOf table r caller) (takeTurn (labelIn r) table flags (sweptOf (labelIn r) table (r .hand)))
+-- with the hand here, and the number that refuses another slot: a block not cached is swept for, its row to have these flags
+abbrev pub sweepTurn : Label → List ℕ → Slot → ℕ → ℕ → Turn
+sweepTurn l table hand n flags = ifRoom n (takeTurn l table flags (sweptOf l table hand))
 
 -- a clean block's slot is opened where it is
-abbrev pub cleanTurn : List ℕ → Record → ℕ → Slot → Turn
-cleanTurn table r caller s = ifRoom (crowdOf table r caller) (Opens s (withWriting (rowFlags table s)) 0 (r .hand))
+abbrev pub cleanTurn : List ℕ → Slot → ℕ → Slot → Turn
+cleanTurn table hand n s = ifRoom n (Opens s (withWriting (rowFlags table s)) 0 hand)
 
 -- "Offer": dirty and not open "overwrite", clean "announced", not cached swept for, with flags 7
-abbrev pub offerTurn : List ℕ → Record → ℕ → Condition → Turn
-offerTurn table r caller NotCached = sweepTurn table r caller 7
-offerTurn table r caller (Clean s) = cleanTurn table r caller s
-offerTurn table r caller (Dirty s) = Passes
-offerTurn table r caller (Writing s) = Refused (numberOf slotOpen)
-offerTurn table r caller (Fetching s) = Refused (numberOf slotOpen)
+abbrev pub offerTurnAt : Label → List ℕ → Slot → ℕ → Condition → Turn
+offerTurnAt l table hand n NotCached = sweepTurn l table hand n 7
+offerTurnAt l table hand n (Clean s) = cleanTurn table hand n s
+offerTurnAt l table hand n (Dirty s) = Passes
+offerTurnAt l table hand n (Writing s) = Refused (numberOf slotOpen)
+offerTurnAt l table hand n (Fetching s) = Refused (numberOf slotOpen)
 
 -- "Fetch a block not cached: as an offer by sweep, with flags 5"
+abbrev pub fetchTurnAt : Label → List ℕ → Slot → ℕ → Condition → Turn
+fetchTurnAt l table hand n NotCached = sweepTurn l table hand n 5
+fetchTurnAt l table hand n (Clean s) = Refused (numberOf hasSlot)
+fetchTurnAt l table hand n (Dirty s) = Refused (numberOf hasSlot)
+fetchTurnAt l table hand n (Writing s) = Refused (numberOf slotOpen)
+fetchTurnAt l table hand n (Fetching s) = Refused (numberOf hasSlot)
+
+-- a caller's, of a table and a record
+abbrev pub offerTurn : List ℕ → Record → ℕ → Condition → Turn
+offerTurn table r caller k = offerTurnAt (labelIn r) table (r .hand) (crowdOf table r caller) k
+
 abbrev pub fetchTurn : List ℕ → Record → ℕ → Condition → Turn
-fetchTurn table r caller NotCached = sweepTurn table r caller 5
-fetchTurn table r caller (Clean s) = Refused (numberOf hasSlot)
-fetchTurn table r caller (Dirty s) = Refused (numberOf hasSlot)
-fetchTurn table r caller (Writing s) = Refused (numberOf slotOpen)
-fetchTurn table r caller (Fetching s) = Refused (numberOf hasSlot)
+fetchTurn table r caller k = fetchTurnAt (labelIn r) table (r .hand) (crowdOf table r caller) k
 
 -- a turn that leaves everything as it is, and is no refusal
 abbrev pub isPass : Turn → Bool

@@ -16,8 +16,7 @@ ghost use lib.ListN.{length};
 ghost use Rattle.layout.specs.Places.{tableLength};
 ghost use Rattle.sweeping.specs.declared.Swept.the-variants.{Took};
 ghost use Rattle.record.specs.Rule.{recordTest};
-ghost use Rattle.protocol.specs.Plan.{importOpen};
-ghost use Rattle.turns.specs.Turns.{Seen, Within, isPass, crowdOf, takeTurn, sweepTurn, cleanTurn, offerTurn, fetchTurn};
+ghost use Rattle.turns.specs.Turns.{Sweepable, Seen, Within, isPass, heldBy, crowdBy, takeTurn, sweepTurn, cleanTurn, offerTurnAt, fetchTurnAt, offerTurn, fetchTurn};
 
 // What an offer or a fetch does: refused by a number (8, 10, 17, 11 or 12); passes, the answer being "overwrite"; opens a slot with these
 // flags, after so many slots were passed, which lose their used flags, and leaves the hand on the last one named; copies out a
@@ -55,43 +54,40 @@ fn take(l: Label, table: &[u32], flags: u32, s: Slot, passed: u32) -> Turn
     Turn::Opens(s, flags, passed, hand)
 }
 
-// Whether 17 refuses a caller another slot: the import has 8 or more open.
-fn import_full(state: Record, caller: u32) -> bool
+// How many open slots count against a caller's most, 8: the import's, for the import; people have no most.
+pub fn held(state: Record, caller: u32) -> u32
     requires { ⌜ recordTest state ≡ true ⌝ }
-    ensures { λ r. ⌜ r ≡ importOpen caller state ⌝ }
+    ensures { λ r. ⌜ r ≡ heldBy caller state ⌝ }
 {
     if caller != IMPORT {
-        return false;
+        return 0;
     }
     let callers = state.callers;
-    IMPORT_MOST <= window::open_by_import(callers, state.count)
+    window::open_by_import(callers, state.count)
 }
 
-// The number that refuses a caller another slot, while so many rows are writing: 17, then 11; 0 where there is room.
-fn crowded(table: &[u32], state: Record, caller: u32, writing: u32) -> u32
-    requires { ⌜ Seen (now table) state writing ⌝ }
-    ensures { λ r. ⌜ r ≡ crowdOf (now (table .entry)) state caller ⌝ }
+// The number that refuses another slot, where so many are open and so many of these count against the caller's most: 17, then 11; 0 where
+// there is room.
+pub fn crowded(all: u32, mine: u32) -> u32
+    ensures { λ r. ⌜ r ≡ crowdBy all mine ⌝ }
 {
-    if import_full(state, caller) {
+    if IMPORT_MOST <= mine {
         return 17;
     }
-    if (WINDOW as u32) <= writing {
+    if (WINDOW as u32) <= all {
         return 11;
     }
     0
 }
 
-// A block that is not cached, while so many rows are writing: a slot is swept for, to be opened with these flags.
-fn sweeps(table: &[u32], state: Record, caller: u32, flags: u32, writing: u32) -> Turn
-    requires { ⌜ Seen (now table) state writing ⌝ }
-    ensures { λ r. ⌜ r ≡ sweepTurn (now (table .entry)) state caller flags ⌝ }
+// A block that is not cached: a slot is swept for, to be opened with these flags, unless a number refuses another slot.
+fn sweeps(l: Label, table: &[u32], hand: Slot, number: u32, flags: u32) -> Turn
+    requires { ⌜ Sweepable l (now table) hand ⌝ }
+    ensures { λ r. ⌜ r ≡ sweepTurn l (now (table .entry)) hand number flags ⌝ }
 {
-    let number = crowded(table, state, caller, writing);
     if number != 0 {
         return Turn::Refused(number);
     }
-    let l = state.label;
-    let hand = state.hand;
     let swept = sweep::sweep(l, table, hand);
     match swept {
         Swept::Stuck => Turn::Refused(12),
@@ -99,19 +95,47 @@ fn sweeps(table: &[u32], state: Record, caller: u32, flags: u32, writing: u32) -
     }
 }
 
-// A clean block's slot, while so many rows are writing: it is opened where it is, and the hand stays.
-fn opens_clean(table: &[u32], state: Record, caller: u32, s: Slot, writing: u32) -> Turn
-    requires { ⌜ Seen (now table) state writing ⌝ }
-    requires { ⌜ s .0 < state .label .slots ⌝ }
-    ensures { λ r. ⌜ r ≡ cleanTurn (now (table .entry)) state caller s ⌝ }
+// A clean block's slot: it is opened where it is, and the hand stays, unless a number refuses another slot.
+fn opens_clean(l: Label, table: &[u32], hand: Slot, number: u32, s: Slot) -> Turn
+    requires { ⌜ Sweepable l (now table) hand ⌝ }
+    requires { ⌜ s .0 < l .slots ⌝ }
+    ensures { λ r. ⌜ r ≡ cleanTurn (now (table .entry)) hand number s ⌝ }
 {
-    let number = crowded(table, state, caller, writing);
     if number != 0 {
         return Turn::Refused(number);
     }
     let flags = table[2 * (s.0 as usize) + 1] + 6;
-    let hand = state.hand;
     Turn::Opens(s, flags, 0, hand)
+}
+
+// The turn of an offer of a block in this condition, with the hand here, where this number refuses another slot, or 0. A list of offers
+// asks this at each place: no record is passed, which would be copied.
+pub fn offer_at(l: Label, table: &[u32], hand: Slot, number: u32, condition: Condition) -> Turn
+    requires { ⌜ Sweepable l (now table) hand ⌝ }
+    requires { ⌜ Within (l .slots) condition ⌝ }
+    ensures { λ r. ⌜ r ≡ offerTurnAt l (now (table .entry)) hand number condition ⌝ }
+{
+    match condition {
+        Condition::NotCached => sweeps(l, table, hand, number, 7),
+        Condition::Clean(s) => opens_clean(l, table, hand, number, s),
+        Condition::Dirty(_) => Turn::Passes,
+        Condition::Writing(_) => Turn::Refused(8),
+        Condition::Fetching(_) => Turn::Refused(8),
+    }
+}
+
+// The turn of a fetch of a block in this condition, likewise.
+pub fn fetch_at(l: Label, table: &[u32], hand: Slot, number: u32, condition: Condition) -> Turn
+    requires { ⌜ Sweepable l (now table) hand ⌝ }
+    ensures { λ r. ⌜ r ≡ fetchTurnAt l (now (table .entry)) hand number condition ⌝ }
+{
+    match condition {
+        Condition::NotCached => sweeps(l, table, hand, number, 5),
+        Condition::Clean(_) => Turn::Refused(10),
+        Condition::Dirty(_) => Turn::Refused(10),
+        Condition::Writing(_) => Turn::Refused(8),
+        Condition::Fetching(_) => Turn::Refused(10),
+    }
 }
 
 // The turn of a caller's offer of a block in this condition, while so many rows are writing.
@@ -120,13 +144,10 @@ pub fn offer(table: &[u32], state: Record, caller: u32, condition: Condition, wr
     requires { ⌜ Within (state .label .slots) condition ⌝ }
     ensures { λ r. ⌜ r ≡ offerTurn (now (table .entry)) state caller condition ⌝ }
 {
-    match condition {
-        Condition::NotCached => sweeps(table, state, caller, 7, writing),
-        Condition::Clean(s) => opens_clean(table, state, caller, s, writing),
-        Condition::Dirty(_) => Turn::Passes,
-        Condition::Writing(_) => Turn::Refused(8),
-        Condition::Fetching(_) => Turn::Refused(8),
-    }
+    let number = crowded(writing, held(state, caller));
+    let l = state.label;
+    let hand = state.hand;
+    offer_at(l, table, hand, number, condition)
 }
 
 // The turn of a caller's fetch of a block in this condition, while so many rows are writing.
@@ -134,11 +155,8 @@ pub fn fetch(table: &[u32], state: Record, caller: u32, condition: Condition, wr
     requires { ⌜ Seen (now table) state writing ⌝ }
     ensures { λ r. ⌜ r ≡ fetchTurn (now (table .entry)) state caller condition ⌝ }
 {
-    match condition {
-        Condition::NotCached => sweeps(table, state, caller, 5, writing),
-        Condition::Clean(_) => Turn::Refused(10),
-        Condition::Dirty(_) => Turn::Refused(10),
-        Condition::Writing(_) => Turn::Refused(8),
-        Condition::Fetching(_) => Turn::Refused(10),
-    }
+    let number = crowded(writing, held(state, caller));
+    let l = state.label;
+    let hand = state.hand;
+    fetch_at(l, table, hand, number, condition)
 }

@@ -20,7 +20,7 @@ by-turn : (c : tie.After-offer) → let a = c .before .before .before .before .b
     c .offer .result ≡ placeTurn (a .table .now) (a .state) (a .b) (a .caller)
 by-turn c = let s = c .before .before .before .before .before .before .before .before in let a = s .args in
     c .offer .ensures ∙ ap (offerTurn (a .table .now) (a .state) (a .caller)) (s .pre .1 .1 .1)
-    ∙ turn-low (a .table .now) (a .state) (a .b) (a .caller) (c .before .before .if1 .left)
+    ∙ turn-low (a .state .label) (a .table .now) (a .state .hand) _ (a .b) (c .before .before .if1 .left)
 
 refused-requires : tie.Need-refused-requires
 refused-requires c κs = search needs
@@ -31,7 +31,7 @@ returns c =
     let s = t .before .before .before .before .before .before in
     let a = s .args in
     rw (c .refused .ensures) (ap (λ (T : Turn). left (turned T (a .b) (a .caller) (box s)) (box s .images))
-    (turn-high (a .table .now) (a .state) (a .b) (a .caller) (t .if1 .taken)))
+    (turn-high (a .state .label) (a .table .now) (a .state .hand) _ (a .b) (t .if1 .taken)))
 
 offer-requires : tie.Need-offer-requires
 offer-requires c κs =

@@ -1,54 +1,29 @@
-use mathlib.Core.Path.{sym, ap, _∙_}
-use Rattle.turns.specs.Turns.{fetchTurn}
+use Prim.Native.Nat.{ℕ}
+use mathlib.Core.Path.{ap, _∙_}
+use Rattle.turns.specs.Turns.{fetchTurnAt}
+use Rattle.turns.proofs.TurnLaws.{crowd-seen, seen-sweeps}
 use borrow.Author.Needs.{needs}
 use Rattle.turns.proofs.turn.fetch.Statement.{statement}
 use Rattle.turns.proofs.turn.fetch.Tie as tie
 
-enum-told : tie.Need-enum-told
-enum-told c = search needs
+held-requires : tie.Need-held-requires
+held-requires c κs = search needs
 
-sweeps-requires : tie.Need-sweeps-requires
-sweeps-requires c κs = search needs
+crowded-requires : tie.Need-crowded-requires
+crowded-requires c κs = search needs
 
-enum-told-2 : tie.Need-enum-told-2
-enum-told-2 c = search needs
-
-enum-told-3 : tie.Need-enum-told-3
-enum-told-3 c = search needs
-
-enum-told-4 : tie.Need-enum-told-4
-enum-told-4 c = search needs
-
-enum-told-5 : tie.Need-enum-told-5
-enum-told-5 c = search needs
+fetch-at-requires : tie.Need-fetch-at-requires
+fetch-at-requires c κs = let s = c .before .before .before .before .before in seen-sweeps (s .pre)
 
 returns : tie.Need-returns
-returns c = let a = c .before .before .before .before .args in c .sweeps .ensures ∙ ap (fetchTurn (a .table .now) (a .state) (a .caller)) (sym (c .before .enum-told .given .1))
-
-returns-2 : tie.Need-returns-2
-returns-2 c = let a = c .before .before .before .args in ap (fetchTurn (a .table .now) (a .state) (a .caller)) (sym (c .enum-told2 .given .1))
-
-returns-3 : tie.Need-returns-3
-returns-3 c = let a = c .before .before .before .args in ap (fetchTurn (a .table .now) (a .state) (a .caller)) (sym (c .enum-told3 .given .1))
-
-returns-4 : tie.Need-returns-4
-returns-4 c = let a = c .before .before .before .args in ap (fetchTurn (a .table .now) (a .state) (a .caller)) (sym (c .enum-told4 .given .1))
-
-returns-5 : tie.Need-returns-5
-returns-5 c = let a = c .before .before .before .args in ap (fetchTurn (a .table .now) (a .state) (a .caller)) (sym (c .enum-told5 .given .1))
+returns c =
+    let k = c .before .before .before in
+    let h = k .before in
+    let s = h .before .before in
+    let a = s .args in
+    c .fetch-at .ensures
+    ∙ ap (λ (n : ℕ). fetchTurnAt (a .state .label) (a .table .now) (a .state .hand) n (a .condition))
+    (crowd-seen (a .table .now) (a .state) (a .caller) (s .pre) (k .crowded .ensures) (h .held .ensures))
 
 pub fetch-spec : {M : Type 1} → statement M
-fetch-spec =
-    tie.close
-    (tie.spec
-    enum-told
-    sweeps-requires
-    enum-told-2
-    enum-told-3
-    enum-told-4
-    enum-told-5
-    returns
-    returns-2
-    returns-3
-    returns-4
-    returns-5)
+fetch-spec = tie.close (tie.spec held-requires crowded-requires fetch-at-requires returns)
