@@ -40,7 +40,7 @@ pub fn dispatch(
         Request::LandFetch(block) => land_fetch::land_fetch(ssd, hdd, table, state, block),
         Request::LookUp(block) => look_up::look_up(ssd, hdd, table, state, block),
         Request::LookUpList => look_up_list::look_up_list(ssd, hdd, table, state, blocks, words),
-        Request::OfferList(caller) => list_offer::offer::offer_list(
+        Request::OfferList(caller) => list_offer::offer_list(
             ssd,
             hdd,
             table,

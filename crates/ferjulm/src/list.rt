@@ -48,7 +48,7 @@ pub extern "C" fn ferjulm_offer_list(
         return 3;
     }
     let state = words::unpack(words);
-    let outcome = list_offer::offer::offer_list(ssd, hdd, table, state, blocks, caller);
+    let outcome = list_offer::offer_list(ssd, hdd, table, state, blocks, caller);
     let answer = outcome.answer;
     *dealt = answers::dealt_of(answer, *dealt);
     let stored = outcome.stored;

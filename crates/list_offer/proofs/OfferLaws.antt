@@ -33,12 +33,13 @@ use Rattle.judging.proofs.JudgingLaws.{goes-on, ready-asks}
 use Rattle.judging.proofs.ServeLaws.{end, judged-on, refused-by, offer-judges, offers-begin, offers-judges}
 use Rattle.turns.specs.declared.turn.Turn.{Turn}
 use Rattle.turns.specs.Turns.{crowdOf, turned, spent}
-use Rattle.turns.proofs.TurnLaws.{offer-turned}
-use Rattle.list_offer.specs.declared.Run.{Run}
-use Rattle.list_offer.specs.Runs.{Fair, pageOf, bare, placeTurn, offeredBy, offeredAs, announcesAny, refused13, Ended}
-use Rattle.list_offer.proofs.ScanLaws.{scans}
-use Rattle.list_offer.proofs.RunLaws.{offers-ends}
-use Rattle.list_offer.proofs.PlacedLaws.{turn-high, turn-low}
+use Rattle.performing.proofs.PerformLaws.{offer-turned}
+use Rattle.list_run.specs.declared.Run.{Run}
+use Rattle.list_turns.specs.PlaceTurns.{pageOf}
+use Rattle.list_run.specs.Runs.{Fair, bare, placeTurn, offeredBy, offeredAs, announcesAny, refused13, Ended}
+use Rattle.scan_rule.proofs.ScanLaws.{scans}
+use Rattle.list_run.proofs.RunLaws.{offers-ends}
+use Rattle.list_turns.proofs.PlaceTurnLaws.{turn-high, turn-low}
 
 -- the images say nothing of a place, nor of the list
 module _ (ssd hdd t : List ℕ) (r : Record) (caller : ℕ) where

@@ -3,7 +3,6 @@ use layout::Block;
 use moves::answers;
 use protocol::Outcome;
 use record::Record;
-use turns::perform;
 use turns::turn;
 ghost use mathlib.Core.Path.{_≡_};
 ghost use Rattle.protocol.specs.Calls.{leaves, fetchOf};
@@ -25,5 +24,5 @@ pub fn fetch(
     }
     let condition = seen.condition;
     let turn = turn::fetch(table, state, caller, condition, seen.writing);
-    perform::perform(ssd, hdd, table, state, block, caller, turn)
+    performing::perform(ssd, hdd, table, state, block, caller, turn)
 }

@@ -5,6 +5,7 @@ use layout::WINDOW;
 use protocol::Condition;
 use record::IMPORT;
 use record::IMPORT_MOST;
+use record::LARGEST_STAMP;
 use record::Record;
 use record::window;
 use sweeping::Swept;
@@ -16,7 +17,7 @@ ghost use lib.ListN.{length};
 ghost use Rattle.layout.specs.Places.{tableLength};
 ghost use Rattle.sweeping.specs.declared.Swept.the-variants.{Took};
 ghost use Rattle.record.specs.Rule.{recordTest};
-ghost use Rattle.turns.specs.Turns.{Sweepable, Seen, Within, isPass, heldBy, crowdBy, takeTurn, sweepTurn, cleanTurn, offerTurnAt, fetchTurnAt, offerTurn, fetchTurn};
+ghost use Rattle.turns.specs.Turns.{Sweepable, Seen, Within, isPass, heldBy, crowdBy, spent, takeTurn, sweepTurn, cleanTurn, offerTurnAt, fetchTurnAt, offerTurn, fetchTurn};
 
 // What an offer or a fetch does: refused by a number (8, 10, 17, 11 or 12); passes, the answer being "overwrite"; opens a slot with these
 // flags, after so many slots were passed, which lose their used flags, and leaves the hand on the last one named; copies out a
@@ -136,6 +137,13 @@ pub fn fetch_at(l: Label, table: &[u32], hand: Slot, number: u32, condition: Con
         Condition::Writing(_) => Turn::Refused(8),
         Condition::Fetching(_) => Turn::Refused(10),
     }
+}
+
+// Whether 13 refuses an offer or a fetch that would open a slot.
+pub fn is_spent(newest: u32) -> bool
+    ensures { λ r. ⌜ r ≡ spent newest ⌝ }
+{
+    LARGEST_STAMP - (WINDOW as u32) <= newest
 }
 
 // The turn of a caller's offer of a block in this condition, while so many rows are writing.

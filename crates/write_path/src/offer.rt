@@ -4,7 +4,6 @@ use moves::answers;
 use protocol::Answer;
 use protocol::Outcome;
 use record::Record;
-use turns::perform;
 use turns::turn;
 ghost use mathlib.Core.Path.{_≡_};
 ghost use Rattle.protocol.specs.Calls.{leaves, offerOf};
@@ -30,5 +29,5 @@ pub fn offer(
         // at once: performing a turn copies the record
         return answers::answered(Answer::Overwrite, state);
     }
-    perform::perform(ssd, hdd, table, state, block, caller, turn)
+    performing::perform(ssd, hdd, table, state, block, caller, turn)
 }

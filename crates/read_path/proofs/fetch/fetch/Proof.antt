@@ -7,7 +7,8 @@ use Rattle.turns.specs.Turns.{fetchTurn, turned}
 use Rattle.judging.proofs.JudgingLaws.{found}
 use Rattle.judging.proofs.ServeLaws.{refused-by, fetch-judges}
 use Rattle.judging.proofs.ServedLaws.{Served, served}
-use Rattle.turns.proofs.TurnLaws.{seen, fetch-performs, fetch-turned}
+use Rattle.turns.proofs.TurnLaws.{seen}
+use Rattle.performing.proofs.PerformLaws.{fetch-performs, fetch-turned}
 use borrow.Author.Needs.{needs}
 use Rattle.read_path.proofs.fetch.fetch.Statement.{statement}
 use Rattle.read_path.proofs.fetch.fetch.Tie as tie

@@ -8,7 +8,8 @@ use Rattle.turns.specs.Turns.{Within, offerTurn, turned}
 use Rattle.judging.proofs.JudgingLaws.{found}
 use Rattle.judging.proofs.ServeLaws.{refused-by, offer-judges}
 use Rattle.judging.proofs.ServedLaws.{Served, served}
-use Rattle.turns.proofs.TurnLaws.{pass-is, seen, where-within, offer-performs, offer-turned}
+use Rattle.turns.proofs.TurnLaws.{pass-is, seen, where-within}
+use Rattle.performing.proofs.PerformLaws.{offer-performs, offer-turned}
 use borrow.Author.Needs.{needs}
 use Rattle.write_path.proofs.offer.offer.Statement.{statement}
 use Rattle.write_path.proofs.offer.offer.Tie as tie

@@ -1,0 +1,4 @@
+pub mod RunEndLaws
+pub mod FairLaws
+pub mod PlacedLaws
+pub mod RunLaws

@@ -1,0 +1,41 @@
+-- The turn of a place of a list, and what it ends the run by.
+use Prim.Native.Nat.{ℕ, zero, suc}
+use mathlib.Core.Bool.{true, false}
+use mathlib.Core.List.{List}
+use mathlib.Core.Option.{Option, some, none}
+use lib.Dec.{leb}
+use Rattle.layout.specs.declared.Slot.{Slot}
+use Rattle.layout.specs.declared.Block.{Block}
+use Rattle.layout.specs.declared.Label.{Label}
+use Rattle.layout.specs.Places.{metaOf}
+use Rattle.protocol.specs.Condition.{conditionOf}
+use Rattle.protocol.specs.Plan.{onPage}
+use Rattle.turns.specs.declared.turn.Turn.{Turn}
+use Rattle.turns.specs.declared.turn.Turn.the-variants.{Refused, Passes, Opens, CopiesOut}
+use Rattle.turns.specs.Turns.{offerTurnAt, spent}
+
+-- the turn of a place: 7 refuses it, or its condition in the running table says what it does
+abbrev pub placeTurnAt : Label → List ℕ → Slot → ℕ → Block → Turn
+placeTurnAt l table hand n b =
+    elim (leb (l .blocks) (b .0)) [ true ↦ Refused 7 | false ↦ offerTurnAt l table hand n (conditionOf table b) ]
+
+-- the page of the first slot announced, from its word
+abbrev pub pageOf : ℕ → Option ℕ
+pageOf zero = none
+pageOf (suc p) = some p
+
+-- what a slot on page p ends the run by: 1, where it "has its slot on another metadata page than the first announced"; 13, "judged once,
+-- for that store", where it is the first; else 0
+abbrev pub endOf : ℕ → ℕ → ℕ → ℕ
+endOf page newest p =
+    elim (onPage (pageOf page) p) [
+      | true ↦ elim (pageOf page) [ none ↦ elim (spent newest) [ true ↦ 13 | false ↦ 0 ] | some q ↦ 0 ]
+      | false ↦ 1
+    ]
+
+-- what a turn ends the run by; where it goes on, 0
+abbrev pub endBy : Turn → ℕ → ℕ → ℕ
+endBy (Refused n) page newest = 1
+endBy Passes page newest = 0
+endBy (Opens s flags n hand) page newest = endOf page newest (metaOf s)
+endBy (CopiesOut s n) page newest = 1
