@@ -1,4 +1,4 @@
-// Records made and changed. No other module spells a record's fields out.
+// Records made and changed. No other module spells a record's fields out, but the run of a list, which changes one where it stands.
 use crate::Phase;
 use crate::Record;
 use crate::window;
@@ -96,8 +96,7 @@ pub fn with_window(r: Record, unconfirmed: bool, w: Window) -> Record
     next
 }
 
-// The record with another hand and a slot added to its window, its caller beside it: changed in place, since a list of offers does this at
-// each place.
+// The record with another hand and a slot added to its window, its caller beside it.
 pub fn joined(r: Record, s: Slot, caller: u32, hand: Slot) -> Record
     requires { ⌜ recordTest r ≡ true ⌝ }
     requires { ⌜ r .count < windowMost ⌝ }
