@@ -93,7 +93,8 @@ enum {
     FERJULM_DIRTY = 109,      /* in a slot and not open, the HDD may be behind; *slot is set */
     FERJULM_OPEN_WRITE = 110, /* its slot is open for writing: a write was announced and has not landed; *slot is set */
     FERJULM_OPEN_FETCH = 111, /* its slot is open for fetch: the fetch has not landed; *slot is set */
-    FERJULM_DEALT = 112       /* a list offer: the first *dealt places of the list are announced, or overwrites */
+    FERJULM_DEALT = 112,      /* a list offer: the first *dealt places of the list are announced, or overwrites */
+    FERJULM_MEETS = 113       /* cost: the import would meet a refusal; *number, *place and the stores up to it are set */
 };
 
 /* The image of a page that was stored, or that a view finds a block in. */
@@ -111,7 +112,7 @@ enum {
  *   3  a record number out of range, window repeated or not zero past its length; a record of other than 134 words, a phase
  *      above 2, steps outside formatting, unconfirmed above 1, a caller above 1, one that is not 0 past the count or while
  *      recovering
- *   4  an image, table or data page of the wrong length
+ *   4  an image, table or data page of the wrong length; cost: a scratch table that is not as long as the table
  *   5  a metadata page (reopen) or table row (others) breaks its rule, or rows, window and phase don't agree; a block in two
  *      rows is judged at reopen only, elsewhere its lowest slot counts
  *   6  wrong phase: step when ready, anything else before
@@ -265,6 +266,19 @@ uint32_t ferjulm_view(const uint8_t *ssd, size_t ssd_len, const uint8_t *hdd, si
  */
 uint32_t ferjulm_map(const uint8_t *ssd, size_t ssd_len, const uint8_t *hdd, size_t hdd_len, const uint32_t *table,
                      size_t table_len, const uint32_t *record, size_t record_len, uint8_t *sheet, size_t sheet_len);
+
+/* Counts the stores that an import of a list of blocks by a caller would make: each block offered by itself, once more after
+ * FERJULM_COPIED_OUT, and landed. Nothing is stored, and nothing changes but `scratch`, lent as long as the table, which becomes what the
+ * import would leave of the table.
+ * FERJULM_DONE: *copy_outs (pages to the HDD), *metadata (metadata pages) and *data (landed pages) are set.
+ * FERJULM_MEETS: the import would be refused with *number (7, 8, 17, 11, 12 or 13) at the list place *place, counted from 0; the three
+ * count the stores up to there.
+ * Refuses with 4 (the scratch table, too), 5, 6, 15 and 18; then neither `scratch` nor a number is set.
+ */
+uint32_t ferjulm_cost(const uint8_t *ssd, size_t ssd_len, const uint8_t *hdd, size_t hdd_len, const uint32_t *table,
+                      size_t table_len, const uint32_t *record, size_t record_len, const uint32_t *blocks, size_t blocks_len,
+                      uint32_t caller, uint32_t *scratch, size_t scratch_len, uint32_t *copy_outs, uint32_t *metadata,
+                      uint32_t *data, uint32_t *number, uint32_t *place);
 
 /* Writes a block back: copies its page to the HDD if it is dirty, and marks it clean; uncached or clean:
  * FERJULM_NOTHING_TO_DO. May refuse with 7 and 8.

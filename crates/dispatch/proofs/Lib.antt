@@ -1,3 +1,4 @@
 pub mod DispatchLaws
 pub mod ViewReads
 pub mod MapMade
+pub mod CostMade

@@ -3,3 +3,4 @@ pub mod CodesApart
 pub mod ListLaws
 pub mod ViewLaws
 pub mod MapLaws
+pub mod CostLaws

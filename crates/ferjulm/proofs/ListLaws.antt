@@ -24,7 +24,7 @@ use Rattle.record.proofs.CallerLaws.{length-callers}
 use Rattle.protocol.specs.Reply.{Reply, refusal, answer, dealt, refused}
 use Rattle.protocol.specs.Rows.{rowFlags, writing}
 use Rattle.protocol.specs.Box.{Box, left, Result, boxAfter}
-use Rattle.protocol.specs.Plan.{slotMap, Call, format, step, flush, reopen, offer, fetch, landFetch, lookUp, view, writeBack, land, lookUpList, offerList, ask, grown, Move, lowestPage, stepping, plan}
+use Rattle.protocol.specs.Plan.{slotMap, cost, Call, format, step, flush, reopen, offer, fetch, landFetch, lookUp, view, writeBack, land, lookUpList, offerList, ask, grown, Move, lowestPage, stepping, plan}
 use Rattle.protocol.specs.Perform.{confirmed, landedState, formatState, perform}
 use Rattle.protocol.specs.Recovery.{labelAt, metasOf, newestOf, recover, offPage}
 use Rattle.protocol.specs.Kinds.{Aim}
@@ -261,6 +261,12 @@ once (writeBack b) k = served-once (writeBack b) k refl refl
 once (land b page) k = served-once (land b page) k refl refl
 once (ask (slotMap n)) k = record {
   made = λ h. sym (changes-nothing (slotMap n) (boxIn k) .box);
+  stays = λ h. refl;
+  reach = λ h. h;
+  stay-record = λ h. h;
+}
+once (ask (cost blocks caller n)) k = record {
+  made = λ h. sym (changes-nothing (cost blocks caller n) (boxIn k) .box);
   stays = λ h. refl;
   reach = λ h. h;
   stay-record = λ h. h;

@@ -8,7 +8,7 @@ use lib.ListN.{length, replicate}
 use lib.Dec.{eqb}
 use Rattle.layout.specs.declared.Block.{Block}
 use Rattle.protocol.specs.Box.{Box}
-use Rattle.protocol.specs.Plan.{Ask, slotMap, Call, format, step, flush, reopen, offer, fetch, landFetch, lookUp, view, writeBack, land, lookUpList, offerList, ask}
+use Rattle.protocol.specs.Plan.{Ask, slotMap, cost, Call, format, step, flush, reopen, offer, fetch, landFetch, lookUp, view, writeBack, land, lookUpList, offerList, ask}
 use Rattle.protocol.specs.Kinds.{Kind, aFormat, aReopening, aStep, aService, kind}
 use Rattle.protocol.specs.Calls.{boxOf}
 use Rattle.protocol.specs.ReferenceDisk.{Disk}
@@ -17,6 +17,7 @@ use Rattle.c_record.specs.Words.{recordWords, wordsOf, unpacked, isRecord, reco
 use Rattle.ferjulm.specs.Calls.{Left, kept, cCall, cFormat, cReopen}
 use Rattle.ferjulm.specs.View.{cView}
 use Rattle.ferjulm.specs.Map.{cMap}
+use Rattle.ferjulm.specs.Cost.{cCost}
 
 -- a call by words that must be a record
 abbrev pub cServed : Call → Left → Left
@@ -27,10 +28,19 @@ abbrev pub cViewed : Block → Left → Left
 cViewed b k =
     kept (cView (k .ssd) (k .hdd) (k .table) (k .words) b (record { image = 0; offset = 0 }) .code) (k .ssd) (k .hdd) (k .table) (k .words)
 
--- nor does a call that only asks: a slot map's number, into any buffer of so many bytes
+-- nor does a call that only asks: a slot map's number, into any buffer of so many bytes; the code of an import's cost, over any scratch table
+-- of so many words, with any numbers lent
 abbrev pub cAsked : Ask → Left → Left
 cAsked (slotMap n) k =
     kept (cMap (k .ssd) (k .hdd) (k .table) (k .words) (replicate n 0) .number) (k .ssd) (k .hdd) (k .table) (k .words)
+cAsked (cost blocks caller n) k =
+    kept (cCost (k .ssd) (k .hdd) (k .table) (k .words) blocks caller (replicate n 0) (record {
+      copies = 0;
+      metadata = 0;
+      landings = 0;
+      number = 0;
+      place = 0;
+    }) .code) (k .ssd) (k .hdd) (k .table) (k .words)
 
 -- what a call's C function leaves of what the last one left, by its contract
 abbrev pub cMade : Call → Left → Left

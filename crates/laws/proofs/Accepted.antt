@@ -20,7 +20,7 @@ use Rattle.protocol.specs.Rows.{eachRow}
 use Rattle.protocol.specs.Box.{Box}
 use Rattle.protocol.specs.Plan.{Call, step}
 use Rattle.protocol.specs.Kinds.{Aim, aService, kind}
-use Rattle.protocol.specs.Judge.{badRecord, wrongLength, badRows, wrongPhase, lengthsTest, lengthTest, rowTest, agreeTest, rowsTest, isReady, pageLengthTest, test, askedFirst, judged}
+use Rattle.protocol.specs.Judge.{badRecord, wrongLength, badRows, wrongPhase, lengthsTest, lengthTest, rowTest, agreeTest, rowsTest, isReady, lentTest, test, askedFirst, judged}
 use Rattle.record.specs.Window.{eachPlace, zeroSlots}
 use Rattle.record.specs.Callers.{namedPlaces, callersTest}
 use Rattle.record.proofs.CallerLaws.{Named, named-of}
@@ -89,7 +89,7 @@ module _ (c : Call) (x : Box) {a : Aim} (k : kind c ≡ aService a) (e : judged 
   unfolding test
   service-legal =
       let q = passed-first c x e k in
-      legal-judged x (pageLengthTest (a .purpose)) (q badRecord refl) (rw k at (q wrongLength refl)) (rw k at (q badRows refl))
+      legal-judged x (lentTest (a .purpose) (length (x .table))) (q badRecord refl) (rw k at (q wrongLength refl)) (rw k at (q badRows refl))
 
   pub service-ready : x .state .phase ≡ Ready
   unfolding test
@@ -154,7 +154,7 @@ module _ (x : Box) (L : Legal x) where
   legal-rows = rw (rows-legal (labelIn (x .state)) (x .table) (L .table-size) .1 (L .rows)) (L .agree)
 
   -- so where it is ready no service is refused by what is asked first
-  pub legal-first : x .state .phase ≡ Ready → (c : Call) {a : Aim} → kind c ≡ aService a → pageLengthTest (a .purpose) ≡ true
+  pub legal-first : x .state .phase ≡ Ready → (c : Call) {a : Aim} → kind c ≡ aService a → lentTest (a .purpose) (length (x .table)) ≡ true
       → NoneHold (askedFirst (kind c)) (λ r. test r c x)
   unfolding test
   legal-first on c k m = rw k (rw legal-record, (rw (k, legal-lengths, m), (rw (k, legal-rows), (rw (k, on), tt))))

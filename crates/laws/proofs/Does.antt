@@ -24,7 +24,7 @@ use Rattle.record.proofs.CallerLaws.{by-more}
 use Rattle.protocol.specs.Box.{Box}
 use Rattle.protocol.specs.Condition.{conditionOf, closedSlots, isOpen, takesWrite, takesFetch}
 use Rattle.protocol.specs.Sweep.{Victim, sweep}
-use Rattle.protocol.specs.Plan.{flush, offer, fetch, landFetch, lookUp, view, writeBack, land, lookUpList, ask, Ask, slotMap, grown, Move, stay, uses, usesAll, announces, opens, lands, copies, confirms, takesAs, takes, offering, fetching, landing, landingFetch, lookingUp, writingBack, flushing, plan, storesMeta, importOpen}
+use Rattle.protocol.specs.Plan.{flush, offer, fetch, landFetch, lookUp, view, writeBack, land, lookUpList, ask, Ask, slotMap, cost, grown, Move, stay, uses, usesAll, announces, opens, lands, copies, confirms, takesAs, takes, offering, fetching, landing, landingFetch, lookingUp, writingBack, flushing, plan, storesMeta, importOpen}
 use Rattle.protocol.specs.Perform.{confirmed, landedFlags, landedState, usedAll, perform}
 use Rattle.protocol.specs.Kinds.{toServe, toSettle, toWrite, toFetch, toLandFetch, toLand, Aim, aims, aimsBy, aimsAll, askAim, noBlock}
 use Rattle.protocol.specs.Judge.{wrongLength, blockTooHigh, slotOpen, wrongState, windowFull, stampsSpent, importFull, unknownCaller, lengthTest, test, judged}
@@ -335,6 +335,7 @@ module _ (x : Box) where
   pub ask-does : (a : Ask) → judged (ask a) x ≡ none → Does x (askAim a) (plan (ask a) x)
   unfolding plan
   ask-does (slotMap n) e = does-nothing (λ d. refl) refl
+  ask-does (cost blocks caller n) e = does-nothing (λ d. refl) refl
 
   pub lookUpList-does : (blocks : List ℕ) (room : ℕ) → judged (lookUpList blocks room) x ≡ none
       → Does x (aimsAll blocks room) (plan (lookUpList blocks room) x)

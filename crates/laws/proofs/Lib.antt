@@ -11,3 +11,4 @@ pub mod Sorted
 pub mod ReadsAnywhere
 pub mod why
 pub mod SlotMaps
+pub mod Costs

@@ -199,7 +199,7 @@ changes-nothing a x = record { box = box (judged (ask a) x); stored = stored (ju
     stored none = refl
 
 -- A map's number, as demand 3's lists have it.
-said-some : (n : ℕ) → n ≢ 0 → refusal n ≡ saidBy n
+pub said-some : (n : ℕ) → n ≢ 0 → refusal n ≡ saidBy n
 said-some zero h = absurd (h refl)
 said-some (suc n) h = refl
 

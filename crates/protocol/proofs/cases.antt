@@ -7,6 +7,7 @@ pub mod Case
 pub mod Moves
 pub mod Scans
 pub mod Maps
+pub mod Costs
 pub mod TwoPages
 pub mod Refusals
 pub mod Cases

@@ -21,17 +21,22 @@ use Rattle.record.specs.declared.Phase.the-variants.{Formatting, Recovering, Re
 use Rattle.protocol.specs.declared.Condition.the-variants.{Clean, Dirty, Writing, Fetching}
 use Rattle.protocol.specs.declared.Stored.{Stored}
 use Rattle.protocol.specs.declared.Stored.the-variants.{Nothing, Ssd, Hdd}
+use Rattle.protocol.specs.declared.Counts.{Counts}
+use Rattle.protocol.specs.declared.Cost.{Cost}
+use Rattle.protocol.specs.declared.Cost.the-variants.{Refused, Counted, Met}
 use Rattle.protocol.specs.Reply.{Reply, refusal, answer, dealt, refused, announced, overwrite, copiedOut, done}
 use Rattle.protocol.specs.Rows.{rowBlock, rowFlags, valid, dirty, writing}
 use Rattle.record.specs.Callers.{openBy}
 use Rattle.record.specs.Record.{labelIn, windowIn, callersIn, windowOf as recordWindow, withStamp, putWindow}
-use Rattle.protocol.specs.Box.{Images, Box, ssdImage, Store, Effect, refusing, boxAfter}
+use Rattle.protocol.specs.Box.{Images, Box, ssdImage, hddImage, Store, Effect, refusing, Result, boxAfter}
 use Rattle.protocol.specs.Condition.{conditionOf, isOpen}
-use Rattle.protocol.specs.Plan.{Ask, slotMap, Call, format, step, reopen, offer, fetch, land, landFetch, lookUp, lookUpList, offerList, ask}
+use Rattle.protocol.specs.Plan.{Ask, slotMap, cost, Call, format, step, reopen, offer, fetch, land, landFetch, lookUp, lookUpList, offerList, ask}
+use Rattle.protocol.specs.Kinds.{Purpose, aim}
 use Rattle.protocol.specs.Recovery.{labelAt, metasOf, entryIn, storedRows, Recovered, recoverFrom}
 use Rattle.protocol.specs.SlotMap.{letterOf, mapLines, mapBytes, mapText}
 use Rattle.protocol.specs.Judge.{noLabel, wrongLength, test}
 use Rattle.protocol.specs.Calls.{effectOf, resultOf, boxOf, viewOf, wordsLeft, mapOf}
+use Rattle.protocol.specs.Cost.{PageKind, copyOut, metadata, data-page, pageKind, isCopiedOut, costIn}
 use Rattle.protocol.specs.Events.{World, Memory, Arrival, new, Event, call, cut, lent, readOf, called, crashed, run, steps, formatted, startOf, AllFit}
 use Rattle.protocol.specs.Demand3.{storedWindow, slotSaid}
 
@@ -367,6 +372,112 @@ pub record OneAsOffer (b : Block) (caller : ℕ) (x : Box) : Type 0 where
 
 abbrev pub ListOfOne : Type 0
 ListOfOne = (b : Block) (caller : ℕ) (x : Box) → OneAsOffer b caller x
+
+-- Document 02, N8: "The three counts equal the pages stored by really doing it, kind by kind, and the scratch table ends as that run would
+-- leave the table."
+
+-- in demand 3's lists the call answers by the number of its refusal; any other answer is done
+abbrev pub costNumber : Cost → ℕ
+costNumber (Refused n) = n
+costNumber (Counted n) = 0
+costNumber (Met n place counts) = 0
+
+abbrev pub CostSays : List ℕ → ℕ → List ℕ → Box → Type 0
+CostSays blocks caller scratch x =
+    resultOf (ask (cost blocks caller (length scratch))) x .said ≡ saidBy (costNumber (costIn blocks caller scratch x .answer))
+
+-- calls really made, each on what the last left: the kinds of the pages that they stored, one after another, the box that they leave, and
+-- the last one's answer
+pub record Made : Type 0 where
+  pub kinds : List PageKind
+  pub box : Box
+  pub said : Reply
+
+abbrev pub kindsStored : Purpose → Stored → List PageKind
+kindsStored p Nothing = []
+kindsStored p (Ssd i) = pageKind p ssdImage ∷ []
+kindsStored p (Hdd i) = pageKind p hddImage ∷ []
+
+abbrev pub makesOf : Purpose → Result → Made
+makesOf p r = record { kinds = kindsStored p (r .stored); box = boxAfter r; said = r .said }
+
+unfoldable pub makes : Call → Box → Made
+makes c x = makesOf (aim c .purpose) (resultOf c x)
+
+abbrev pub joins : Made → Made → Made
+joins d e = record { kinds = d .kinds ++ e .kinds; box = e .box; said = e .said }
+
+-- a call more, or not
+abbrev pub makesIf : Bool → Call → Made → Made
+makesIf true c d = joins d (makes c (d .box))
+makesIf false c d = d
+
+-- a block is offered, once more after "copied out", and landed unless that was refused
+unfoldable pub offersReally : ℕ → Block → Box → Made
+offersReally caller b x = makesIf (isCopiedOut (makes (offer b caller) x .said)) (offer b caller) (makes (offer b caller) x)
+
+unfoldable pub importsReally : ℕ → Block → List ℕ → Box → Made
+importsReally caller b page x = makesIf (not (refused (offersReally caller b x .said))) (land b page) (offersReally caller b x)
+
+-- a list of blocks, to the first refusal: its number, and its place in the list
+pub record Meeting : Type 0 where
+  pub number : ℕ
+  pub place : ℕ
+
+pub record Import : Type 0 where
+  pub kinds : List PageKind
+  pub box : Box
+  pub met : Option Meeting
+
+abbrev pub importThen : Reply → ℕ → Made → Import → Import
+importThen (refusal n) place d rest = record { kinds = d .kinds; box = d .box; met = some (record { number = n; place = place }) }
+importThen (answer n s) place d rest = record { kinds = d .kinds ++ rest .kinds; box = rest .box; met = rest .met }
+importThen (dealt n) place d rest = record { kinds = d .kinds ++ rest .kinds; box = rest .box; met = rest .met }
+
+-- the block at each place is landed with that place's page
+unfoldable pub importAll : ℕ → (ℕ → List ℕ) → ℕ → List ℕ → Box → Import
+importAll caller pages place [] x = record { kinds = []; box = x; met = none }
+importAll caller pages place (b ∷ blocks) x =
+    let d = importsReally caller (record { 0 = b }) (pages place) x in
+    importThen (d .said) place d (importAll caller pages (suc place) blocks (d .box))
+
+-- how many pages of a kind there are
+abbrev pub isKind : PageKind → PageKind → Bool
+isKind copyOut copyOut = true
+isKind copyOut metadata = false
+isKind copyOut data-page = false
+isKind metadata copyOut = false
+isKind metadata metadata = true
+isKind metadata data-page = false
+isKind data-page copyOut = false
+isKind data-page metadata = false
+isKind data-page data-page = true
+
+unfoldable pub howMany : PageKind → List PageKind → ℕ
+howMany k [] = 0
+howMany k (j ∷ kinds) = elim (isKind k j) [ true ↦ suc (howMany k kinds) | false ↦ howMany k kinds ]
+
+abbrev pub countsOf : List PageKind → Counts
+countsOf kinds = record { copies = howMany copyOut kinds; metadata = howMany metadata kinds; landings = howMany data-page kinds }
+
+abbrev pub answerBy : Option Meeting → Counts → Cost
+answerBy none counts = Counted counts
+answerBy (some m) counts = Met (m .number) (m .place) counts
+
+-- on any box, with any pages of 4,096 bytes: where the question is not refused its answer is the stores and the meeting of the import
+-- really made, and the scratch table its table; a refusal leaves the scratch table
+pub record AsDoing (blocks : List ℕ) (caller : ℕ) (scratch : List ℕ) (pages : ℕ → List ℕ) (x : Box) : Type 0 where
+  pub same-answer : refused (resultOf (ask (cost blocks caller (length scratch))) x .said) ≡ false
+      → costIn blocks caller scratch x .answer
+      ≡ answerBy (importAll caller pages 0 blocks x .met) (countsOf (importAll caller pages 0 blocks x .kinds))
+  pub same-table : refused (resultOf (ask (cost blocks caller (length scratch))) x .said) ≡ false
+      → costIn blocks caller scratch x .scratch ≡ importAll caller pages 0 blocks x .box .table
+  pub scratch-stays : refused (resultOf (ask (cost blocks caller (length scratch))) x .said) ≡ true
+      → costIn blocks caller scratch x .scratch ≡ scratch
+
+abbrev pub CostIsDoing : Type 0
+CostIsDoing = (blocks : List ℕ) (caller : ℕ) (scratch : List ℕ) (pages : ℕ → List ℕ) (x : Box) → ((k : ℕ) → length (pages k) ≡ 4096)
+    → AsDoing blocks caller scratch pages x
 
 -- In a list of demand 3, update before data: what is stored of a slot as bytes land in it.
 

@@ -27,8 +27,8 @@ use Rattle.record.specs.Record.{largestStamp, labelIn, windowIn}
 use Rattle.record.specs.Rule.{recordTest}
 use Rattle.protocol.specs.Box.{Images, Box}
 use Rattle.protocol.specs.Condition.{conditionOf, isOpen, isCached, isWriting, hasOther, takesWrite, takesFetch}
-use Rattle.protocol.specs.Plan.{Call, format, step, flush, reopen, offer, fetch, landFetch, lookUp, view, writeBack, land, lookUpList, offerList, ask, slotMap, importOpen, plan, storesMeta}
-use Rattle.protocol.specs.Kinds.{Purpose, toServe, toSettle, toWrite, toFetch, toLandFetch, toLand, Kind, aFormat, aReopening, aStep, aService, kind, aim}
+use Rattle.protocol.specs.Plan.{Call, format, step, flush, reopen, offer, fetch, landFetch, lookUp, view, writeBack, land, lookUpList, offerList, ask, slotMap, cost, importOpen, plan, storesMeta}
+use Rattle.protocol.specs.Kinds.{Purpose, toServe, toSettle, toWrite, toFetch, toLandFetch, toLand, toCount, Kind, aFormat, aReopening, aStep, aService, kind, aim}
 use Rattle.protocol.specs.Recovery.{labelAt, metasOf, pagesTest}
 use Rattle.protocol.specs.SlotMap.{mapBytes}
 
@@ -80,14 +80,16 @@ isLabel Illegal = false
 unfoldable pub labelTest : List ℕ → Bool
 labelTest ssd = leb 4096 (length ssd) && isLabel (decodeLabel (pageAt ssd labelPlace))
 
--- 4: "an image, table or data page of the wrong length"
-abbrev pub pageLengthTest : Purpose → Bool
-pageLengthTest toServe = true
-pageLengthTest toSettle = true
-pageLengthTest toWrite = true
-pageLengthTest toFetch = true
-pageLengthTest toLandFetch = true
-pageLengthTest (toLand page) = eqb (length page) 4096
+-- 4: "an image, table or data page of the wrong length"; of what is lent beside images and table, by the table's length: a data page,
+-- and a scratch table, "4 unless as long as the table" (document 02, N8)
+abbrev pub lentTest : Purpose → ℕ → Bool
+lentTest toServe rows = true
+lentTest toSettle rows = true
+lentTest toWrite rows = true
+lentTest toFetch rows = true
+lentTest toLandFetch rows = true
+lentTest (toLand page) rows = eqb (length page) 4096
+lentTest (toCount n) rows = eqb n rows
 
 unfoldable pub lengthsTest : Label → ℕ → ℕ → ℕ → Bool
 lengthsTest l ssd hdd table = eqb ssd (ssdLength l) && (eqb hdd (hddLength l) && eqb table (tableLength l))
@@ -145,6 +147,7 @@ openTest toWrite k = isOpen k
 openTest toFetch k = isWriting k
 openTest toLandFetch k = isOpen k
 openTest (toLand page) k = isOpen k
+openTest (toCount n) k = isOpen k
 
 -- 9: "land: block in neither state named; land a fetch: not open for fetch"
 abbrev pub stateTest : Purpose → Condition → Bool
@@ -154,6 +157,7 @@ stateTest toWrite k = true
 stateTest toFetch k = true
 stateTest toLandFetch k = takesFetch k
 stateTest (toLand page) k = takesWrite k
+stateTest (toCount n) k = true
 
 -- 11: "a fetch, or an offer of a block that isn't dirty, while 63 are open"
 abbrev pub opensAnother : Purpose → Condition → Bool
@@ -163,6 +167,7 @@ opensAnother toWrite k = not (takesWrite k)
 opensAnother toFetch k = true
 opensAnother toLandFetch k = false
 opensAnother (toLand page) k = false
+opensAnother (toCount n) k = false
 
 -- 13: "the newest stamp is 4,294,967,295, or for an offer or fetch 4,294,967,232 or more"
 abbrev pub stampBound : Purpose → ℕ
@@ -172,6 +177,7 @@ stampBound toWrite = largestStamp - windowMost
 stampBound toFetch = largestStamp - windowMost
 stampBound toLandFetch = largestStamp
 stampBound (toLand page) = largestStamp
+stampBound (toCount n) = largestStamp
 
 -- 15 (document 02, N3): "an empty list, a list of more than 63, or one that names a block twice"
 unfoldable pub names : ℕ → List ℕ → Bool
@@ -200,7 +206,7 @@ unfoldable pub test : Reason → Call → Box → Bool
 test badLimits c x = not (withinLimits (labelFor (kind c) x))
 test noLabel c x = not (labelTest (x .images .ssd))
 test badRecord c x = not (recordTest (x .state))
-test wrongLength c x = not (lengthTest (labelFor (kind c) x) (x .images) (x .table) && pageLengthTest (aim c .purpose))
+test wrongLength c x = not (lengthTest (labelFor (kind c) x) (x .images) (x .table) && lentTest (aim c .purpose) (length (x .table)))
 test badRows c x = not (contentsTest (kind c) x)
 test wrongPhase c x = not (phaseTest (kind c) (x .state .phase))
 test blockTooHigh c x = leb (x .state .label .blocks) (aim c .block .0)
@@ -239,6 +245,8 @@ askedThen (writeBack b) = blockTooHigh ∷ slotOpen ∷ []
 askedThen (land b page) = blockTooHigh ∷ wrongState ∷ []
 -- document 02, N1: "It refuses with 14, after 6"
 askedThen (ask (slotMap n)) = sheetShort ∷ []
+-- document 02, N8: "The bad lists of 15 and the callers of 18 are refused by that number here too"; all else is met in the run
+askedThen (ask (cost blocks caller n)) = badScan ∷ unknownCaller ∷ []
 -- document 02, N6: 16 "after 6 and before 7"
 askedThen (lookUpList blocks room) = badList ∷ blockTooHigh ∷ []
 -- document 02, N3: 15 "after 6", "before 7" and (N7) before 18; then as an offer of the first block

@@ -4,7 +4,7 @@ use mathlib.Core.List.{List, [], _∷_}
 use Rattle.layout.specs.declared.Block.{Block}
 use Rattle.layout.specs.declared.Label.{Label}
 use Rattle.layout.specs.Places.{labelOf}
-use Rattle.protocol.specs.Plan.{Call, format, step, flush, reopen, offer, fetch, landFetch, lookUp, view, writeBack, land, lookUpList, offerList, ask, Ask, slotMap, firstBlock}
+use Rattle.protocol.specs.Plan.{Call, format, step, flush, reopen, offer, fetch, landFetch, lookUp, view, writeBack, land, lookUpList, offerList, ask, Ask, slotMap, cost, firstBlock}
 
 -- what a call is for, as far as conditions and the plain disk differ by it
 pub data Purpose : Type 0 where
@@ -12,6 +12,8 @@ pub data Purpose : Type 0 where
   toServe toSettle toWrite toFetch toLandFetch : Purpose
   -- that these bytes land
   toLand : List ℕ → Purpose
+  -- that stores are counted, over a scratch table of so many words (document 02, N8)
+  toCount : ℕ → Purpose
 
 -- the block that a call names (0 where it names none: no such call asks for it), and what it is for; its caller (0 where it names none);
 -- the blocks that it lists, and how many places are lent for the answer, bytes of a sheet or words of a list (0 where none are)
@@ -46,6 +48,7 @@ noBlock = record { 0 = 0 }
 
 abbrev pub askAim : Ask → Aim
 askAim (slotMap n) = record { block = noBlock; purpose = toServe; caller = 0; list = []; room = n }
+askAim (cost blocks caller n) = record { block = noBlock; purpose = toCount n; caller = caller; list = blocks; room = 0 }
 
 -- a call begins a format of a label, reopens, makes a step, or is a service of a ready box
 pub data Kind : Type 0 where

@@ -10,6 +10,7 @@ pub mod Perform
 pub mod SlotMap
 pub mod Judge
 pub mod Calls
+pub mod Cost
 pub mod Why
 pub mod ReferenceDisk
 pub mod Events

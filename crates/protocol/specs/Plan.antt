@@ -27,6 +27,8 @@ use Rattle.protocol.specs.Sweep.{Victim, nextSlot, sweep}
 pub data Ask : Type 0 where
   -- document 02, N1: the slot map, into a buffer of so many bytes
   slotMap : ℕ → Ask
+  -- document 02, N8: what an import of a list of blocks by a caller would cost, over a scratch table of so many words
+  cost : List ℕ → ℕ → ℕ → Ask
 
 -- document 01's calls, with their arguments, and those that document 02 adds: what is asked; N6, the block numbers listed and how many
 -- words are lent for the answer; N3, the block numbers offered as one, and their caller. N7: "Every offer, list offer and fetch now names

@@ -6,7 +6,7 @@ use mathlib.Core.Option.{Option, some, none}
 use lib.Dec.{eqb}
 use Rattle.layout.specs.declared.Block.{Block}
 use Rattle.protocol.specs.Plan.{Call}
-use Rattle.protocol.specs.Kinds.{Purpose, toServe, toSettle, toWrite, toFetch, toLandFetch, toLand, aim}
+use Rattle.protocol.specs.Kinds.{Purpose, toServe, toSettle, toWrite, toFetch, toLandFetch, toLand, toCount, aim}
 
 -- "Each block has a page and the contents that may come back"
 pub record Disk : Type 0 where
@@ -36,6 +36,7 @@ fedCall toWrite b d = d
 fedCall toFetch b d = d
 fedCall toLandFetch b d = d
 fedCall (toLand bytes) b d = written b bytes d
+fedCall (toCount n) b d = d
 
 -- "The plain disk is fed calls, arguments, refusals, and what blocks read as when a reopening finishes"
 abbrev pub fed : Call → Bool → Option (Block → List ℕ) → Disk → Disk

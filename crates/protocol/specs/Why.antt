@@ -22,7 +22,7 @@ use Rattle.protocol.specs.Rows.{rowBlock, rowFlags, valid, dirty, writin
 use Rattle.record.specs.Record.{labelIn, windowIn}
 use Rattle.record.specs.Rule.{RecordRule}
 use Rattle.protocol.specs.Box.{Box}
-use Rattle.protocol.specs.Plan.{Call, format, step, flush, reopen, offer, fetch, landFetch, lookUp, view, writeBack, land, lookUpList, offerList, ask, slotMap, firstBlock, plan, storesMeta}
+use Rattle.protocol.specs.Plan.{Call, format, step, flush, reopen, offer, fetch, landFetch, lookUp, view, writeBack, land, lookUpList, offerList, ask, slotMap, cost, firstBlock, plan, storesMeta}
 use Rattle.protocol.specs.Recovery.{labelAt, metasOf, entryIn}
 
 -- 2: the first page is the page of a label within the limits
@@ -41,6 +41,11 @@ pub record Lengths (l : Label) (x : Box) : Type 0 where
 pub record LandLengths (page : List ℕ) (x : Box) : Type 0 where
   pub box : Lengths (labelIn (x .state)) x
   pub page-length : length page ≡ 4096
+
+-- 4 (document 02, N8): the scratch table is "as long as the table"
+pub record CostLengths (scratch : ℕ) (x : Box) : Type 0 where
+  pub box : Lengths (labelIn (x .state)) x
+  pub scratch-length : scratch ≡ length (x .table)
 
 -- the table has a row for the slot
 abbrev pub IsRow : List ℕ → Slot → Type 0
@@ -215,6 +220,8 @@ Why (writeBack b) x =
 Why (land b page) x =
     (3, BadRecord x) ∷ (4, LandLengths page x → ⊥) ∷ (5, BadRows x) ∷ (6, NotReady x) ∷ (7, TooHigh b x) ∷ (9, NotToLand b x) ∷ []
 Why (ask (slotMap n)) x = (3, BadRecord x) ∷ (4, BadLengths x) ∷ (5, BadRows x) ∷ (6, NotReady x) ∷ (14, ShortSheet n x) ∷ []
+Why (ask (cost blocks caller n)) x =
+    (3, BadRecord x) ∷ (4, CostLengths n x → ⊥) ∷ (5, BadRows x) ∷ (6, NotReady x) ∷ (15, BadScan blocks) ∷ (18, UnknownCaller caller) ∷ []
 Why (lookUpList blocks room) x =
     (3, BadRecord x) ∷ (4, BadLengths x) ∷ (5, BadRows x) ∷ (6, NotReady x) ∷ (16, BadList blocks room) ∷ (7, AnyHigh blocks x) ∷ []
 -- of its first block, but 13 of what the whole list announces

@@ -29,6 +29,21 @@ pub struct Outcome {
     pub stored: Stored,
 }
 
+// The stores that an import makes, by kind: copy-outs, metadata stores, and data stores, one for each landing.
+pub struct Counts {
+    pub copies: u32,
+    pub metadata: u32,
+    pub landings: u32,
+}
+
+// What an import would cost: the question is refused by a number; its stores; or the number of the refusal that the run would meet, the
+// list place that meets it, counted from 0, and the stores up to it.
+pub enum Cost {
+    Refused(u32),
+    Counted(Counts),
+    Met(u32, u32, Counts),
+}
+
 // A block's condition: where it is, and how. It is what a look-up answers.
 pub enum Condition {
     NotCached,

@@ -18,3 +18,4 @@ pub mod Arranged
 pub mod ListLookUp
 pub mod ListOffers
 pub mod ListOfOne
+pub mod CostDoing

@@ -5,6 +5,8 @@ use crate::world::{Call, Side, World, HAND, PEOPLE};
 
 /// A scan of 63 blocks, or of 4 where there are 4 slots.
 const SCAN: &str = "offer 63 blocks, a list (of 4 slots: 4)";
+const IMPORT_COST: &str = "cost of importing 63 blocks (of 4 slots: 4)";
+const IMPORT_DONE: &str = "import 63 blocks, by single calls (of 4 slots: 4)";
 const SCAN_SINGLY: &str = "offer 63 blocks, one by one (of 4 slots: 4)";
 
 /// Boxes that are all alike, what was timed on them, a block that no slot holds, and the slots that are open: spread over the box,
@@ -75,6 +77,35 @@ impl Bench {
             codes.filter(|code| *code == 101).count() as u32
         });
         self.times.note::<S>(SCAN_SINGLY, each);
+        self.set(again);
+    }
+
+    /// Times what an import of such a list would cost, and the import itself: each block offered and landed. The box is left as it was.
+    #[inline(always)]
+    pub fn time_import<S: Side>(&mut self, page: &[u8]) {
+        let (slots, blocks) = (self.boxes[0].record[0], self.boxes[0].record[1]);
+        let (table, mut record) = (self.boxes[0].table.clone(), self.boxes[0].record.clone());
+        record[HAND] = 0;
+        let again = |w: &mut World| {
+            w.table.copy_from_slice(&table);
+            w.record.copy_from_slice(&record);
+        };
+        let block = |i: u32| if i < blocks - slots { slots + i } else { i };
+        let list: Vec<u32> = (0..slots.min(63)).map(block).collect();
+        self.set(again);
+        self.time::<S>(
+            IMPORT_COST,
+            0,
+            Call::Cost(&list, PEOPLE, 2 * slots as usize),
+        );
+        let each = per_call(&mut self.boxes, list.len() as u32, |w| {
+            let landed = |block: &&u32| {
+                S::make(w, Call::Offer(**block, PEOPLE)) == 101
+                    && S::make(w, Call::Land(**block, page)) == 0
+            };
+            list.iter().filter(landed).count() as u32
+        });
+        self.times.note::<S>(IMPORT_DONE, each);
         self.set(again);
     }
 

@@ -85,9 +85,10 @@ fn clean_again<S: Side>(b: &mut Bench, next: u32) {
     b.spare = next;
 }
 
-/// A scan offered as one, on a box with no slot open.
+/// A scan offered as one, and what its import would cost, on a box with no slot open.
 fn scanned<S: Side>(b: &mut Bench) {
     b.time_scan::<S>();
+    b.time_import::<S>(&LANDED);
 }
 
 /// Format and its steps, whose rows are zero.

@@ -91,7 +91,12 @@ fn random_call<'a>(
         20..=59 => Call::Flush,
         60..=119 => Call::WriteBack(block),
         120..=129 => Call::Map(rng.pick(&[0, room - 1, room, room, room, room + 1, room + 67])),
-        130..=189 => Call::View(block),
+        130..=149 => Call::Cost(
+            list,
+            caller,
+            2 * slots as usize + rng.pick(&[0, 0, 0, 0, 0, 1]),
+        ),
+        150..=189 => Call::View(block),
         190..=249 => Call::LookUp(block),
         250..=289 => Call::LookUpList(list, (list.len() + (rng.below(8) == 0) as usize).min(WORDS)),
         290..=319 => Call::OfferList(list, caller),
@@ -164,7 +169,7 @@ pub fn run() -> String {
         agree(slots, blocks, calls, &mut seen);
         scans::agree(slots, blocks, &mut seen);
     }
-    let all: Vec<u32> = (0..=18).chain(101..=103).chain(106..=112).collect();
+    let all: Vec<u32> = (0..=18).chain(101..=103).chain(106..=113).collect();
     assert!(seen.keys().eq(&all), "the result codes seen: {seen:?}");
     let random: u32 = seen.values().sum();
     let refused: u32 = seen.range(1..100).map(|(_, n)| n).sum();
@@ -172,7 +177,7 @@ pub fn run() -> String {
     format!(
         "{} random calls, {} of them refused, with every answer and every number from 1 to 18 among them, and the calls\n\
          that are timed, with 0, 16 and 63 slots open: both sides gave the same code, named the same\n\
-         slot, words, places and page, and left the same record, table, images and sheet.\n",
+         slot, words, places, page and counts, and left the same record, table, images, sheet and scratch table.\n",
         grouped(random),
         grouped(refused)
     )

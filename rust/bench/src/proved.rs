@@ -36,6 +36,13 @@ impl Side for Proved {
             Call::Map(room) => {
                 calls::map(&w.ssd, &w.hdd, &w.table, &w.record, &mut w.sheet[..room])
             }
+            Call::Cost(blocks, caller, words) => {
+                let scratch = &mut w.scratch[..words];
+                let (counts, met) = (&mut w.counts, &mut w.met);
+                calls::cost(
+                    &w.ssd, &w.hdd, &w.table, &w.record, blocks, caller, scratch, counts, met,
+                )
+            }
             Call::WriteBack(block) => lend!(write_back, w, (block), image offset),
             Call::Flush => lend!(flush, w, (), image offset),
             Call::Reopen => lend!(reopen, w, (),),

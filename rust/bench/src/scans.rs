@@ -1,4 +1,4 @@
-//! Lists that are offered as one, compared on boxes with rows of every kind: what calls alone leave is mostly dirty, and ends a list soon.
+//! Lists that are offered as one, and what an import of them would cost, compared on boxes with rows of every kind: what calls alone leave is mostly dirty, and ends a list soon.
 
 use crate::check::{random_list, Seen};
 use crate::plain::Plain;
@@ -52,14 +52,17 @@ pub fn agree(slots: u32, blocks: u32, seen: &mut Seen) {
         theirs.record.copy_from_slice(&ours.record);
         for _ in 0..3 {
             let list = random_list(&mut rng, blocks);
-            let call = Call::OfferList(&list, rng.pick(&[0, 0, 0, 1, 1, 2]));
-            let (a, b) = (
-                Proved::make(&mut ours, call),
-                Plain::make(&mut theirs, call),
-            );
-            assert!(a == b, "{slots} slots, table {i}: {a} and {b}");
-            assert!(ours == theirs, "{slots} slots: not the same, table {i}");
-            *seen.entry(a).or_default() += 1;
+            let caller = rng.pick(&[0, 0, 0, 1, 1, 2]);
+            let cost = Call::Cost(&list, caller, 2 * slots as usize);
+            for call in [cost, Call::OfferList(&list, caller)] {
+                let (a, b) = (
+                    Proved::make(&mut ours, call),
+                    Plain::make(&mut theirs, call),
+                );
+                assert!(a == b, "{slots} slots, table {i}: {a} and {b}");
+                assert!(ours == theirs, "{slots} slots: not the same, table {i}");
+                *seen.entry(a).or_default() += 1;
+            }
         }
     }
 }

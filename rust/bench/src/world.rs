@@ -34,7 +34,7 @@ pub fn map_bytes(slots: u32) -> usize {
 }
 
 /// What a call is lent, the sheet of a slot map among it, and what it sets besides: a slot, the words of a list or how many
-/// places of one were dealt with, and the page that it stored or that a view found. A refusal leaves them as they were.
+/// places of one were dealt with, the scratch table of an import, its stores and what it meets, and the page that it stored or that a view found. A refusal leaves them as they were.
 #[derive(PartialEq)]
 pub struct World {
     pub ssd: Image,
@@ -45,6 +45,9 @@ pub struct World {
     pub slot: u32,
     pub dealt: u32,
     pub words: Vec<u32>,
+    pub scratch: Vec<u32>,
+    pub counts: [u32; 3],
+    pub met: [u32; 2],
     pub image: u32,
     pub offset: u64,
 }
@@ -65,6 +68,9 @@ impl World {
             slot: 0,
             dealt: 0,
             words: vec![0; WORDS],
+            scratch: vec![0xa5; 2 * slots as usize + 2],
+            counts: [0; 3],
+            met: [0; 2],
             image: 0,
             offset: 0,
         }
@@ -132,6 +138,8 @@ pub enum Call<'a> {
     View(u32),
     /// A slot map into so many bytes of the sheet.
     Map(usize),
+    /// What an import of a list of blocks by a caller would cost, over so many words of the scratch table.
+    Cost(&'a [u32], u32, usize),
     WriteBack(u32),
     Flush,
     Reopen,

@@ -22,6 +22,8 @@ pub enum Call {
     View(Block),
     /// Into a buffer of so many bytes.
     Map(usize),
+    /// With a scratch table of so many words more than the table.
+    Cost(Vec<Block>, Caller, isize),
     WriteBack(Block),
     Flush,
 }
@@ -55,6 +57,7 @@ impl Call {
             "look up list" => Call::list(blocks()),
             "view" => Call::View(block()),
             "map" => Call::Map(number(0) as usize),
+            "cost" => Call::Cost(blocks().collect(), Caller::People, 0),
             "write back" => Call::WriteBack(block()),
             "flush" => Call::Flush,
             _ => panic!("no call: {text}"),

@@ -3,6 +3,8 @@
 pub mod beside;
 pub mod call;
 pub mod called;
+pub mod costed;
+mod costs;
 pub mod disk;
 mod flooded;
 mod generated;
@@ -44,6 +46,7 @@ pub fn lines() -> Vec<String> {
         flooded::lines(),
         scans::lines(),
         maps::lines(),
+        costs::lines(),
         stamps::lines(),
         generated::lines(),
     ]

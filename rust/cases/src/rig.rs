@@ -2,6 +2,7 @@
 
 pub use crate::call::{Answer, Call, Made, Said};
 use crate::called;
+use crate::costed;
 use crate::looked;
 use crate::mapped;
 use crate::offered;
@@ -70,13 +71,14 @@ impl Rig {
         made
     }
 
-    /// Makes a call, and checks the page that it names by document 01 alone, what an offer or a look-up answers and leaves, and what a
-    /// map writes: for a caller that compares images itself.
+    /// Makes a call, and checks the page that it names by document 01 alone, what an offer or a look-up answers and leaves, what a map
+    /// writes, and what an import would cost: for a caller that compares images itself.
     pub fn make_told(&mut self, call: &Call) -> Made {
         let before = Memory::of(self);
         let made = self.call(call);
         check_told(&before, call, &made);
         mapped::check(&before, self, call);
+        costed::check(&before, self, call);
         called::check(&before, self, call, &made);
         offered::check(&before, self, call, &made);
         looked::check(before, self, call, &made);
@@ -101,6 +103,9 @@ impl Rig {
             Call::LookUpList(blocks, room) => self.look_up_list(blocks, *room).map(Made::from),
             Call::View(block) => cache.view(*block).map(|_| Made::from(())),
             Call::Map(room) => mapped::map(self, *room).map(Made::from),
+            Call::Cost(blocks, caller, more) => {
+                costed::cost(self, blocks, *caller, *more).map(Made::from)
+            }
             Call::WriteBack(block) => cache.write_back(*block).map(Made::from),
             Call::Flush => cache.flush().map(Made::from),
         }

@@ -1,7 +1,7 @@
 //! What each call answers where it is not refused.
 
 use crate::place::{foreign, Out};
-use crate::{Place, Slot, PAGE};
+use crate::{Place, Refusal, Slot, PAGE};
 
 /// The answer of an offer.
 #[derive(Clone, Copy, Debug, PartialEq, Eq)]
@@ -195,4 +195,62 @@ pub struct View<'a> {
     pub place: Place,
     /// The page itself.
     pub page: &'a [u8; PAGE],
+}
+
+/// The stores that an import would make, by kind.
+#[derive(Clone, Copy, Debug, Default, PartialEq, Eq)]
+pub struct Counts {
+    /// Dirty pages copied to the HDD to make room.
+    pub copy_outs: u32,
+    /// Metadata pages.
+    pub metadata: u32,
+    /// Pages that landed.
+    pub data: u32,
+}
+
+impl Counts {
+    /// All stores together.
+    pub fn stores(self) -> u32 {
+        self.copy_outs + self.metadata + self.data
+    }
+}
+
+/// What an import would cost.
+#[derive(Clone, Copy, Debug, PartialEq, Eq)]
+pub enum Cost {
+    /// It would be made, with these stores.
+    Counted(Counts),
+    /// It would meet a refusal at this place of the list, counted from 0, after these stores.
+    Met {
+        refusal: Refusal,
+        place: usize,
+        counts: Counts,
+    },
+}
+
+impl Cost {
+    pub(crate) fn of(code: u32, counts: [u32; 3], met: [u32; 2]) -> Self {
+        let [copy_outs, metadata, data] = counts;
+        let counts = Counts {
+            copy_outs,
+            metadata,
+            data,
+        };
+        match (code, Refusal::of_code(met[0])) {
+            (0, _) => Cost::Counted(counts),
+            (113, Some(refusal)) => Cost::Met {
+                refusal,
+                place: met[1] as usize,
+                counts,
+            },
+            _ => foreign(code),
+        }
+    }
+
+    /// The stores, all of them or those up to the refusal.
+    pub fn counts(self) -> Counts {
+        match self {
+            Cost::Counted(counts) | Cost::Met { counts, .. } => counts,
+        }
+    }
 }

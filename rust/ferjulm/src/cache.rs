@@ -3,8 +3,8 @@
 use crate::place::{page_at, Out};
 use crate::refusal::judged;
 use crate::{
-    calls, Block, Caller, Condition, Fetched, Geometry, Image, Images, Lent, Offered, OfferedList,
-    Phase, Place, Record, Refusal, Saved, View,
+    calls, Block, Caller, Condition, Cost, Fetched, Geometry, Image, Images, Lent, Offered,
+    OfferedList, Phase, Place, Record, Refusal, Saved, View,
 };
 use crate::{WrongLength, PAGE};
 
@@ -18,8 +18,8 @@ use crate::{WrongLength, PAGE};
 /// store it is as good as cut off: reopen what the drives have.
 ///
 /// # Threads
-/// A box is `Send` and `Sync`. One thread at a time makes calls, since they take `&mut self`; but [`view`](Cache::view) and
-/// [`map`](Cache::map) take `&self`, so that several threads may view at once, and read the pages that they were lent.
+/// A box is `Send` and `Sync`. One thread at a time makes calls, since they take `&mut self`; but [`view`](Cache::view),
+/// [`map`](Cache::map) and [`cost`](Cache::cost) take `&self`, so that several threads may view at once, and read the pages that they were lent.
 ///
 /// # Errors
 /// Every call but format and reopen may be refused by 3 (the record), 4 (a length), 5 (the table) and 6 (the phase). The
@@ -360,6 +360,62 @@ impl<'a> Cache<'a> {
         let (ssd, hdd, words) = (&*self.images.ssd, &*self.images.hdd, &self.record.0);
         let code = calls::map(ssd, hdd, self.table, words, sheet);
         self.judged(code).map(|_| ())
+    }
+
+    /// What an import of a list of up to 63 blocks by a caller would cost: the stores that it would make, each block offered by itself,
+    /// once more after a copy-out, and landed. Nothing changes but the scratch table, which becomes what the import would leave of the
+    /// table. Where the import would meet a refusal, the answer has it, its place and the stores up to there.
+    ///
+    /// ```
+    /// use ferjulm::{Block, Cache, Caller, Cost, Counts, Geometry, Images, Record, Refusal, PAGE};
+    ///
+    /// let geometry = Geometry { slots: 1, blocks: 2 };
+    /// let (mut images, mut record) = (Images::zeroed(geometry), Record::default());
+    /// let mut table = vec![0; geometry.table_words()];
+    /// let mut cache = Cache::new(images.lend(), &mut table, &mut record);
+    /// cache.format(geometry)?;
+    /// cache.finish(|_, _| Ok::<(), Refusal>(()))?;
+    /// cache.offer(Block(0), Caller::People)?;
+    /// cache.land(Block(0), &[7; PAGE])?;
+    ///
+    /// // block 0 is an overwrite; for block 1 its page is copied out
+    /// let mut scratch = vec![0; geometry.table_words()];
+    /// let cost = cache.cost(&[Block(0), Block(1)], Caller::People, &mut scratch)?;
+    /// assert_eq!(cost, Cost::Counted(Counts { copy_outs: 1, metadata: 1, data: 2 }));
+    /// assert_eq!(scratch, [1, 11]);
+    ///
+    /// let Cost::Met { refusal, place, counts } = cache.cost(&[Block(0), Block(2)], Caller::People, &mut scratch)? else {
+    ///     panic!("block 2 of 2");
+    /// };
+    /// assert_eq!((refusal.number(), place, counts.stores()), (7, 1, 1));
+    /// assert_eq!(cache.cost(&[], Caller::People, &mut scratch).unwrap_err().number(), 15);
+    /// # Ok::<(), Refusal>(())
+    /// ```
+    ///
+    /// # Errors
+    /// 3 to 6 (4 of a scratch table, too, that is not as long as the table), and 15 (the list is empty, over 63, or names a block
+    /// twice).
+    pub fn cost(
+        &self,
+        blocks: &[Block],
+        caller: Caller,
+        scratch: &mut [u32],
+    ) -> Result<Cost, Refusal> {
+        let (ssd, hdd, words) = (&*self.images.ssd, &*self.images.hdd, &self.record.0);
+        let (blocks, caller) = (Block::numbers(blocks), caller as u32);
+        let (mut counts, mut met) = ([0; 3], [0; 2]);
+        let code = calls::cost(
+            ssd,
+            hdd,
+            self.table,
+            words,
+            blocks,
+            caller,
+            scratch,
+            &mut counts,
+            &mut met,
+        );
+        self.judged(code).map(|code| Cost::of(code, counts, met))
     }
 
     /// Writes a block back: stored if it was dirty, its page on the HDD; else nothing to do.

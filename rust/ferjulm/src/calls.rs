@@ -131,6 +131,27 @@ pub fn look_up_list(
     lend!(ferjulm_look_up_list(ssd, hdd, table, record; blocks, blocks_len, words, words_len))
 }
 
+/// Counts the stores of an import: `counts` becomes its copy-outs, metadata stores and data stores, and where the code is 113 `met` the
+/// number and the list place of the refusal that it would meet. `scratch` becomes what it would leave of the table.
+#[inline]
+pub fn cost(
+    ssd: &[u8],
+    hdd: &[u8],
+    table: &[u32],
+    record: &[u32],
+    blocks: &[u32],
+    caller: u32,
+    scratch: &mut [u32],
+    counts: &mut [u32; 3],
+    met: &mut [u32; 2],
+) -> u32 {
+    let (blocks, blocks_len) = blocks.lent();
+    let (scratch, scratch_len) = scratch.lent();
+    let [copy_outs, metadata, data] = counts;
+    let [number, place] = met;
+    lend!(ferjulm_cost(ssd, hdd, table, record; blocks, blocks_len, caller, scratch, scratch_len, copy_outs, metadata, data, number, place))
+}
+
 /// Reads the label page of an SSD image: 0 with `slots` and `blocks` set, or 2.
 #[inline]
 pub fn label(ssd: &[u8], slots: &mut u32, blocks: &mut u32) -> u32 {

@@ -33,6 +33,9 @@ declare! {
         blocks: In<u32>, blocks_len: usize, words: InOut<u32>, words_len: usize);
     ferjulm_view(In<u8>, In<u8>, In<u32>, In<u32>; block: u32, image: InOut<u32>, offset: InOut<u64>);
     ferjulm_map(In<u8>, In<u8>, In<u32>, In<u32>; sheet: InOut<u8>, sheet_len: usize);
+    ferjulm_cost(In<u8>, In<u8>, In<u32>, In<u32>;
+        blocks: In<u32>, blocks_len: usize, caller: u32, scratch: InOut<u32>, scratch_len: usize,
+        copy_outs: InOut<u32>, metadata: InOut<u32>, data: InOut<u32>, number: InOut<u32>, place: InOut<u32>);
     ferjulm_write_back(In<u8>, InOut<u8>, InOut<u32>, InOut<u32>; block: u32, image: InOut<u32>, offset: InOut<u64>);
     ferjulm_flush(InOut<u8>, In<u8>, In<u32>, InOut<u32>; image: InOut<u32>, offset: InOut<u64>);
 }

@@ -56,7 +56,7 @@ mod place;
 mod record;
 mod refusal;
 
-pub use answer::{Condition, Fetched, Offered, OfferedList, Saved, View};
+pub use answer::{Condition, Cost, Counts, Fetched, Offered, OfferedList, Saved, View};
 pub use cache::Cache;
 pub use geometry::{Block, Geometry, Images, Slot, PAGE};
 pub use place::{Image, Place};

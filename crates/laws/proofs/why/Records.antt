@@ -21,7 +21,7 @@ use Rattle.layout.proofs.RuleLaws.{_⇔_}
 use Rattle.record.specs.Record.{labelIn}
 use Rattle.protocol.specs.Box.{Box}
 use Rattle.protocol.specs.Judge.{isLabel, labelTest, lengthsTest, lengthTest}
-use Rattle.protocol.specs.Why.{HasLabel, Lengths, LandLengths}
+use Rattle.protocol.specs.Why.{HasLabel, Lengths, LandLengths, CostLengths}
 use Rattle.laws.proofs.why.Basics.{and-same, via, unit-same}
 
 pub label-same : (ssd : List ℕ) → labelTest ssd ⇔ HasLabel ssd
@@ -59,3 +59,11 @@ land-lengths-same page x =
     via (and-same {Q = length page ≡ 4096} (tables-same (labelIn (x .state)) x) (eqb-true _ _, eq-eqb _ _))
     (λ h. record { box = h .0; page-length = h .1 })
     (λ h. (h .box, h .page-length))
+
+-- a scratch table "as long as the table" (document 02, N8)
+pub cost-lengths-same : (n : ℕ) (x : Box)
+    → (lengthTest (labelIn (x .state)) (x .images) (x .table) && eqb n (length (x .table))) ⇔ CostLengths n x
+cost-lengths-same n x =
+    via (and-same {Q = n ≡ length (x .table)} (tables-same (labelIn (x .state)) x) (eqb-true _ _, eq-eqb _ _))
+    (λ h. record { box = h .0; scratch-length = h .1 })
+    (λ h. (h .box, h .scratch-length))

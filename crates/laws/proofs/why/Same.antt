@@ -20,13 +20,13 @@ use Rattle.record.specs.Rule.{recordTest}
 use Rattle.protocol.specs.Rows.{writing, allWriting}
 use Rattle.protocol.specs.Box.{Box}
 use Rattle.protocol.specs.Condition.{conditionOf, isOpen, isCached}
-use Rattle.protocol.specs.Plan.{Call, format, step, flush, reopen, offer, fetch, landFetch, lookUp, view, writeBack, land, lookUpList, offerList, firstBlock, ask, slotMap, plan, storesMeta, importOpen}
+use Rattle.protocol.specs.Plan.{Call, format, step, flush, reopen, offer, fetch, landFetch, lookUp, view, writeBack, land, lookUpList, offerList, firstBlock, ask, slotMap, cost, plan, storesMeta, importOpen}
 use Rattle.protocol.specs.Recovery.{labelAt, metasOf}
 use Rattle.protocol.specs.SlotMap.{mapLines, mapBytes}
 use Rattle.protocol.specs.Judge.{Reason, numberOf, lengthTest, rowsTest, isReady, test, chain}
 use Rattle.protocol.specs.Why.{BadRecord, BadLengths, BadRows, NotReady, TooHigh, SlotOpen, ImportFull, UnknownCaller, AllOpen, Spent, Lines, ShortSheet, Why, turns, inTurn}
 use Rattle.laws.proofs.why.Basics.{none-same, and-same, is-same}
-use Rattle.laws.proofs.why.Records.{label-same, lengths-same, land-lengths-same}
+use Rattle.laws.proofs.why.Records.{label-same, lengths-same, land-lengths-same, cost-lengths-same}
 use Rattle.laws.proofs.why.RowsRules.{each-same, rows-same}
 use Rattle.laws.proofs.why.PagesRules.{pages-same}
 use Rattle.laws.proofs.why.Slots.{cached-same, open-same, write-same, fetch-same, clean-same, writing-same, other-same}
@@ -140,6 +140,8 @@ same (land b page) x =
     record-asked x ▸ none-same (land-lengths-same page x) ▸ rows-asked x ▸ phase-asked x ▸ high-asked x b
     ▸ none-same (write-same (x .table) b) ▸ end
 same (ask (slotMap n)) x = record-asked x ▸ lengths-asked x ▸ rows-asked x ▸ phase-asked x ▸ sheet-asked x n ▸ end
+same (ask (cost blocks caller n)) x =
+    record-asked x ▸ none-same (cost-lengths-same n x) ▸ rows-asked x ▸ phase-asked x ▸ bad-scan-same blocks ▸ caller-asked caller ▸ end
 same (lookUpList blocks room) x =
     record-asked x ▸ lengths-asked x ▸ rows-asked x ▸ phase-asked x
     ▸ asks (bad-list-same blocks room) (λ h. any-high-same blocks (x .state .label .blocks) (listed-some blocks room h) ▸ end)
@@ -164,5 +166,6 @@ in-order (view b) x = refl
 in-order (writeBack b) x = refl
 in-order (land b page) x = refl
 in-order (ask (slotMap n)) x = refl
+in-order (ask (cost blocks caller n)) x = refl
 in-order (lookUpList blocks room) x = refl
 in-order (offerList blocks caller) x = refl

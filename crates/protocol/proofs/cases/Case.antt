@@ -20,6 +20,7 @@ use Rattle.protocol.specs.Recovery.{Recovered, recoverFrom}
 use Rattle.protocol.specs.Perform.{perform}
 use Rattle.protocol.specs.Judge.{Reason, test}
 use Rattle.protocol.specs.Calls.{effectOf}
+use Rattle.protocol.specs.Cost.{CostLeft, notStarted, costFrom}
 use Rattle.protocol.specs.Events.{World, Event, run}
 use Rattle.protocol.specs.Demand3.{slotSaid}
 use Rattle.protocol.proofs.cases.Report.{Report, report, diskOf, filled, labelPage, pages}
@@ -38,7 +39,7 @@ scripted l w es bs wanted = record { sizes = l; world = w; events = es; asked = 
 
 -- A case: a script; the bytes of the SSD image after some events; metadata pages, and what a reopening makes of them; a call, and
 -- its effect on a box; its move alone, for which lengths do not matter; the page that it names as stored; the closed slot that
--- it names; the words of a list of blocks; whether a refusal's condition holds; a text, and its bytes.
+-- it names; the words of a list of blocks; whether a refusal's condition holds; a text, and its bytes; what an import by a caller would cost.
 pub data Case : Type 0 where
   script : Script → Case
   bytes : World → List Event → ℕ → Case
@@ -49,6 +50,7 @@ pub data Case : Type 0 where
   words : List ℕ → Box → List ℕ → Case
   condition : Reason → Call → Box → Bool → Case
   written : List ℕ → List ℕ → Case
+  costs : List ℕ → ℕ → Box → CostLeft → Case
 
 abbrev pub Holds : Case → Type 0
 Holds (script p) = report (p .sizes) (p .events) (p .asked) (p .world) ≡ p .wanted
@@ -61,6 +63,7 @@ Holds (closed c x wanted) = slotSaid (perform (plan c x) x .said) ≡ wanted
 Holds (words blocks x wanted) = wordsOf (x .table) blocks ≡ wanted
 Holds (condition r c x wanted) = test r c x ≡ wanted
 Holds (written t wanted) = t ≡ wanted
+Holds (costs blocks caller x wanted) = costFrom caller 0 blocks (notStarted x) ≡ wanted
 
 abbrev pub AllHold : List Case → Type 0
 AllHold [] = Unit {0}

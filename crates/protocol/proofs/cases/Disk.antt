@@ -21,7 +21,7 @@ use Rattle.record.specs.declared.Phase.the-variants.{Recovering}
 use Rattle.record.specs.Record.{recordOf}
 use Rattle.protocol.specs.Reply.{refused, nothingToDo}
 use Rattle.protocol.specs.Box.{Box, Store, Result, boxAfter}
-use Rattle.protocol.specs.Plan.{Call, format, step, flush, reopen, offer, fetch, landFetch, lookUp, view, writeBack, land, ask, Ask, slotMap}
+use Rattle.protocol.specs.Plan.{Call, format, step, flush, reopen, offer, fetch, landFetch, lookUp, view, writeBack, land, ask, Ask, slotMap, cost}
 use Rattle.protocol.specs.Kinds.{kind, aim}
 use Rattle.protocol.specs.Judge.{isReady}
 use Rattle.protocol.specs.Calls.{effectOf, resultOf}
@@ -110,6 +110,10 @@ module _ (w : World) where
   -- and a slot map (document 02, N1)
   pub map-unfed : (n : ℕ) → Unfed (ask (slotMap n))
   map-unfed n = unfed (ask (slotMap n)) refl refl
+
+  -- and what an import would cost (N8)
+  pub cost-unfed : (blocks : List ℕ) (caller n : ℕ) → Unfed (ask (cost blocks caller n))
+  cost-unfed blocks caller n = unfed (ask (cost blocks caller n)) refl refl
 
   -- "A cut finds .. the page of the call it breaks off old or new; that call counts as made exactly if its store was done"
   pub cut-old : (c : Call) → crashed c old w ≡ w

@@ -25,7 +25,7 @@ use Rattle.record.specs.Callers.{openBy, callerArray}
 use Rattle.layout.specs.Window.{arrayOf}
 use Rattle.record.specs.Window.{without, beside, eachPlace, zeroSlots}
 use Rattle.protocol.specs.Rows.{eachRow, openRows}
-use Rattle.protocol.specs.Judge.{names, namesOnce, Reason, noLabel, wrongLength, numberOf, isLabel, labelFor, lengthsTest, lengthTest, pageLengthTest, test, chain, firstOf, judged, labelTest, rowTest, rowsTest}
+use Rattle.protocol.specs.Judge.{names, namesOnce, Reason, noLabel, wrongLength, numberOf, isLabel, labelFor, lengthsTest, lengthTest, lentTest, test, chain, firstOf, judged, labelTest, rowTest, rowsTest}
 use Rattle.record.specs.Rule.{recordTest}
 use Rattle.protocol.specs.Calls.{decided, effectOf, viewed, viewOf}
 use Rattle.protocol.specs.Events.{World, Memory, Arrival, old, new, Event, call, reopens, cut, lent, readOf, withMemory, survived, made}
@@ -84,7 +84,7 @@ testKnown l c x r =
       | true ↦ not (leb 4096 (ssdLength l) && isLabel (decodeLabel (pageAt (x .images .ssd) labelPlace)))
       | false ↦
           elim (eqb (numberOf r) 4) [
-            | true ↦ not (eqb (length (x .table)) (tableLength l) && pageLengthTest (aim c .purpose))
+            | true ↦ not (eqb (length (x .table)) (tableLength l) && lentTest (aim c .purpose) (length (x .table)))
             | false ↦ test r c x
           ]
     ]
@@ -105,10 +105,10 @@ test-known l c x z e r = go (told (eqb (numberOf r) 2)) (told (eqb (numberOf r) 
     label-known = unfold test labelTest in
         (ap (λ (n : ℕ). not (leb 4096 n && isLabel (decodeLabel (pageAt (x .images .ssd) labelPlace)))) (z .ssd-size))
 
-    sizes-known : test wrongLength c x ≡ not (eqb (length (x .table)) (tableLength l) && pageLengthTest (aim c .purpose))
+    sizes-known : test wrongLength c x ≡ not (eqb (length (x .table)) (tableLength l) && lentTest (aim c .purpose) (length (x .table)))
     sizes-known = unfold test in
-        (ap (λ (k : Label). not (lengthTest k (x .images) (x .table) && pageLengthTest (aim c .purpose))) e
-        ∙ ap (λ (b : Bool). not (b && pageLengthTest (aim c .purpose))) (length-known l (x .images) (x .table) z))
+        (ap (λ (k : Label). not (lengthTest k (x .images) (x .table) && lentTest (aim c .purpose) (length (x .table)))) e
+        ∙ ap (λ (b : Bool). not (b && lentTest (aim c .purpose) (length (x .table)))) (length-known l (x .images) (x .table) z))
 
     at : (s : Reason) → eqb (numberOf r) (numberOf s) ≡ true → test r c x ≡ test s c x
     at s p = ap (λ (q : Reason). test q c x) (number-is r s (eqb-true _ _ p))

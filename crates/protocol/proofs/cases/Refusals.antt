@@ -9,15 +9,16 @@ use lib.ListN.{replicate}
 use Rattle.record.specs.declared.Record.{Record}
 use Rattle.record.specs.declared.Phase.the-variants.{Formatting, Recovering, Ready}
 use Rattle.record.specs.Record.{recordOf, withCallers}
+use Rattle.protocol.specs.Reply.{done}
 use Rattle.protocol.specs.Box.{Box, Effect, refusing}
-use Rattle.protocol.specs.Plan.{Call, format, step, flush, offer, land, fetch, landFetch, lookUp, view, reopen, writeBack, lookUpList, offerList, ask, slotMap}
+use Rattle.protocol.specs.Plan.{Call, format, step, flush, offer, land, fetch, landFetch, lookUp, view, reopen, writeBack, lookUpList, offerList, ask, slotMap, cost}
 use Rattle.protocol.specs.Judge.{Reason, numberOf, chain, firstOf, windowFull, allOpen, labelFor, lengthsTest, lengthTest, judged, stampsSpent, importFull, unknownCaller, badList}
 use Rattle.protocol.specs.Calls.{effectOf}
 use Rattle.protocol.proofs.cases.Report.{diskOf, filled, metaPage, labelPage}
 use Rattle.protocol.proofs.cases.Known.{Sized, known, effectKnown, effect-known}
 use Rattle.protocol.specs.Kinds.{kind}
 use Rattle.layout.proofs.PlaceLaws.{sameLabel}
-use Rattle.protocol.proofs.cases.Case.{Case, AllHold, _also_, _first_, usual, one, two, textOf, fresh, imageless, recovery, effect, condition}
+use Rattle.protocol.proofs.cases.Case.{Case, AllHold, _also_, _first_, usual, one, two, textOf, fresh, imageless, leaving, recovery, effect, condition}
 use Rattle.protocol.proofs.cases.TwoPages.{Same-stamps}
 
 -- A box of one slot and two blocks, with this table and record.
@@ -207,6 +208,18 @@ scan-refusals =
     ∷ refusesBy 13 (offerList (0 ∷ 1 ∷ []) 0) (boxed (0 ∷ 1 ∷ []) (settledAt 4294967232))
     ∷ []
 
+-- what an import would cost (N8): 4 of a scratch table one word short or long, before 6, 15 and 18; 6 before 15, 15 before 18; then block 9
+-- of 2 is no refusal
+abbrev pub cost-refusals : List Case
+cost-refusals =
+    refusesBy 4 (ask (cost [] 2 1)) (boxed (0 ∷ 0 ∷ []) (recordOf one (record { 0 = 0 }) 1 Recovering false (record { 0 = 0 } ∷ [])))
+    ∷ refusesBy 4 (ask (cost (0 ∷ []) 0 3)) (boxed (0 ∷ 1 ∷ []) (settledAt 1))
+    ∷ refusesBy 6 (ask (cost [] 2 2)) (boxed (0 ∷ 0 ∷ []) (recordOf one (record { 0 = 0 }) 1 Recovering false (record { 0 = 0 } ∷ [])))
+    ∷ refusesBy 15 (ask (cost (9 ∷ 9 ∷ []) 2 2)) (boxed (0 ∷ 1 ∷ []) (settledAt 1))
+    ∷ refusesBy 18 (ask (cost (9 ∷ []) 2 2)) (boxed (0 ∷ 1 ∷ []) (settledAt 1))
+    ∷ effect (ask (cost (9 ∷ []) 1 2)) (boxed (0 ∷ 1 ∷ []) (settledAt 1)) (leaving done none (boxed (0 ∷ 1 ∷ []) (settledAt 1)))
+    ∷ []
+
 -- document 02, N7: the import with 7, 8 and 9 open, and people with 8 of the import's; of a clean and a dirty block; a caller past the
 -- window's length does not count
 abbrev pub openBoth : ℕ → List ℕ → List ℕ → Box
@@ -340,6 +353,17 @@ Scan-refusals =
     also counted _ _ _ _ refl refl
     also tt
 
+Cost-refusals : AllHold cost-refusals
+unfolding known textOf
+Cost-refusals =
+    Scan-refusals first counted _ _ _ _ refl refl
+    also counted _ _ _ _ refl refl
+    also counted _ _ _ _ refl refl
+    also counted _ _ _ _ refl refl
+    also counted _ _ _ _ refl refl
+    also counted _ _ _ _ refl refl
+    also tt
+
 pub Refusals : AllHold refusals
 unfolding known textOf effectOf judged lengthTest lengthsTest
-Refusals = Scan-refusals first (refl, (refl, (refl, (refl, (refl, (refl, (refl, (refl, (refl, (refl, tt))))))))))
+Refusals = Cost-refusals first (refl, (refl, (refl, (refl, (refl, (refl, (refl, (refl, (refl, (refl, tt))))))))))

@@ -20,7 +20,7 @@ use Rattle.protocol.proofs.cases.Report.{metaPage}
 use Rattle.protocol.proofs.cases.Known.{known}
 use Rattle.protocol.proofs.cases.QuickRows.{walked, bothWalked, quickTest, quickRecover, quick-recover}
 use Rattle.protocol.proofs.cases.Case.{Case, Holds, _first_, many, imageless, recovery, move}
-use Rattle.protocol.proofs.cases.Maps.{Rooms}
+use Rattle.protocol.proofs.cases.Costs.{Costed}
 
 -- table and record, as reopened: after so many stores, with these slots pending
 unfoldable pub keptRows : List ℕ
@@ -88,7 +88,7 @@ same-stamps = recovery many (metaPage (1 ∷ []) [] [] ∷ metaPage (1 ∷ []) [
 
 Flushed : Holds flushed
 unfolding known keptRows
-Flushed = Rooms first refl
+Flushed = Costed first refl
 
 First-step : Holds first-step
 unfolding known keptRows

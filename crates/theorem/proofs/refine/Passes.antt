@@ -18,7 +18,7 @@ use Rattle.record.specs.Record.{windowIn, largestStamp}
 use Rattle.layout.specs.Window.{arrayOf}
 use Rattle.protocol.specs.Plan.{step, flush, lookUp, view, flushing, plan, storesMeta, Call}
 use Rattle.record.specs.Rule.{stepsTest}
-use Rattle.protocol.specs.Judge.{isEmpty, agreeTest, test, judged, pageLengthTest, askedFirst}
+use Rattle.protocol.specs.Judge.{isEmpty, agreeTest, test, judged, lentTest, askedFirst}
 use Rattle.laws.proofs.model.Base as base
 use Rattle.protocol.specs.Kinds.{Aim, aService, kind}
 use Rattle.layout.proofs.Booleans.{Told, told, told-true, told-false, clash}
@@ -94,7 +94,7 @@ module _ (l : Label) (k : Core) (S : Shape l k) (p : Plain) (R : model.Ready (ab
   agree-ready = rw on (agree-same Ready (k .table) (k .window) .1 (sound-agree T))
 
   -- so no service is refused by what is asked first
-  ready-first : (c : Call) {a : Aim} → kind c ≡ aService a → pageLengthTest (a .purpose) ≡ true
+  ready-first : (c : Call) {a : Aim} → kind c ≡ aService a → lentTest (a .purpose) (length (k .table)) ≡ true
       → NoneHold (askedFirst (kind c)) (λ r. test r c (boxOfCore l k))
   ready-first c q m = legal-first (boxOfCore l k) (core-legal l k S (T .rule) agree-ready) (ap phaseFor on) c q m
 

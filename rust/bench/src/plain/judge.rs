@@ -80,7 +80,7 @@ pub fn sound(w: &World, page_len: usize, block: u32) -> Result<Judged, u32> {
 }
 
 /// 3 to 6.
-fn ready(w: &World, page_len: usize, block: u32) -> Result<Judged, u32> {
+pub fn ready(w: &World, page_len: usize, block: u32) -> Result<Judged, u32> {
     let judged = sound(w, page_len, block)?;
     if judged.record.phase != READY {
         return Err(6);

@@ -1,6 +1,7 @@
 //! The same calls in plain safe Rust, written from the documents, with the same checks in the same order.
 
 mod calls;
+mod import;
 mod judge;
 mod list;
 mod map;
@@ -33,6 +34,7 @@ impl Side for Plain {
             Call::LookUpList(blocks, room) => list::look_up_list(w, blocks, room),
             Call::View(block) => calls::view(w, block),
             Call::Map(room) => map::map(w, room),
+            Call::Cost(blocks, caller, words) => import::cost(w, blocks, caller, words),
             Call::WriteBack(block) => calls::write_back(w, block),
             Call::Flush => calls::flush(w),
             Call::Reopen => reopen::reopen(w),

@@ -18,14 +18,14 @@ enum Place {
     End,
 }
 
-fn apart(blocks: &[u32]) -> bool {
+pub fn apart(blocks: &[u32]) -> bool {
     let later = |(i, block): (usize, &u32)| !blocks[i + 1..].contains(block);
     blocks.iter().enumerate().all(later)
 }
 
 /// The lowest slot of a block; `word` is what the pass found before the first place, and a row that an earlier place took is no longer
 /// the block's.
-fn slot_of(table: &[u32], block: u32, word: u32) -> Option<u32> {
+pub fn slot_of(table: &[u32], block: u32, word: u32) -> Option<u32> {
     let holds = |row: &[u32]| row[0] == block && row[1] % 2 == 1;
     let at = word.checked_sub(1)?;
     if holds(&table[2 * at as usize..][..2]) {

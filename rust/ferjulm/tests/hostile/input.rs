@@ -13,6 +13,7 @@ pub struct Input {
     pub page: Vec<u8>,
     pub sheet: Vec<u8>,
     pub table: Vec<u32>,
+    pub scratch: Vec<u32>,
     pub record: Vec<u32>,
     pub slots: u32,
     pub blocks: u32,
@@ -29,6 +30,7 @@ impl Input {
             hdd: rig.images.hdd,
             page: page(1 << 50),
             sheet: vec![0x5a; geometry.map_bytes()],
+            scratch: vec![0x5a5a; rig.table.len()],
             table: rig.table,
             record: rig.record.words().to_vec(),
             slots: geometry.slots,
@@ -58,7 +60,7 @@ impl Input {
 
     /// Spoils one thing.
     pub fn spoil(&mut self, random: &mut Random) {
-        match random.below(16) {
+        match random.below(17) {
             0 => resize(&mut self.ssd, PAGE, random),
             1 => resize(&mut self.hdd, PAGE, random),
             2 => resize(&mut self.page, PAGE, random),
@@ -74,6 +76,7 @@ impl Input {
             12 => self.spoil_ssd(random),
             13 => self.double(random),
             14 => resize(&mut self.sheet, 67, random),
+            15 => resize(&mut self.scratch, 2, random),
             _ => self
                 .ssd
                 .iter_mut()

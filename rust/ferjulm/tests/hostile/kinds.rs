@@ -25,7 +25,7 @@ const fn kind(
 const ALL: &[&str] = &["ssd", "hdd", "table", "record", "slot", "place"];
 const LANDING: &[&str] = &["ssd", "table", "record", "place"];
 
-pub const KINDS: [Kind; 15] = [
+pub const KINDS: [Kind; 16] = [
     kind("format", &[1, 3, 4], &[0], &["table", "record"]),
     kind("step", &[3, 4, 5, 6, 13], &[0], &["ssd", "record", "place"]),
     kind("reopen", &[2, 3, 4, 5], &[0], &["table", "record"]),
@@ -75,6 +75,12 @@ pub const KINDS: [Kind; 15] = [
         &["ssd", "record", "place"],
     ),
     kind("map", &[3, 4, 5, 6, 14], &[0], &["sheet"]),
+    kind(
+        "cost",
+        &[3, 4, 5, 6, 15, 18],
+        &[0, 113],
+        &["scratch", "counts", "met"],
+    ),
     kind("label", &[2], &[0], &["label"]),
 ];
 

@@ -43,6 +43,9 @@ pub struct Lent {
     list: Guarded<u32>,
     pub dealt: Guarded<u32>,
     pub words: Guarded<u32>,
+    pub scratch: Guarded<u32>,
+    pub counts: Guarded<u32>,
+    pub met: Guarded<u32>,
     pub slots: Guarded<u32>,
     pub blocks: Guarded<u32>,
 }
@@ -65,6 +68,9 @@ impl Lent {
             list: Guarded::new(&input.list, 0xc3c3_c3c3),
             dealt: Guarded::new(&[UNSET], 0xc3c3_c3c3),
             words: Guarded::new(&vec![UNSET; input.room], 0xc3c3_c3c3),
+            scratch: Guarded::new(&input.scratch, 0xc3c3_c3c3),
+            counts: Guarded::new(&[UNSET; 3], 0xc3c3_c3c3),
+            met: Guarded::new(&[UNSET; 2], 0xc3c3_c3c3),
             slots: Guarded::new(&[UNSET], 0xc3c3_c3c3),
             blocks: Guarded::new(&[UNSET], 0xc3c3_c3c3),
         }
@@ -85,6 +91,9 @@ impl Lent {
             (&self.list, &other.list),
             (&self.dealt, &other.dealt),
             (&self.words, &other.words),
+            (&self.scratch, &other.scratch),
+            (&self.counts, &other.counts),
+            (&self.met, &other.met),
             (&self.slots, &other.slots),
             (&self.blocks, &other.blocks),
         ];
@@ -106,6 +115,9 @@ impl Lent {
             ("list", self.list == other.list),
             ("dealt", self.dealt == other.dealt),
             ("words", self.words == other.words),
+            ("scratch", self.scratch == other.scratch),
+            ("counts", self.counts == other.counts),
+            ("met", self.met == other.met),
             (
                 "place",
                 self.image == other.image && self.offset == other.offset,
@@ -163,6 +175,12 @@ impl Lent {
             "view" => calls::view(ssd, hdd, table, record, block, image, offset),
             "write back" => calls::write_back(ssd, hdd, table, record, block, image, offset),
             "map" => calls::map(ssd, hdd, table, record, self.sheet.lent()),
+            "cost" => {
+                let (list, scratch) = (self.list.lent(), self.scratch.lent());
+                let counts = self.counts.lent().try_into().expect("three counts");
+                let met = self.met.lent().try_into().expect("number and place");
+                calls::cost(ssd, hdd, table, record, list, caller, scratch, counts, met)
+            }
             "flush" => calls::flush(ssd, hdd, table, record, image, offset),
             _ => calls::label(ssd, &mut self.slots.lent()[0], &mut self.blocks.lent()[0]),
         }

@@ -5,6 +5,7 @@ mod input;
 mod kinds;
 mod lent;
 
+use cases::costed;
 use cases::looked::condition;
 use cases::mapped;
 use cases::offered;
@@ -12,7 +13,9 @@ use cases::place::Memory;
 use cases::random::Random;
 use cases::rig::{word, Answer, Rig};
 use cases::stored::{label, label_page};
-use ferjulm::{Block, Caller, Condition, Geometry, Image, Record, Slot, PAGE};
+use ferjulm::{
+    Block, Caller, Condition, Cost, Counts, Geometry, Image, Images, Record, Slot, PAGE,
+};
 use input::{boxes, late, opened, Input};
 use kinds::{Kind, KINDS};
 use lent::{Lent, UNSET};
@@ -56,6 +59,7 @@ fn check(kind: &Kind, input: &Input) -> u32 {
         "look up a list" => check_list(&mut lent, input),
         "offer a list" => check_offered(result, &mut lent, input),
         "map" => check_sheet(&mut lent, input),
+        "cost" => check_cost(result, &mut lent, input),
         _ => {}
     }
     result
@@ -98,6 +102,9 @@ fn check_fits(kind: &Kind, lent: &mut Lent, input: &Input) {
     }
     if name == "offer a list" {
         return assert!(input.list[0] < blocks, "{name}");
+    }
+    if name == "cost" {
+        return assert_eq!(input.scratch.len(), input.table.len(), "{name}");
     }
     assert!(
         !kind.refusals.contains(&7) || input.block < blocks,
@@ -175,6 +182,34 @@ fn check_sheet(lent: &mut Lent, input: &Input) {
     let rest = &input.sheet[text.len()..];
     let sheet = [text.as_bytes(), rest].concat();
     assert!(lent.sheet.lent() == sheet, "a map: {text}");
+}
+
+/// The cost of an import that is answered: what really doing it stores and meets, and its table. A number that is not set stays.
+fn check_cost(result: u32, lent: &mut Lent, input: &Input) {
+    let words = input.record[..].try_into().expect("a record");
+    let rig = Rig {
+        images: Images {
+            ssd: input.ssd.clone(),
+            hdd: input.hdd.clone(),
+        },
+        table: input.table.clone(),
+        record: Record::from_words(words),
+    };
+    let blocks: Vec<Block> = input.list.iter().map(|block| Block(*block)).collect();
+    let caller = [Caller::People, Caller::Import][input.caller as usize];
+    let (cost, table) = costed::really(&rig, &blocks, caller);
+    let (code, met) = match cost {
+        Cost::Counted(_) => (0, [UNSET; 2]),
+        Cost::Met { refusal, place, .. } => (113, [refusal.number(), place as u32]),
+    };
+    let Counts {
+        copy_outs,
+        metadata,
+        data,
+    } = cost.counts();
+    assert_eq!((result, lent.met.lent()), (code, &mut met.clone()[..]));
+    assert_eq!(lent.counts.lent(), [copy_outs, metadata, data]);
+    assert!(lent.scratch.lent() == table, "the scratch table");
 }
 
 /// A list look-up that is done: a word for each place by its block's lowest row, and the used flags of closed slots alone.
@@ -272,19 +307,19 @@ fn any_input_is_refused_or_served_within() {
 #[test]
 fn nothing_lent() {
     type Empty = fn(&mut Input);
-    const FOUR: [u32; 15] = [4, 4, 4, 4, 4, 4, 4, 4, 4, 4, 4, 4, 4, 4, 0];
-    let empties: [(Empty, [u32; 15]); 5] = [
+    const FOUR: [u32; 16] = [4, 4, 4, 4, 4, 4, 4, 4, 4, 4, 4, 4, 4, 4, 4, 0];
+    let empties: [(Empty, [u32; 16]); 5] = [
         (
             |input| input.record.clear(),
-            [3, 3, 3, 3, 3, 3, 3, 3, 3, 3, 3, 3, 3, 3, 0],
+            [3, 3, 3, 3, 3, 3, 3, 3, 3, 3, 3, 3, 3, 3, 3, 0],
         ),
         (
             |input| input.ssd.clear(),
-            [4, 4, 2, 4, 4, 4, 4, 4, 4, 4, 4, 4, 4, 4, 2],
+            [4, 4, 2, 4, 4, 4, 4, 4, 4, 4, 4, 4, 4, 4, 4, 2],
         ),
         (|input| input.hdd.clear(), FOUR),
         (|input| input.table.clear(), FOUR),
-        (clear_all, [3, 3, 2, 3, 3, 3, 3, 3, 3, 3, 3, 3, 3, 3, 2]),
+        (clear_all, [3, 3, 2, 3, 3, 3, 3, 3, 3, 3, 3, 3, 3, 3, 3, 2]),
     ];
     for (empty, numbers) in empties {
         let mut input = Input::of(Rig::formatted(SMALL), SMALL);

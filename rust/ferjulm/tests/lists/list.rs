@@ -49,12 +49,16 @@ pub struct Counts {
     pub looked_up: [u32; 5],
     /// Slot maps that were not refused.
     pub mapped: u32,
+    /// Costs of imports that were not refused.
+    pub costed: u32,
 }
 
 /// A list in the making.
 pub struct List<'a> {
     b: Beside,
     random: Random,
+    /// For what is asked beside the list.
+    aside: Random,
     mood: Weights,
     cut_once_in: u32,
     landed: u64,
@@ -70,6 +74,7 @@ impl<'a> List<'a> {
             b: Beside::formatted(geometry),
             cut_once_in: random.of(&CUT_ONCE_IN),
             random,
+            aside: Random(!seed),
             mood: MOODS[0],
             landed: 0,
             last: None,
@@ -178,6 +183,24 @@ impl<'a> List<'a> {
         Call::list((0..n).map(|_| self.block()).collect::<Vec<_>>().into_iter())
     }
 
+    /// Now and then, what an import of such a list as is offered would cost, or with another scratch table. It changes nothing, and has random
+    /// numbers of its own, so that the list is the same without it.
+    fn ask_cost(&mut self) {
+        std::mem::swap(&mut self.random, &mut self.aside);
+        if self.b.serves() && self.random.once_in(100) {
+            let Call::OfferList(blocks, caller) = self.offer_list() else {
+                panic!("a list that is offered");
+            };
+            let more = match self.random.once_in(20) {
+                true => self.random.of(&[-2, -1, 1, 2]),
+                false => 0,
+            };
+            let said = self.b.rig.make(&Call::Cost(blocks, caller, more)).said;
+            self.counts.costed += said.is_ok() as u32;
+        }
+        std::mem::swap(&mut self.random, &mut self.aside);
+    }
+
     /// A list of a few blocks, or of any number up to 65, is offered: half of them have no open block, and now and then one comes twice.
     fn offer_list(&mut self) -> Call {
         let n = match self.random.once_in(3) {
@@ -278,6 +301,7 @@ impl<'a> List<'a> {
         let open = self.b.rig.record.window().count();
         self.counts.most_open = self.counts.most_open.max(open);
         self.last = Some((call, said));
+        self.ask_cost();
     }
 
     /// Makes a call that must be refused.

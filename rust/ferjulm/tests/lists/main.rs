@@ -73,6 +73,8 @@ fn random_lists_beside_the_plain_disk() {
     assert!(all.looked_up.iter().all(|&count| count > 100));
     println!("maps: {}", all.mapped);
     assert!(all.mapped > 100);
+    println!("costs of imports: {}", all.costed);
+    assert!(all.costed > 100);
     println!("lists looked up: {}", all.looked_up_lists);
     assert!(all.looked_up_lists > 100);
     println!(

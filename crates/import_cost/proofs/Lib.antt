@@ -1,0 +1,3 @@
+pub mod StateLaws
+pub mod PlaceLaws
+pub mod ListLaws
