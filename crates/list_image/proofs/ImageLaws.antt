@@ -16,8 +16,9 @@ use Rattle.protocol.specs.Recovery.{metasOf, entryIn, Newest, newestOf, pagesTe
 use Rattle.record.proofs.WindowLaws.{take-array}
 use Rattle.layout.specs.declared.Window.{Window}
 use Rattle.stored.specs.Stored.{labelIf}
+use Rattle.fields.specs.Fields.{refusalText}
 use Rattle.layout.specs.Window.{slotsIn, windowFrom}
-use Rattle.list_image.specs.Listing.{headText, lineOf, linesOf, imageText, refusalText, textIf, judgedText, listingOf}
+use Rattle.list_image.specs.Listing.{headText, lineOf, linesOf, imageText, textIf, judgedText, listingOf}
 
 -- a slot's line after those of the slots before it
 pub lines-more : (w : List Slot) (pages : List (List ℕ)) (n : ℕ)

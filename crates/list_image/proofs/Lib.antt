@@ -1,3 +1,2 @@
-pub mod WrittenLaws
 pub mod ImageLaws
 pub mod Agrees

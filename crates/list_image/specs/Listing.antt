@@ -10,13 +10,14 @@ use Rattle.layout.specs.declared.Entry.{Entry}
 use Rattle.layout.specs.declared.LabelRead.{LabelRead}
 use Rattle.layout.specs.declared.LabelRead.the-variants.{Legal, Illegal}
 use Rattle.layout.specs.Places.{ssdLength}
-use Rattle.layout.specs.LabelPage.{layoutLine, slotsKey, blocksKey, decimal}
+use Rattle.layout.specs.LabelPage.{layoutLine, slotsKey, blocksKey}
 use Rattle.layout.specs.PageRule.{listed}
 use Rattle.protocol.specs.Rows.{valid, writing}
 use Rattle.protocol.specs.Recovery.{metasOf, entryIn, Newest, newestOf, pagesTest}
 use Rattle.stored.specs.Stored.{labelIf}
+use Rattle.fields.specs.Fields.{field, refusalText}
 
--- The keys that a label has not: `newest=`, `open=`, `slot=`, `block=`, `flags=`, `refused=`; `fate=kept`, `fate=dropped`.
+-- The keys that a label has not: `newest=`, `open=`, `slot=`, `block=`, `flags=`; `fate=kept`, `fate=dropped`.
 abbrev pub newestKey : List ℕ
 newestKey = 110 ∷ 101 ∷ 119 ∷ 101 ∷ 115 ∷ 116 ∷ 61 ∷ []
 
@@ -32,17 +33,10 @@ blockKey = 98 ∷ 108 ∷ 111 ∷ 99 ∷ 107 ∷ 61 ∷ []
 abbrev pub flagsKey : List ℕ
 flagsKey = 102 ∷ 108 ∷ 97 ∷ 103 ∷ 115 ∷ 61 ∷ []
 
-abbrev pub refusedKey : List ℕ
-refusedKey = 114 ∷ 101 ∷ 102 ∷ 117 ∷ 115 ∷ 101 ∷ 100 ∷ 61 ∷ []
-
 -- (of a dropped entry: true)
 abbrev pub fateText : Bool → List ℕ
 fateText true = 102 ∷ 97 ∷ 116 ∷ 101 ∷ 61 ∷ 100 ∷ 114 ∷ 111 ∷ 112 ∷ 112 ∷ 101 ∷ 100 ∷ 10 ∷ []
 fateText false = 102 ∷ 97 ∷ 116 ∷ 101 ∷ 61 ∷ 107 ∷ 101 ∷ 112 ∷ 116 ∷ 10 ∷ []
-
--- a key, a number in decimal, and the byte after it: 10 ends a line, 32 a part of one
-unfoldable pub field : List ℕ → ℕ → ℕ → List ℕ
-field key n last = key ++ (decimal n ++ (last ∷ []))
 
 -- "the label's lines after the first, newest stamp, its window's length"
 unfoldable pub headText : Label → ℕ → ℕ → List ℕ
@@ -76,10 +70,6 @@ linesOf w pages (suc n) = linesOf w pages n ++ lineOf w (record { 0 = n }) (entr
 -- a label and metadata pages that keep every rule
 abbrev pub imageText : Label → List (List ℕ) → Newest → List ℕ
 imageText l pages n = headText l (n .stamp) (length (n .window)) ++ linesOf (n .window) pages (l .slots)
-
--- "A refusal prints only `refused=N`"
-abbrev pub refusalText : ℕ → List ℕ
-refusalText n = field refusedKey n 10
 
 abbrev pub textIf : Bool → ℕ → List ℕ → List ℕ
 textIf true n text = text

@@ -1,6 +1,6 @@
 // The listing of an image: judged as a reopening judges it, without HDD and table; then written.
-use crate::Text;
 use crate::lines;
+use fields::Text;
 use layout::Label;
 use layout::LabelRead;
 use layout::Slot;
@@ -14,7 +14,7 @@ ghost use lib.ListN.{length};
 ghost use Rattle.layout.specs.Window.{windowMost, slotsIn};
 ghost use Rattle.layout.specs.Places.{Limits, ssdLength};
 ghost use Rattle.protocol.specs.Recovery.{metasOf, newestOf, pagesTest};
-ghost use Rattle.list_image.specs.Written.{Written, textOf};
+ghost use Rattle.fields.specs.Written.{Written, textOf};
 ghost use Rattle.list_image.specs.Listing.{linesOf, imageText, listingOf};
 
 // A line for each valid entry.
@@ -55,16 +55,16 @@ fn put_listing(page: &mut [u8], ssd: &[u8]) -> usize
     ensures { λ r. ⌜ Written (now (page .entry)) (now (page .exit)) 0 r 4096 (listingOf (now (ssd .entry))) ⌝ }
 {
     let LabelRead::Legal(l) = image::label_of(ssd) else {
-        return lines::put_refusal(page, 2);
+        return fields::put_refusal(page, 2);
     };
     if ssd.len() != places::ssd_length(l) {
-        return lines::put_refusal(page, 4);
+        return fields::put_refusal(page, 4);
     }
     if 65536 < ssd.len() {
-        return lines::put_refusal(page, 4);
+        return fields::put_refusal(page, 4);
     }
     if !image_rules::pages_ok(ssd, l) {
-        return lines::put_refusal(page, 5);
+        return fields::put_refusal(page, 5);
     }
     put_image(page, ssd, l)
 }

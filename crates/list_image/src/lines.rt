@@ -9,17 +9,8 @@ ghost use mathlib.Core.Bool.{true, false};
 ghost use Prim.Native.Nat.{_+_, _≤_};
 ghost use lib.ListN.{length};
 ghost use Rattle.layout.specs.Window.{windowMost, slotsIn};
-ghost use Rattle.list_image.specs.Written.{Written};
-ghost use Rattle.list_image.specs.Listing.{field, fateText, headText, dropped, entryText, lineOf, refusalText};
-
-// A key, a number and the byte after it.
-fn put_field(page: &mut [u8], at: usize, key: &[u8], n: u32, last: u8) -> usize
-    requires { ⌜ at + length (now key) + 11 ≤ length (now page) ⌝ }
-    ensures { λ r. ⌜ Written (now (page .entry)) (now (page .exit)) at r (length (now (key .entry)) + 11) (field (now (key .entry)) n last) ⌝ }
-{
-    text::put_text(page, at, key);
-    text::put_number(page, at + key.len(), n, last)
-}
+ghost use Rattle.fields.specs.Written.{Written};
+ghost use Rattle.list_image.specs.Listing.{fateText, headText, dropped, entryText, lineOf};
 
 // What becomes of an entry: true where it is dropped.
 fn put_fate(page: &mut [u8], at: usize, fate: bool) -> usize
@@ -40,9 +31,9 @@ fn put_entry(page: &mut [u8], at: usize, s: Slot, entry: Entry, fate: bool) -> u
     ensures { λ r. ⌜ Written (now (page .entry)) (now (page .exit)) at r 63 (entryText s entry fate) ⌝ }
 {
     let block = entry.block;
-    let b = put_field(page, at, b"slot=", s.0, 32);
-    let f = put_field(page, b, b"block=", block.0, 32);
-    let end = put_field(page, f, b"flags=", entry.flags, 32);
+    let b = fields::put_field(page, at, b"slot=", s.0, 32);
+    let f = fields::put_field(page, b, b"block=", block.0, 32);
+    let end = fields::put_field(page, f, b"flags=", entry.flags, 32);
     put_fate(page, end, fate)
 }
 
@@ -76,16 +67,8 @@ pub fn put_head(page: &mut [u8], l: Label, stamp: u32, count: u32) -> usize
     ensures { λ r. ⌜ Written (now (page .entry)) (now (page .exit)) 0 r 78 (headText l stamp count) ⌝ }
 {
     text::put_text(page, 0, b"layout=1\n");
-    let b = put_field(page, 9, b"slots=", l.slots, 10);
-    let n = put_field(page, b, b"blocks=", l.blocks, 10);
-    let o = put_field(page, n, b"newest=", stamp, 10);
-    put_field(page, o, b"open=", count, 10)
-}
-
-// A refusal's only line.
-pub fn put_refusal(page: &mut [u8], number: u32) -> usize
-    requires { ⌜ length (now page) ≡ 4096 ⌝ }
-    ensures { λ r. ⌜ Written (now (page .entry)) (now (page .exit)) 0 r 19 (refusalText number) ⌝ }
-{
-    put_field(page, 0, b"refused=", number, 10)
+    let b = fields::put_field(page, 9, b"slots=", l.slots, 10);
+    let n = fields::put_field(page, b, b"blocks=", l.blocks, 10);
+    let o = fields::put_field(page, n, b"newest=", stamp, 10);
+    fields::put_field(page, o, b"open=", count, 10)
 }

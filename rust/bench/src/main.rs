@@ -6,6 +6,7 @@ mod check;
 mod cost;
 mod document;
 mod image;
+mod load;
 mod loads;
 mod pages;
 mod plain;
@@ -21,7 +22,7 @@ mod world;
 use std::collections::HashMap;
 use std::fs;
 
-const USAGE: &str = "bench [--check] [--only NAME] [--document FILE] [--plot FILE]";
+const USAGE: &str = "bench [--load | --check] [--only NAME] [--document FILE] [--plot FILE]";
 /// The calls in the plot; reopening is the last line there.
 const PLOTTED: [&str; 4] = [
     "format",
@@ -32,14 +33,15 @@ const PLOTTED: [&str; 4] = [
 
 type Options = HashMap<String, String>;
 
-/// Options by name; each takes a value, but for --check.
+/// Options by name; each takes a value, but for --check and --load.
 fn options() -> Options {
     let mut args = std::env::args().skip(1);
     let mut options = Options::new();
     while let Some(name) = args.next() {
-        let known = ["--check", "--only", "--document", "--plot"].contains(&name.as_str());
+        let known =
+            ["--load", "--check", "--only", "--document", "--plot"].contains(&name.as_str());
         assert!(known, "{USAGE}");
-        let value = if name == "--check" {
+        let value = if name == "--check" || name == "--load" {
             String::new()
         } else {
             args.next().expect(USAGE)
@@ -61,6 +63,9 @@ fn lines(calls: &calls::Measured, reopened: &[reopening::Measured]) -> Vec<plot:
 
 fn main() {
     let options = options();
+    if options.contains_key("--load") {
+        return load::run();
+    }
     let only = |name: &str| {
         !options.contains_key("--check") && options.get("--only").is_none_or(|only| only == name)
     };

@@ -12,6 +12,7 @@ pub mod kept;
 mod landings;
 mod listed;
 mod lists;
+pub mod load;
 mod located;
 pub mod looked;
 pub mod mapped;

@@ -1,4 +1,4 @@
-use Rattle.list_image.proofs.WrittenLaws.{text-fits}
+use Rattle.fields.proofs.WrittenLaws.{text-fits}
 use borrow.Author.Needs.{needs}
 use Rattle.listing.proofs.main.Statement.{statement}
 use Rattle.listing.proofs.main.Tie as tie

@@ -1,5 +1,5 @@
 use Rattle.pages.specs.Pages.{padded}
-use Rattle.list_image.proofs.WrittenLaws.{written-page}
+use Rattle.fields.proofs.WrittenLaws.{written-page}
 use borrow.Author.Needs.{needs}
 use Rattle.list_image.proofs.image.list.Statement.{statement}
 use Rattle.list_image.proofs.image.list.Tie as tie

@@ -3,7 +3,7 @@ use Rattle.laws.proofs.refine.Metas.{length-metas}
 use Rattle.stored.specs.Stored.{newestAt}
 use Rattle.stored.proofs.StoredLaws.{found, newest-bounded, pending-bounded}
 use Rattle.stored.proofs.RuleLaws.{passed}
-use Rattle.list_image.proofs.WrittenLaws.{written-more, written-as}
+use Rattle.fields.proofs.WrittenLaws.{written-more, written-as}
 use Rattle.list_image.proofs.ImageLaws.{few-slots, image-is}
 use native.Mathlib.Omega.{arith}
 use borrow.Author.Needs.{needs}

@@ -3,9 +3,9 @@ use mathlib.Core.Path.{_≡_, refl, ap, _∙_}
 use lib.ListN.{length}
 use Rattle.layout.specs.Window.{slotsIn}
 use Rattle.protocol.specs.Recovery.{metasOf}
-use Rattle.list_image.specs.Written.{Written}
+use Rattle.fields.specs.Written.{Written}
 use Rattle.list_image.specs.Listing.{lineOf, linesOf}
-use Rattle.list_image.proofs.WrittenLaws.{written-none, written-more, written-as, written-length}
+use Rattle.fields.proofs.WrittenLaws.{written-none, written-more, written-as, written-length}
 use Rattle.list_image.proofs.ImageLaws.{lines-more}
 use native.Mathlib.Omega.{arith}
 use borrow.Author.Needs.{needs}

@@ -1,7 +1,7 @@
 use mathlib.Core.Path.{sym, _∙_}
 use borrow.Author.Tests.{eq-eqb, ne-eqb, le-leb, lt-leb, not-true, not-false}
 use Rattle.stored.proofs.ReadLaws.{limits}
-use Rattle.list_image.proofs.WrittenLaws.{written-as}
+use Rattle.fields.proofs.WrittenLaws.{written-as}
 use Rattle.list_image.proofs.ImageLaws.{unlabelled, wrong-length, too-long, bad-pages, listed-as}
 use native.Mathlib.Omega.{arith}
 use borrow.Author.Needs.{needs}

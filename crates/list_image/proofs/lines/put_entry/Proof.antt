@@ -1,6 +1,6 @@
 use mathlib.Core.List.{append-assoc}
 use Rattle.list_image.specs.Listing.{entryText}
-use Rattle.list_image.proofs.WrittenLaws.{written-more, written-as}
+use Rattle.fields.proofs.WrittenLaws.{written-more, written-as}
 use native.Mathlib.Omega.{arith}
 use borrow.Author.Needs.{needs}
 use Rattle.list_image.proofs.lines.put_entry.Statement.{statement}

@@ -1,5 +1,5 @@
 use mathlib.Core.Path.{refl}
-use Rattle.list_image.proofs.WrittenLaws.{written-text, written-as}
+use Rattle.fields.proofs.WrittenLaws.{written-text, written-as}
 use native.Mathlib.Omega.{arith}
 use borrow.Author.Needs.{needs}
 use Rattle.list_image.proofs.lines.put_fate.Statement.{statement}

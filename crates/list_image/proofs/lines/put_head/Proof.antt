@@ -1,7 +1,7 @@
 use mathlib.Core.List.{append-assoc}
 use Rattle.layout.specs.LabelPage.{layoutLine}
 use Rattle.list_image.specs.Listing.{headText}
-use Rattle.list_image.proofs.WrittenLaws.{written-text, written-more, written-as}
+use Rattle.fields.proofs.WrittenLaws.{written-text, written-more, written-as}
 use native.Mathlib.Omega.{arith}
 use borrow.Author.Needs.{needs}
 use Rattle.list_image.proofs.lines.put_head.Statement.{statement}

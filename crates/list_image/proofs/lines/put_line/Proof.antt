@@ -1,5 +1,5 @@
 use borrow.Author.Tests.{eq-eqb, ne-eqb}
-use Rattle.list_image.proofs.WrittenLaws.{written-none}
+use Rattle.fields.proofs.WrittenLaws.{written-none}
 use borrow.Author.Needs.{needs}
 use Rattle.list_image.proofs.lines.put_line.Statement.{statement}
 use Rattle.list_image.proofs.lines.put_line.Tie as tie

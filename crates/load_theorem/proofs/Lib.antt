@@ -1,0 +1,4 @@
+pub mod Lists
+pub mod Served
+pub mod AllEqual
+pub mod Grammar
