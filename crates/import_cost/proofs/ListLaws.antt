@@ -44,13 +44,15 @@ module _ (ssd hdd : List ℕ) (r : Record) (kept : recordTest r ≡ true) (ready
   abbrev number : ℕ
   number = crowdBy (r .count) (heldBy caller r)
 
-  run-is : (blocks : List ℕ) (place : ℕ) (t : List ℕ) (z : Run) (u : Bool) → Fair t (ranAs r (z .hand) (z .newest) u) → z .met ≡ 0 → (w : Tally)
+  run-is : (blocks : List ℕ) (place : ℕ) (t : List ℕ) (z : Run) (u : Bool) → Fair t (ranAs r (z .hand) (z .newest) u) → z .met ≡ 0
+      → (w : Tally)
       → w .box ≡ boxOf ssd hdd t (ranAs r (z .hand) (z .newest) u) → w .counts ≡ countsIn z
       → costFrom caller place blocks w ≡ runFrom (labelIn r) number place blocks (record { run = z; table = t })
   unfolding costFrom runFrom
   run-is [] place t z u F fresh w e c = λ i. record { answer = Counted (c i); scratch = e i .table }
   run-is (b ∷ blocks) place t z u F fresh w e c =
-      ap (λ (v : Tally). metOr (imports caller k v .said) place (imports caller k v) (costFrom caller (suc place) blocks (imports caller k v)))
+      ap (λ (v : Tally). metOr (imports caller k v .said) place (imports caller k v) (costFrom caller (suc place) blocks
+      (imports caller k v)))
       (λ i. record { box = e i; counts = c i; said = w .said })
       ∙ go (run-is blocks (suc place)) (place-ends ssd hdd r kept ready ssd-size hdd-size caller known t z u F fresh k (w .said))
     where
@@ -74,7 +76,8 @@ module _ (ssd hdd : List ℕ) (r : Record) (kept : recordTest r ≡ true) (ready
 
   pub cost-is-run : (t : List ℕ) → Fair t r → (blocks : List ℕ) → costFrom caller 0 blocks (notStarted (boxOf ssd hdd t r))
       ≡ runFrom (labelIn r) number 0 blocks (record { run = begun (r .hand) (r .newest); table = t })
-  cost-is-run t F blocks = run-is blocks 0 t (begun (r .hand) (r .newest)) (r .unconfirmed) F refl (notStarted (boxOf ssd hdd t r)) refl refl
+  cost-is-run t F blocks = run-is blocks 0 t (begun (r .hand) (r .newest)) (r .unconfirmed) F refl (notStarted
+      (boxOf ssd hdd t r)) refl refl
 
 -- how the question is judged: a page of 4,096 bytes stands for a scratch table as long as the table
 module _ (ssd hdd t : List ℕ) (r : Record) (blocks : List ℕ) (caller : ℕ) (scratch : List ℕ) (page : ℕ)
@@ -100,14 +103,16 @@ module _ (ssd hdd t : List ℕ) (r : Record) (blocks : List ℕ) (caller : ℕ) 
     number-is = rw lent;
   }
 
-  refused-cost : (n : ℕ) (more : List Reason) → Judges c x n more → (m : ℕ) → m ≡ n → m ≢ 0 → record { answer = Refused m; scratch = scratch } ≡ left
+  refused-cost : (n : ℕ) (more : List Reason) → Judges c x n more → (m : ℕ) → m ≡ n → m ≢ 0
+      → record { answer = Refused m; scratch = scratch } ≡ left
   unfolding costIn
   refused-cost n more J m e z =
       let f = first-judged c x n more J (λ q. z (e ∙ q)) in
       ap {B = CostLeft} (λ (k : ℕ). record { answer = Refused k; scratch = scratch }) (e ∙ sym (f .2))
       ∙ ap (λ (o : Option Reason). costBy o blocks caller scratch x) (sym (f .1))
 
-  pub cost-unready : (m : ℕ) → m ≡ readyThen (length ssd) (length hdd) page t r 0 → m ≢ 0 → record { answer = Refused m; scratch = scratch } ≡ left
+  pub cost-unready : (m : ℕ) → m ≡ readyThen (length ssd) (length hdd) page t r 0 → m ≢ 0
+      → record { answer = Refused m; scratch = scratch } ≡ left
   cost-unready m e z = refused-cost _ _ begins m e z
 
   module _ (ready : readyThen (length ssd) (length hdd) page t r 0 ≡ 0) where

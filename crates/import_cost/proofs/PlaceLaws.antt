@@ -107,10 +107,12 @@ module _ (ssd hdd t : List ℕ) (q : Record) (F : Fair t q) (ssd-size : length s
       refusing-is (offer b caller) y (f .0) (f .1) ∙ ap (λ (n : ℕ). refusing n y) (f .2 ∙ z)
 
   offer-low : (b : Block) (caller : ℕ) → caller ≤ 1 → b .0 < q .label .blocks
-      → effectOf (offer b caller) y ≡ performed (offerTurnAt (labelIn q) t (q .hand) (crowdBy (q .count) (heldBy caller q)) (conditionOf t b)) b caller y
+      → effectOf (offer b caller) y ≡ performed (offerTurnAt (labelIn q) t (q .hand) (crowdBy (q .count) (heldBy caller q))
+      (conditionOf t b)) b caller y
   offer-low b caller known bl =
       offer-turned ssd hdd t q b caller (serves b caller known bl)
-      ∙ ap (λ (n : ℕ). performed (offerTurnAt (labelIn q) t (q .hand) (crowdBy n (heldBy caller q)) (conditionOf t b)) b caller y) (sym (fair-count F))
+      ∙ ap (λ (n : ℕ). performed (offerTurnAt (labelIn q) t (q .hand) (crowdBy n (heldBy caller q)) (conditionOf t b)) b caller y) (sym
+      (fair-count F))
 
   land-low : (b : Block) → b .0 < q .label .blocks → (k : Condition) → conditionOf t b ≡ k → takesWrite k ≡ true
       → effectOf (land b zeroPage) y ≡ perform (landing zeroPage k) y
@@ -135,7 +137,8 @@ module _ (ssd hdd : List ℕ) (r : Record) (kept : recordTest r ≡ true) (ready
 
   -- where a place ends: met a refusal, or went on
   pub data Done : Tally → After → Type 0 where
-    met : (y : Tally) (a : After) → y .said ≡ refusal (a .run .met) → a .run .met ≢ 0 → y .counts ≡ countsIn (a .run) → y .box .table ≡ a .table
+    met : (y : Tally) (a : After) → y .said ≡ refusal (a .run .met) → a .run .met ≢ 0 → y .counts ≡ countsIn (a .run)
+        → y .box .table ≡ a .table
         → Done y a
     went : (y : Tally) (a : After) (u : Bool) → refused (y .said) ≡ false → a .run .met ≡ 0 → y .counts ≡ countsIn (a .run)
         → y .box ≡ box (a .table) (a .run .hand) (a .run .newest) u → Fair (a .table) (ranAs r (a .run .hand) (a .run .newest) u) → Done y a
@@ -151,7 +154,8 @@ module _ (ssd hdd : List ℕ) (r : Record) (kept : recordTest r ≡ true) (ready
     abbrev tally : Reply → Tally
     tally said = record { box = x; counts = countsIn z; said = said }
 
-    effect-low : b .0 < r .label .blocks → effectOf (offer b caller) x ≡ performed (offerTurnAt l t (z .hand) number (conditionOf t b)) b caller x
+    effect-low : b .0 < r .label .blocks → effectOf (offer b caller) x
+        ≡ performed (offerTurnAt l t (z .hand) number (conditionOf t b)) b caller x
     unfolding callersIn
     effect-low bl = offer-low ssd hdd t q F ssd-size hdd-size b caller known bl
 
@@ -159,18 +163,21 @@ module _ (ssd hdd : List ℕ) (r : Record) (kept : recordTest r ≡ true) (ready
     out s e = sym (has-nums (windowIn q) (s .0)) ∙ sym (fair-sound F .open-is (s .0)) ∙ e
 
     -- 7 refuses it
-    high-ends : (said : Reply) → effectOf (offer b caller) x ≡ refusing 7 x → Done (imports caller b (tally said)) (record { run = meets 7 z; table = t })
+    high-ends : (said : Reply) → effectOf (offer b caller) x ≡ refusing 7 x
+        → Done (imports caller b (tally said)) (record { run = meets 7 z; table = t })
     unfolding imports offersTo tallies
     high-ends said e = subst
         (λ (f : Effect). let w : Tally = tallied toWrite f (tally said) in
-        let v : Tally = repeats (isCopiedOut (w .said)) (offer b caller) w in Done (landsUnless (refused (v .said)) b v) (record { run = meets 7 z; table = t }))
+        let v : Tally = repeats (isCopiedOut (w .said)) (offer b caller) w in Done (landsUnless (refused (v .said)) b v)
+        (record { run = meets 7 z; table = t }))
         (sym e) (met _ _ refl (λ h. omega arith) refl refl)
 
     module _ (said : Reply) (bl : b .0 < r .label .blocks) where
       abbrev first : Tally
       first = tallies (offer b caller) (tally said)
 
-      by-turn : {T : Turn} → offerTurnAt l t (z .hand) number (conditionOf t b) ≡ T → first ≡ tallied toWrite (performed T b caller x) (tally said)
+      by-turn : {T : Turn} → offerTurnAt l t (z .hand) number (conditionOf t b) ≡ T
+          → first ≡ tallied toWrite (performed T b caller x) (tally said)
       unfolding tallies
       by-turn e = ap (λ (f : Effect). tallied toWrite f (tally said)) (effect-low bl)
           ∙ ap (λ (T : Turn). tallied toWrite (performed T b caller x) (tally said)) e
@@ -185,23 +192,30 @@ module _ (ssd hdd : List ℕ) (r : Record) (kept : recordTest r ≡ true) (ready
         end : Done (landsAfter first) a
 
       at : {y : Tally} {a : After} → first ≡ y → isCopiedOut (y .said) ≡ false → Done (landsAfter y) a → Finished a
-      at {y} {a} e c d = record { once = ap (λ (w : Tally). isCopiedOut (w .said)) e ∙ c; end = subst (λ (w : Tally). Done (landsAfter w) a) (sym e) d }
+      at {y} {a} e c d = record {
+        once = ap (λ (w : Tally). isCopiedOut (w .said)) e
+            ∙ c;
+        end = subst (λ (w : Tally). Done (landsAfter w) a) (sym e) d;
+      }
 
-      refuses-ends : (n : ℕ) → n ≢ 0 → offerTurnAt l t (z .hand) number (conditionOf t b) ≡ Refused n → Finished (record { run = meets n z; table = t })
+      refuses-ends : (n : ℕ) → n ≢ 0 → offerTurnAt l t (z .hand) number (conditionOf t b) ≡ Refused n
+          → Finished (record { run = meets n z; table = t })
       refuses-ends n h e = at (by-turn e) refl (met _ _ refl h refl refl)
 
       passes-ends : (s : Slot) → s .0 < r .label .slots → valid (rowFlags t s) ≡ true → writing (rowFlags t s) ≡ false
           → conditionOf t b ≡ Dirty s → offerTurnAt l t (z .hand) number (conditionOf t b) ≡ Passes → Finished (landsIn t z s)
       unfolding tallies perform
       passes-ends s h v w k e = at (by-turn e) refl
-          (went _ _ u (ap (λ (f : Effect). refused (f .said)) landing-is) fresh (ap (λ (f : Effect). tallied (toLand zeroPage) f (tally (first .said)) .counts) landing-is)
+          (went _ _ u (ap (λ (f : Effect). refused (f .said)) landing-is) fresh (ap (λ (f : Effect). tallied (toLand zeroPage) f (tally
+          (first .said)) .counts) landing-is)
           (ap (λ (f : Effect). record { images = x .images; table = f .table; state = f .state }) landing-is ∙ state-is)
           (fair-of q (F .record-kept) (F .ready) (lands-sound F b bl number s h v w) (z .hand) (hand-low q (F .record-kept)) (z .newest) u))
         where
           landing-is : effectOf (land b zeroPage) x ≡ perform (lands true s zeroPage) x
           landing-is = land-low ssd hdd t q F ssd-size hdd-size b bl (Dirty s) k refl
 
-          state-is : record { images = x .images; table = landedRow t s; state = landedState (writing (rowFlags t s)) s q } ≡ box (landedRow t s) (z .hand) (z .newest) u
+          state-is : record { images = x .images; table = landedRow t s; state = landedState (writing (rowFlags t s)) s q }
+              ≡ box (landedRow t s) (z .hand) (z .newest) u
           state-is = ap {B = Box} (λ (o : Bool). record { images = x .images; table = landedRow t s; state = landedState o s q }) w
 
       -- a slot is opened
@@ -247,7 +261,8 @@ module _ (ssd hdd : List ℕ) (r : Record) (kept : recordTest r ≡ true) (ready
         unheld-₁ k h held e =
             let v : List ℕ = clearedFrom n l t (z .hand) in
             let w : List ℕ = set v (2 * s .0) (b .0) in
-            let b-is = getD-set-other w (2 * s .0 + 1) (2 * k) f 0 (omega arith) ∙ getD-set-other v (2 * s .0) (2 * k) (b .0) 0 (omega arith) in
+            let b-is = getD-set-other w (2 * s .0 + 1) (2 * k) f 0 (omega arith)
+            ∙ getD-set-other v (2 * s .0) (2 * k) (b .0) 0 (omega arith) in
             let f-is = getD-set-other w (2 * s .0 + 1) (2 * k + 1) f 0 (omega arith)
             ∙ getD-set-other v (2 * s .0) (2 * k + 1) (b .0) 0 (omega arith) in
             unheld-alike l t v (fair-rows F) (O .alike) (s .0) (b .0) (omega (arith, O .low)) (O .unheld) k h
@@ -274,7 +289,8 @@ module _ (ssd hdd : List ℕ) (r : Record) (kept : recordTest r ≡ true) (ready
           | false ↦ perform (opening q s b caller f (clearedFrom n l t (z .hand)) hand) x
         ]) (tally said)
 
-        opens-ends : offerTurnAt l t (z .hand) number (conditionOf t b) ≡ Opens s f n hand → Finished (opensIf (spent (z .newest)) l t z b s f n hand)
+        opens-ends : offerTurnAt l t (z .hand) number (conditionOf t b) ≡ Opens s f n hand
+            → Finished (opensIf (spent (z .newest)) l t z b s f n hand)
         unfolding tallies perform confirmed
         opens-ends e = go (told (spent (z .newest)))
           where
@@ -330,10 +346,12 @@ module _ (ssd hdd : List ℕ) (r : Record) (kept : recordTest r ≡ true) (ready
         (λ (w : Tally). let o : Tally = repeats (isCopiedOut (w .said)) (offer b caller) w in
         Done (landsUnless (refused (o .said)) b o) (offered (CopiesOut s n) l t z number b d))
         (sym (by-turn t z u F fresh b said bl e))
-        (subst (λ (T : Turn). Done (landsUnless (refused (v .said)) b v) (taken T l t₂ y b d)) (sym (next-turn F b bl number s n C)) (G .end))
+        (subst (λ (T : Turn). Done (landsUnless (refused (v .said)) b v) (taken T l t₂ y b d)) (sym (next-turn F b bl number s n C))
+        (G .end))
 
   -- any place
-  pub place-ends : (t : List ℕ) (z : Run) (u : Bool) (F : Fair t (ranAs r (z .hand) (z .newest) u)) (fresh : z .met ≡ 0) (b : Block) (said : Reply)
+  pub place-ends : (t : List ℕ) (z : Run) (u : Bool) (F : Fair t (ranAs r (z .hand) (z .newest) u)) (fresh : z .met
+      ≡ 0) (b : Block) (said : Reply)
       → Done (imports caller b (tally t z u F fresh b said)) (placeAfter l t z number b)
   unfolding placeAfter
   place-ends t z u F fresh b said = go (told (leb (r .label .blocks) (b .0)))
@@ -343,10 +361,12 @@ module _ (ssd hdd : List ℕ) (r : Record) (kept : recordTest r ≡ true) (ready
           → Done (imports caller b (tally t z u F fresh b said)) (offered T l t z number b (dirtySlot k))
       low bl {k} (refuses n h) c e = offered-once t z u F fresh b said bl (turn-ends t z u F fresh b said bl {k = k} (refuses n h) refl c e)
       low bl (passes s h v w) c e = offered-once t z u F fresh b said bl (turn-ends t z u F fresh b said bl (passes s h v w) refl c e)
-      low bl {k} (opens s f n hand O) c e = offered-once t z u F fresh b said bl (turn-ends t z u F fresh b said bl {k = k} (opens s f n hand O) refl c e)
+      low bl {k} (opens s f n hand O) c e = offered-once t z u F fresh b said bl (turn-ends t z u F fresh b said bl {k = k}
+          (opens s f n hand O) refl c e)
       low bl (copies s n C) c e = copies-ends t z u F fresh b said bl s n C _ e
 
-      high : leb (r .label .blocks) (b .0) ≡ true → Done (imports caller b (tally t z u F fresh b said)) (record { run = meets 7 z; table = t })
+      high : leb (r .label .blocks) (b .0) ≡ true
+          → Done (imports caller b (tally t z u F fresh b said)) (record { run = meets 7 z; table = t })
       high e = offered-once-high (offer-high ssd hdd t (ranAs r (z .hand) (z .newest) u) F ssd-size hdd-size b caller known e)
         where
           offered-once-high : effectOf (offer b caller) (box t (z .hand) (z .newest) u) ≡ refusing 7 (box t (z .hand) (z .newest) u)

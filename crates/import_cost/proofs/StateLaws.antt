@@ -68,7 +68,8 @@ landed-again r e s out caller hand newest =
     ap (λ (w : List Slot). withCallers (withWindow q true (without s w)) (beside s w (callersIn q))) window-is
     ∙ ap (λ (cs : List ℕ). withCallers (withWindow q true (without s w₁)) (beside s w₁ cs)) callers-are
     ∙ ap (λ (w : List Slot). withCallers (withWindow q true w) (beside s w₁ c₁)) (last-leaves s (windowIn r) out)
-    ∙ ap (λ (cs : List ℕ). withCallers (withWindow q true (windowIn r)) cs) (last-beside s (windowIn r) caller (callersIn r) same-length out)
+    ∙ ap (λ (cs : List ℕ). withCallers (withWindow q true (windowIn r)) cs) (last-beside s (windowIn r) caller
+    (callersIn r) same-length out)
     ∙ ap (λ (p : Record). ranAs p hand newest true) (remade-same r P)
   where
     P : Parts r
@@ -90,7 +91,13 @@ landed-again r e s out caller hand newest =
     window-is = unfold windowIn in (take-array w₁)
 
     callers-are : callersIn q ≡ c₁
-    callers-are = named-are q c₁ (omega (arith, same-length, length-append (windowIn r) (s ∷ []), length-append (callersIn r) (caller ∷ []))) refl
+    callers-are = named-are q c₁ (omega (
+      arith,
+      same-length,
+      length-append (windowIn r) (s ∷ []),
+      length-append (callersIn r)
+          (caller ∷ []),
+    )) refl
 
 -- a block's condition, by the lowest row that holds it; and where none does
 pub condition-at : (t : List ℕ) (b : Block) (s : Slot) → 2 * s .0 + 1 < length t → valid (rowFlags t s) ≡ true → rowBlock t s .0 ≡ b .0

@@ -63,7 +63,8 @@ module _ (l : Label) (number : ℕ) (blocks words : List ℕ) (whole : CostLeft)
           steady = P .steady;
           rest =
               rw (add-one j)
-              (ap (λ (y : Bool). wentOr y j a (runFrom l number (suc j) (drop (suc j) blocks) a)) (sym (eq-eqb (a .run .met) 0 z)) ∙ sym one-more ∙ G .rest);
+              (ap (λ (y : Bool). wentOr y j a (runFrom l number (suc j) (drop (suc j) blocks) a)) (sym (eq-eqb (a .run .met) 0 z))
+              ∙ sym one-more ∙ G .rest);
           few-copies = omega (arith, P .few-copies, G .few-copies);
           few-metadata = omega (arith, P .few-metadata, G .few-metadata);
           few-landings = omega (arith, P .few-landings, G .few-landings);
@@ -75,7 +76,8 @@ module _ (l : Label) (number : ℕ) (blocks words : List ℕ) (whole : CostLeft)
   pub done : (t : List ℕ) (r : Run) (j : ℕ) → Going t r j → length blocks ≤ j
       → record { answer = Counted (countsIn r); scratch = t } ≡ whole
   unfolding runFrom
-  done t r j G h = sym (ap (λ (bs : List ℕ). runFrom l number j bs (record { run = r; table = t })) (drop-of-length-le blocks {i = j} h)) ∙ G .rest
+  done t r j G h = sym (ap (λ (bs : List ℕ). runFrom l number j bs (record { run = r; table = t })) (drop-of-length-le blocks {i = j} h))
+      ∙ G .rest
 
 -- before the first place
 pub begins : (l : Label) (number : ℕ) (blocks words t : List ℕ) (hand : Slot) (newest : ℕ) → Steady l t hand → words ≡ placesOf t blocks

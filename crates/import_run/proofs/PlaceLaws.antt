@@ -61,7 +61,8 @@ unheld-flags t s f h same n c H u k = go (ℕ-discrete u s)
 abbrev steady-of : {t : List ℕ} (r : Record) → Fair t r → Steady (labelIn r) t (r .hand)
 steady-of r F = record { state = r; fair = F; label-is = refl; hand-is = refl }
 
-steady-by : {l : Label} {t : List ℕ} {h : Slot} (P : Label → Slot → Type 0) (S : Steady l t h) → P (labelIn (S .state)) (S .state .hand) → P l h
+steady-by : {l : Label} {t : List ℕ} {h : Slot} (P : Label → Slot → Type 0) (S : Steady l t h) → P (labelIn (S .state)) (S .state .hand)
+    → P l h
 steady-by {l = l} P S p = subst (λ (k : Slot). P l k) (S .hand-is) (subst (λ (k : Label). P k (S .state .hand)) (S .label-is) p)
 
 pub steady-sweeps : {l : Label} {t : List ℕ} {h : Slot} → Steady l t h → Sweepable l t h
@@ -86,7 +87,8 @@ condition-within {l} {t} S b = go (stands l t (steady-sweeps S .size) b)
 pub steady-takes : {l : Label} {t : List ℕ} {h : Slot} → Steady l t h → (number : ℕ) (b : Block) → b .0 < l .blocks
     → Takes (offerTurnAt l t h number (conditionOf t b)) l t (dirtySlot (conditionOf t b))
 steady-takes {t = t} S number b = steady-by
-    (λ l h. b .0 < l .blocks → Takes (offerTurnAt l t h number (conditionOf t b)) l t (dirtySlot (conditionOf t b))) S (λ bl. go bl (turned (S .fair) b bl number))
+    (λ l h. b .0 < l .blocks → Takes (offerTurnAt l t h number (conditionOf t b)) l t (dirtySlot (conditionOf t b))) S (λ bl. go bl
+    (turned (S .fair) b bl number))
   where
     go : (bl : b .0 < S .state .label .blocks) → {k : Condition} {T : Turn} → Turned (S .fair) b bl number k T
         → Takes T (labelIn (S .state)) t (dirtySlot k)
@@ -142,7 +144,8 @@ pub record Placed (l : Label) (t : List ℕ) (r : Run) (b : Block) (a : After) :
   pub few-landings : a .run .landings ≤ r .landings + 1
   pub unheld : (n c : ℕ) → n ≤ l .slots → b .0 ≢ c → Unheld n t c → Unheld n (a .table) c
 
-unmoved : {l : Label} {t : List ℕ} {r : Run} {b : Block} → Steady l t (r .hand) → (m : ℕ) → Placed l t r b (record { run = meets m r; table = t })
+unmoved : {l : Label} {t : List ℕ} {r : Run} {b : Block} → Steady l t (r .hand) → (m : ℕ)
+    → Placed l t r b (record { run = meets m r; table = t })
 unmoved S m = record {
   steady = S;
   same-size = refl;
@@ -164,7 +167,8 @@ module _ {t : List ℕ} (s : Record) (F : Fair t s) (b : Block) (bl : b .0 < s .
   takes-placed (passes u h v w) e r q =
       let S = lands-sound F b bl number u h v w in
       record {
-        steady = rw q (steady-of (ranAs s (s .hand) 0 false) (fair-of s (F .record-kept) (F .ready) S (s .hand) (hand-low s (F .record-kept)) 0 false));
+        steady = rw q (steady-of (ranAs s (s .hand) 0 false) (fair-of s (F .record-kept) (F .ready) S (s .hand) (hand-low s
+            (F .record-kept)) 0 false));
         same-size = S .size ∙ sym (F .size);
         few-copies = omega arith;
         few-metadata = omega arith;
@@ -238,7 +242,8 @@ module _ {t : List ℕ} (s : Record) (F : Fair t s) (b : Block) (bl : b .0 < s .
   copies-placed r q d =
       let G = copied-fair 0 false in
       let T : Turn = Opens u 7 0 (nextSlot m u) in
-      let P = takes-placed (ranAs s u 0 false) G b bl number (opens {k = NotCached} u 7 0 (nextSlot m u) (opens-next 0 false)) refl (copies-out u r) refl in
+      let P = takes-placed (ranAs s u 0 false) G b bl number (opens {k = NotCached} u 7 0 (nextSlot m u) (opens-next 0 false)) refl
+      (copies-out u r) refl in
       let e = takes-copies (ranAs s u 0 false) G b bl number T (copies-out u r) d in
       rw (q, next-turn F b bl number u n C) (record {
         steady = P .steady;
@@ -257,7 +262,8 @@ turns-placed s F b bl number (passes u h v w) r q = takes-placed s F b bl number
 turns-placed s F b bl number {k} (opens u f n hand O) r q = takes-placed s F b bl number {k = k} (opens u f n hand O) refl r q
 turns-placed s F b bl number (copies u n C) r q = copies-placed s F b bl number u n C r q _
 
-pub steady-placed : {l : Label} {t : List ℕ} (r : Run) → Steady l t (r .hand) → (number : ℕ) (b : Block) → Placed l t r b (placeAfter l t r number b)
+pub steady-placed : {l : Label} {t : List ℕ} (r : Run) → Steady l t (r .hand) → (number : ℕ) (b : Block)
+    → Placed l t r b (placeAfter l t r number b)
 unfolding placeAfter
 steady-placed {l} {t} r S number b = go (told (leb (l .blocks) (b .0)))
   where
@@ -265,7 +271,8 @@ steady-placed {l} {t} r S number b = go (told (leb (l .blocks) (b .0)))
     low = subst (λ (k : Label). b .0 < k .blocks → Placed k t r b (placeIn (conditionOf t b) k t r number b)) (S .label-is)
         (λ bl. subst
         (λ (h : Slot). Placed (labelIn (S .state)) t r b
-        (offered (offerTurnAt (labelIn (S .state)) t h number (conditionOf t b)) (labelIn (S .state)) t r number b (dirtySlot (conditionOf t b))))
+        (offered (offerTurnAt (labelIn (S .state)) t h number (conditionOf t b)) (labelIn (S .state)) t r number b (dirtySlot
+        (conditionOf t b))))
         (S .hand-is) (turns-placed (S .state) (S .fair) b bl number (turned (S .fair) b bl number) r (sym (S .hand-is))))
 
     go : Told (leb (l .blocks) (b .0)) → Placed l t r b (placeAfter l t r number b)

@@ -232,15 +232,16 @@ module _ {t : List ℕ} {r : Record} (F : Fair t r) (b : Block) (bl : b .0 < r .
       by-flags s h val un (told-true w) (told-true d) = rw (conditionAt, w, d) (refuses 8 (λ q. omega arith))
       by-flags s h val un (told-true w) (told-false d) = rw (conditionAt, w, d) (refuses 8 (λ q. omega arith))
       by-flags s h val un (told-false w) (told-true d) = rw (conditionAt, w, d) (passes s h val w)
-      by-flags s h val un (told-false w) (told-false d) = rw (conditionAt, w, d) (roomy _ (λ z. opens s (withWriting (rowFlags t s)) 0 (r .hand) (record {
-        low = h;
-        alike = alike-same l t (F .size) R;
-        hand-low = low;
-        flags = clean-opened (R (s .0) h .flags) val w d;
-        was-shut = at-open l t R (s .0) h ∙ w;
-        unheld = un;
-        room = z;
-      })))
+      by-flags s h val un (told-false w) (told-false d) = rw (conditionAt, w, d) (roomy _ (λ z. opens s (withWriting (rowFlags t s)) 0
+          (r .hand) (record {
+            low = h;
+            alike = alike-same l t (F .size) R;
+            hand-low = low;
+            flags = clean-opened (R (s .0) h .flags) val w d;
+            was-shut = at-open l t R (s .0) h ∙ w;
+            unheld = un;
+            room = z;
+          })))
 
       go : {o : Option Slot} → Located 0 t (b .0) o → Turned (conditionAt t o) (offerTurnAt l t (r .hand) number (conditionAt t o))
       go (nowhere h) = roomy _ (λ z. swept (λ s k. h s (omega (arith, F .size))) z (sweptOf l t (r .hand)) refl)
@@ -267,7 +268,12 @@ module _ {t : List ℕ} {r : Record} (F : Fair t r) (b : Block) (bl : b .0 < r .
     row-fits = omega (arith, O .alike .size, O .low)
 
     pub opened-flags : rowFlags (setRow (v n) s b f) s ≡ f
-    opened-flags = getD-set-same (set (v n) (2 * s .0) (b .0)) (2 * s .0 + 1) f 0 (omega (arith, row-fits, length-set (v n) (2 * s .0) (b .0)))
+    opened-flags = getD-set-same (set (v n) (2 * s .0) (b .0)) (2 * s .0 + 1) f 0 (omega (
+      arith,
+      row-fits,
+      length-set (v n) (2 * s .0)
+          (b .0),
+    ))
 
     pub landed-is : landedRow (setRow (v n) s b f) s ≡ setRow (v n) s b 11
     landed-is =
@@ -277,7 +283,8 @@ module _ {t : List ℕ} {r : Record} (F : Fair t r) (b : Block) (bl : b .0 < r .
 
     pub opened-sound : Sound l (landedRow (setRow (v n) s b f) s) (windowIn r)
     opened-sound = rw landed-is
-        (sound-sets (sound-alike S (O .alike)) (s .0) (b .0) 11 (O .low) (record { flags = f11; low = λ _. bl; free = λ q. clash {b = true} refl q })
+        (sound-sets (sound-alike S (O .alike)) (s .0) (b .0) 11 (O .low)
+        (record { flags = f11; low = λ _. bl; free = λ q. clash {b = true} refl q })
         (unfold rowOf in refl) (ap openRow (O .alike .row (s .0)) ∙ O .was-shut))
 
   -- a slot is copied out, and the next turn takes it

@@ -54,7 +54,8 @@ returns : tie.Need-returns
 returns c =
     let j = c .before in
     let a = c .before .before .before .before .before .before .before .before .args in
-    cost-unready (a .ssd .now) (a .hdd .now) (a .table .now) (a .state) (a .blocks .now) (a .caller) (a .scratch .now) _ (c .before .before .lent .ensures) (j .judge-ready .result .number)
+    cost-unready (a .ssd .now) (a .hdd .now) (a .table .now) (a .state) (a .blocks .now) (a .caller) (a .scratch .now) _
+    (c .before .before .lent .ensures) (j .judge-ready .result .number)
     (found _ (a .table .now) _ (j .judge-ready .ensures)) (c .if1 .taken)
 
 judge-call-requires : tie.Need-judge-call-requires
@@ -65,7 +66,8 @@ returns-2 c =
     let k = c .before in
     let e = k .before in
     let a = start e .args in
-    cost-refused (a .ssd .now) (a .hdd .now) (a .table .now) (a .state) (a .blocks .now) (a .caller) (a .scratch .now) _ (e .before .before .lent .ensures) (seen e .none) (k .judge-call .result) (k .judge-call .ensures)
+    cost-refused (a .ssd .now) (a .hdd .now) (a .table .now) (a .state) (a .blocks .now) (a .caller) (a .scratch .now) _
+    (e .before .before .lent .ensures) (seen e .none) (k .judge-call .result) (k .judge-call .ensures)
     (c .if2 .taken)
 
 copy-requires : tie.Need-copy-requires
@@ -100,13 +102,21 @@ returns-3 c =
     let G = box e in
     let S = scans (a .blocks .now) (a .caller) (listed o) in
     let full : d .before .before .before .before .crowded .result ≡ crowdBy (a .state .count) (heldBy (a .caller) (a .state)) =
-    d .before .before .before .before .crowded .ensures ∙ ap (λ (n : ℕ). crowdBy (e .before .judge-ready .result .writing) n) (h .held .ensures)
-    ∙ ap (λ (n : ℕ). crowdBy n (heldBy (a .caller) (a .state))) (seen e .writing-is ∙ sym (open-count (a .ssd .now) (a .hdd .now) _ (a .table .now) (a .state) G)) in
+    d .before .before .before .before .crowded .ensures
+    ∙ ap (λ (n : ℕ). crowdBy (e .before .judge-ready .result .writing) n) (h .held .ensures)
+    ∙ ap (λ (n : ℕ). crowdBy n (heldBy (a .caller) (a .state))) (seen e .writing-is
+    ∙ sym (open-count (a .ssd .now) (a .hdd .now) _ (a .table .now) (a .state) G)) in
     d .run-all .ensures
-    ∙ (λ i. runFrom (a .state .label) (full i) 0 (a .blocks .now) (record { run = begun (a .state .hand) (a .state .newest); table = m .copy .ensures i }))
-    ∙ sym (cost-is-run (a .ssd .now) (a .hdd .now) (a .state) (G .box .record-kept) (G .phase-is) (G .box .sound .ssd-size) (G .box .sound .hdd-size)
+    ∙ (λ i. runFrom (a .state .label) (full i) 0 (a .blocks .now) (record {
+      run = begun (a .state .hand)
+          (a .state .newest);
+      table = m .copy .ensures i;
+    }))
+    ∙ sym (cost-is-run (a .ssd .now) (a .hdd .now) (a .state) (G .box .record-kept) (G .phase-is) (G .box .sound .ssd-size)
+    (G .box .sound .hdd-size)
     (a .caller) (S .known) (a .table .now) (ready-fair G) (a .blocks .now))
-    ∙ cost-runs (a .ssd .now) (a .hdd .now) (a .table .now) (a .state) (a .blocks .now) (a .caller) (a .scratch .now) _ (e .before .before .lent .ensures) (seen e .none) (listed o)
+    ∙ cost-runs (a .ssd .now) (a .hdd .now) (a .table .now) (a .state) (a .blocks .now) (a .caller) (a .scratch .now) _
+    (e .before .before .lent .ensures) (seen e .none) (listed o)
 
 pub cost-spec : {M : Type 1} → statement M
 cost-spec =

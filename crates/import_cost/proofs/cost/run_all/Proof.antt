@@ -18,8 +18,14 @@ part-words-end c = search needs
 
 run-found-requires : tie.Need-run-found-requires
 run-found-requires c κs =
-    let s = c .before .before .before .before in
-    (s .pre .0, (length-take (length (s .args .blocks .now) - 0) (replicate 63 0) ∙ omega (arith, s .pre .1 .0), (s .pre .1 .0, s .pre .1 .1)))
+    let s = c .before .before .before .before in (
+      s .pre .0,
+      (
+        length-take (length (s .args .blocks .now) - 0) (replicate 63 0)
+            ∙ omega (arith, s .pre .1 .0),
+        (s .pre .1 .0, s .pre .1 .1),
+      ),
+    )
 
 same-length : tie.Need-same-length
 same-length c = search needs

@@ -50,8 +50,13 @@ loop-less c = omega arith
 loop-again : tie.Need-loop-again Inv-loop μ-loop
 loop-again c =
     let m = c .before .before .loop in
-    let a = c .before .before .before .args in
-    (m .inv .0, length-set (m .scratch) (m .k) _ ∙ m .inv .1, omega arith, copied (a .table .now) (m .scratch) (m .k) (omega arith) (m .inv .3))
+    let a = c .before .before .before .args in (
+      m .inv .0,
+      length-set (m .scratch) (m .k) _
+          ∙ m .inv .1,
+      omega arith,
+      copied (a .table .now) (m .scratch) (m .k) (omega arith) (m .inv .3),
+    )
 
 same-length : tie.Need-same-length Inv-loop μ-loop
 same-length c = search needs

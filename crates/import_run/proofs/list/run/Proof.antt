@@ -14,7 +14,8 @@ use Rattle.import_run.proofs.list.run.Tie as tie
 
 abbrev Inv-loop : tie.InvT-loop
 Inv-loop l table₀ newest number blocks words n run₀ j₀ table run j =
-    (n ≡ length blocks) × Going l number blocks words (runFrom l number 0 blocks (record { run = run₀; table = table₀ })) table run j × (length words ≡ length blocks)
+    (n ≡ length blocks) × Going l number blocks words (runFrom l number 0 blocks (record { run = run₀; table = table₀ })) table run j
+    × (length words ≡ length blocks)
     × (length table ≡ length table₀) × (j ≤ length blocks)
 
 abbrev μ-loop : tie.MeasureT-loop
@@ -22,7 +23,11 @@ abbrev μ-loop : tie.MeasureT-loop
 
 -- the whole run
 abbrev whole : tie.Start Inv-loop μ-loop → CostLeft
-whole s = let a = s .args in runFrom (a .l) (a .number) 0 (a .blocks .now) (record { run = begun (a .hand) (a .newest); table = a .table .now })
+whole s = let a = s .args in runFrom (a .l) (a .number) 0 (a .blocks .now) (record {
+  run = begun (a .hand)
+      (a .newest);
+  table = a .table .now;
+})
 
 loop-holds : tie.Need-loop-holds Inv-loop μ-loop
 loop-holds c =
@@ -108,7 +113,8 @@ loop-again c =
     let m = p .before .before .before .before .before .loop in
     let s = p .before .before .before .before .before .before .before .before .before in
     let a = s .args in
-    let I = goes-on (a .l) (a .number) (a .blocks .now) (a .words .now) (whole s) (m .table) (m .run) (m .j) (m .inv .1) (omega arith) (s .pre .1 .1 .1)
+    let I = goes-on (a .l) (a .number) (a .blocks .now) (a .words .now) (whole s) (m .table) (m .run) (m .j) (m .inv .1) (omega arith)
+    (s .pre .1 .1 .1)
     (ap (λ (z : After). z .run .met) (sym e) ∙ c .if1 .left) in (
       refl,
       subst (λ (z : After). Going (a .l) (a .number) (a .blocks .now) (a .words .now) (whole s) (z .table) (z .run) (m .j + 1)) (sym e) I,

@@ -14,7 +14,11 @@ same-length : tie.Need-same-length
 same-length c = search needs
 
 returns : tie.Need-returns
-returns c = λ i. record { run = lands (c .before .before .before .before .before .before .args .run); table = (c .before .before .before .land-row .ensures) i }
+returns c = λ i. record {
+  run = lands (c .before .before .before .before .before .before .args .run);
+  table =
+      (c .before .before .before .land-row .ensures) i;
+}
 
 pub land-spec : {M : Type 1} → statement M
 land-spec = tie.close (tie.spec land-row-requires add-next same-length returns)

@@ -72,7 +72,13 @@ take-requires-2 c κs =
     let s = k .before .before .before .before .before .before in
     let C = copied s (k .before .before .before .turn .given .1) in
     let W = steady-sweeps (C .steady) in
-    rw (c .before .offer-at .ensures, ap (λ (e : After). e .table) (k .copy-out .ensures), ap (λ (e : After). e .run) (k .copy-out .ensures), C .next) (
+    rw (
+      c .before .offer-at .ensures,
+      ap (λ (e : After). e .table) (k .copy-out .ensures),
+      ap (λ (e : After). e .run)
+          (k .copy-out .ensures),
+      C .next,
+    ) (
       (W .size, C .low),
       (
         (C .low, omega arith),
@@ -90,8 +96,14 @@ returns-2 c =
     let s = k .before .before .before .before .before .before in
     let a = s .args in
     d .take2 .ensures
-    ∙ (rw (d .before .before .offer-at .ensures, ap (λ (e : After). e .table) (k .copy-out .ensures), ap (λ (e : After). e .run) (k .copy-out .ensures)))
-    ∙ ap (λ (T : Turn). offered T (a .l) (a .table .now) (a .run) (a .number) (a .b) (a .d)) (sym (k .before .before .before .turn .given .1))
+    ∙ (rw (
+      d .before .before .offer-at .ensures,
+      ap (λ (e : After). e .table) (k .copy-out .ensures),
+      ap (λ (e : After). e .run)
+          (k .copy-out .ensures),
+    ))
+    ∙ ap (λ (T : Turn). offered T (a .l) (a .table .now) (a .run) (a .number) (a .b) (a .d)) (sym
+    (k .before .before .before .turn .given .1))
 
 pub offer-spec : {M : Type 1} → statement M
 offer-spec =

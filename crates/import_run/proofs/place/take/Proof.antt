@@ -10,7 +10,8 @@ use Rattle.import_run.proofs.place.take.Statement.{statement}
 use Rattle.import_run.proofs.place.take.Tie as tie
 
 -- what is left by a turn that is known
-after : (s : tie.Start) {T : Turn} → s .args .turn ≡ T → {e : After} → e ≡ taken T (s .args .l) (s .args .table .now) (s .args .run) (s .args .b) (s .args .d)
+after : (s : tie.Start) {T : Turn} → s .args .turn ≡ T → {e : After}
+    → e ≡ taken T (s .args .l) (s .args .table .now) (s .args .run) (s .args .b) (s .args .d)
     → e ≡ taken (s .args .turn) (s .args .l) (s .args .table .now) (s .args .run) (s .args .b) (s .args .d)
 after s e f = let a = s .args in f ∙ ap (λ (T : Turn). taken T (a .l) (a .table .now) (a .run) (a .b) (a .d)) (sym e)
 
@@ -43,7 +44,8 @@ enum-told-2 : tie.Need-enum-told-2
 enum-told-2 c = search needs
 
 returns : tie.Need-returns
-returns c = after (c .before .before .before .before .before) (c .before .before .turn .given .1) (λ i. record { run = c .met .ensures i; table = c .before .before .before .before .before .args .table .now })
+returns c = after (c .before .before .before .before .before) (c .before .before .turn .given .1)
+    (λ i. record { run = c .met .ensures i; table = c .before .before .before .before .before .args .table .now })
 
 same-length : tie.Need-same-length
 same-length c = search needs
