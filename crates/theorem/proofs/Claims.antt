@@ -103,12 +103,12 @@ module _ (l : Label) (k : Core) (S : Shape l k) (p : Plain) (M : Mending (abs l 
       ap (λ (o : Option Reason). refused (decided o step (boxOfCore l k) .said)) (step-judged l k S p M on)
       ∙ ap (λ v. refused (perform v (boxOfCore l k) .said)) (step-plan l k S p M on)
 
-  step-box : boxAfter (resultOf step (boxOfCore l k)) ≡ boxOfCore l (mendedCore k)
+  step-box : boxAfter (resultOf step (boxOfCore l k)) ≡ boxOfCore l (mendedCore l k)
   unfolding called
   step-box = ap (λ (v : World). v .box) (step-world l k S p M on (record { page = λ b. []; contents = λ b. [] }))
 
   -- a step leaves fewer pending slots
-  step-fewer : length (mendedCore k .window) < length (k .window)
+  step-fewer : length (mendedCore l k .window) < length (k .window)
   step-fewer = fewer (k .window) (some-pending l k S p M on)
 
 -- at most as many steps as slots are pending
@@ -139,13 +139,13 @@ ends-in l zero k S p M h = go (k .recovering) refl
     go : (r : Bool) → k .recovering ≡ r → Ends 0 (boxOfCore l k)
     go false e = record { number = 0; most = omega arith; none-refused = λ j q. absurd (omega arith); ends = rw e }
     go true e = let q = step-fewer l k S p M e in absurd (omega arith)
-ends-in l (suc n) k S p M h = go (k .recovering) refl (λ S′ M′ h′. ends-in l n (mendedCore k) S′ p M′ h′)
+ends-in l (suc n) k S p M h = go (k .recovering) refl (λ S′ M′ h′. ends-in l n (mendedCore l k) S′ p M′ h′)
   where
-    go : (r : Bool) → k .recovering ≡ r → (Shape l (mendedCore k) → Mending (abs l (mendedCore k)) p → length (mendedCore k .window) ≤ n
-        → Ends n (boxOfCore l (mendedCore k))) → Ends (suc n) (boxOfCore l k)
+    go : (r : Bool) → k .recovering ≡ r → (Shape l (mendedCore l k) → Mending (abs l (mendedCore l k)) p → length (mendedCore l k .window) ≤ n
+        → Ends n (boxOfCore l (mendedCore l k))) → Ends (suc n) (boxOfCore l k)
     go false e ih = record { number = 0; most = omega arith; none-refused = λ j q. absurd (omega arith); ends = rw e }
     go true e ih =
-        ends-more n (boxOfCore l k) (boxOfCore l (mendedCore k)) (step-said l k S p M e) (step-box l k S p M e)
+        ends-more n (boxOfCore l k) (boxOfCore l (mendedCore l k)) (step-said l k S p M e) (step-box l k S p M e)
         (ih (mended-core-shape l k S p M e) (rw (mended-core-abs l k S p M e) (mended-here l k S p M e))
         (omega (arith, step-fewer l k S p M e)))
 
@@ -251,13 +251,13 @@ step-allowed l w I f b h = at-core (λ v. finished step (resultOf step (v .box))
             let e = step-world l (I .core) (I .shape) (I .plain) M r (w .disk) in
             let f = refused (resultOf step (boxOfCore l (I .core)) .said) in
             let q = isReady (resultOf step (boxOfCore l (I .core)) .state .phase) in
-            let ph : q ≡ isReady (phaseFor (mendedCore (I .core) .recovering)) =
+            let ph : q ≡ isReady (phaseFor (mendedCore l (I .core) .recovering)) =
             ap (λ (y : Box). isReady (y .state .phase)) (sym (called-box step (worldOf l (I .core) (w .disk))))
             ∙ ap (λ (z : World). isReady (z .box .state .phase)) e in
-            let done : mendedCore (I .core) .recovering ≡ false =
-            ready-off (mendedCore (I .core) .recovering) (sym ph ∙ and-parts (not f) (true && q) g .1) in
+            let done : mendedCore l (I .core) .recovering ≡ false =
+            ready-off (mendedCore l (I .core) .recovering) (sym ph ∙ and-parts (not f) (true && q) g .1) in
             rw e
-            (finish-allowed l (mendedCore (I .core)) (mended-core-shape l (I .core) (I .shape) (I .plain) M r) (I .plain) (w .disk)
+            (finish-allowed l (mendedCore l (I .core)) (mended-core-shape l (I .core) (I .shape) (I .plain) M r) (I .plain) (w .disk)
             (I .agrees)
             (rw (mended-core-abs l (I .core) (I .shape) (I .plain) M r) (mended-here l (I .core) (I .shape) (I .plain) M r)) done (b .0) h)
 

@@ -160,7 +160,7 @@ goes-step l k S p M on d b =
     goes-to (sym (step-world l k S p M on d))
     (record {
       under = record {
-        core = mendedCore k;
+        core = mendedCore l k;
         is-core = refl;
         shape = mended-core-shape l k S p M on;
         plain = p;

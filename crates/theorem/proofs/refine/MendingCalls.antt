@@ -131,10 +131,10 @@ fewer w e =
     )
 
 -- a mending step
-abbrev pub mendedCore : Core → Core
-mendedCore k =
+abbrev pub mendedCore : Label → Core → Core
+mendedCore l k =
     let q = lowestPage (k .window) in
-    storedCore k (k .table) (k .hand) (offPage q (k .window)) (k .callers) q (not (isEmpty (offPage q (k .window))))
+    storedCore l k (k .table) (k .hand) (offPage q (k .window)) (k .callers) q (not (isEmpty (offPage q (k .window))))
 
 module _ (l : Label) (k : Core) (S : Shape l k) (p : Plain) (M : Mending (abs l k) p) (on : k .recovering ≡ true) where
   pend : Pending (k .window) (lowestPage (k .window))
@@ -163,12 +163,12 @@ module _ (l : Label) (k : Core) (S : Shape l k) (p : Plain) (M : Mending (abs l 
   rest-rule = rw (nums-off (lowestPage (k .window)) (k .window))
       (Rattle.laws.proofs.model.Base.keep-window _ (l .slots) (nums (k .window)) (pending-rule l k S p M on))
 
-  pub mended-core-shape : Shape l (mendedCore k)
+  pub mended-core-shape : Shape l (mendedCore l k)
   mended-core-shape =
       stored-shape l k S newest-is (mending-left l k S p M on) (k .table) (S .table-size) (S .rows) (k .hand) (S .hand-ok) _ rest-rule
       (k .callers) (lowestPage (k .window)) on-page _ (mended-kept (rw on at (S .callers)) _ _)
 
-  pub mended-core-abs : abs l (mendedCore k) ≡ mended (lowestPage (k .window)) (abs l k)
+  pub mended-core-abs : abs l (mendedCore l k) ≡ mended (lowestPage (k .window)) (abs l k)
   mended-core-abs =
       mended-abs l k S newest-is (mending-left l k S p M on) (k .table) (S .table-size) (S .rows) (k .hand) (S .hand-ok) _ rest-rule
       (k .callers) (lowestPage (k .window)) on-page _ refl refl refl
@@ -182,7 +182,7 @@ module _ (l : Label) (k : Core) (S : Shape l k) (p : Plain) (M : Mending (abs l 
   mends-as d q = refl
 
   -- the world that a step leaves
-  pub step-world : (d : Disk) → called step (worldOf l k d) ≡ finishedWorld (boxOfCore l (mendedCore k)) d
+  pub step-world : (d : Disk) → called step (worldOf l k d) ≡ finishedWorld (boxOfCore l (mendedCore l k)) d
   step-world d =
       called-as step (worldOf l k d)
       ∙ ap (λ (o : Option Reason). calledAs step (decided o step (boxOfCore l k)) (worldOf l k d)) (step-judged l k S p M on)
@@ -191,7 +191,7 @@ module _ (l : Label) (k : Core) (S : Shape l k) (p : Plain) (M : Mending (abs l 
       ∙ ap (λ (x : Box). finishedWorld x d) (mends-box l k (lowestPage (k .window)))
 
   pub step-inv : (d : Disk) → Agrees l d p → Inv l (called step (worldOf l k d))
-  step-inv d A = rw (step-world d) (finish-inv l (mendedCore k) mended-core-shape p d A (rw mended-core-abs mended-here))
+  step-inv d A = rw (step-world d) (finish-inv l (mendedCore l k) mended-core-shape p d A (rw mended-core-abs mended-here))
 
 -- a reopening of the images of k, whatever table of the right length and record it is handed
 module _ (l : Label) (k : Core) (p : Plain) (K : ImagesKept l (k .ssd) (k .hdd)) (St : Stored (abs l k) p) (x : Box)

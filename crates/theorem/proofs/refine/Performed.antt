@@ -12,7 +12,7 @@ use Rattle.pages.specs.Pages.{pageAt, putPage}
 use Rattle.pages.proofs.PageLaws.{length-page}
 use Rattle.layout.specs.declared.Slot.{Slot}
 use Rattle.layout.specs.declared.Label.{Label}
-use Rattle.layout.specs.Places.{metaPages, tableLength}
+use Rattle.layout.specs.Places.{metaPages, metaPlace, tableLength}
 use Rattle.layout.specs.MetaPage.{encodeMeta, rowsOn}
 use Rattle.layout.specs.PageRule.{distinct}
 use Rattle.record.specs.declared.Record.{Record}
@@ -95,9 +95,9 @@ module _ (l : Label) (k : Core) (S : Shape l k) where
       alike-flags l (k .table) (k .table) (alike-same l (k .table) (S .table-size) (S .rows)) s _ h (changed-used (S .rows s h .flags) _ v)
 
 -- a metadata store: page p, of the table v, with the window w, whose places have these callers
-abbrev pub storedCore : Core → List ℕ → Slot → List Slot → List ℕ → ℕ → Bool → Core
-storedCore k v hand w cs p r = record {
-  ssd = putPage (k .ssd) (1 + p) (encodeMeta (k .newest + 1) w (rowsOn p v));
+abbrev pub storedCore : Label → Core → List ℕ → Slot → List Slot → List ℕ → ℕ → Bool → Core
+storedCore l k v hand w cs p r = record {
+  ssd = putPage (k .ssd) (metaPlace l p) (encodeMeta (k .newest + 1) w (rowsOn p v));
   hdd = k .hdd;
   table = v;
   hand = hand;
@@ -132,7 +132,7 @@ module _
     fits : k .newest + 1 < 2 ^ 32
     fits = omega arith
 
-    pub stored-shape : CallersKept r w cs → Shape l (storedCore k v hand w cs p r)
+    pub stored-shape : CallersKept r w cs → Shape l (storedCore l k v hand w cs p r)
     stored-shape C = record {
       images = put-kept l (k .ssd) (k .hdd) (S .images) v size R (k .newest + 1) fits newer w W p p-page;
       table-size = size;
@@ -141,19 +141,19 @@ module _
       callers = C;
     }
 
-    ents : (s : ℕ) → entryRow l (metasOf l (putPage (k .ssd) (1 + p) (encodeMeta (k .newest + 1) w (rowsOn p v)))) s ≡ cond (eqb (s / 240) p)
+    ents : (s : ℕ) → entryRow l (metasOf l (putPage (k .ssd) (metaPlace l p) (encodeMeta (k .newest + 1) w (rowsOn p v)))) s ≡ cond (eqb (s / 240) p)
         (rowAt v s) (entryRow l (metasOf l (k .ssd)) s)
     ents = put-entry l (k .ssd) (k .hdd) (S .images) v size R (k .newest + 1) fits newer w W p p-page
 
-    dats : (s : ℕ) → pageAt (putPage (k .ssd) (1 + p) (encodeMeta (k .newest + 1) w (rowsOn p v))) (1 + metaPages l + s) ≡ pageAt (k .ssd)
+    dats : (s : ℕ) → pageAt (putPage (k .ssd) (metaPlace l p) (encodeMeta (k .newest + 1) w (rowsOn p v))) (1 + metaPages l + s) ≡ pageAt (k .ssd)
         (1 + metaPages l + s)
     dats = put-page l (k .ssd) (k .hdd) (S .images) v size R (k .newest + 1) fits newer w W p p-page
 
-    news : newestOf (metasOf l (putPage (k .ssd) (1 + p) (encodeMeta (k .newest + 1) w (rowsOn p v)))) ≡
+    news : newestOf (metasOf l (putPage (k .ssd) (metaPlace l p) (encodeMeta (k .newest + 1) w (rowsOn p v)))) ≡
         record { stamp = k .newest + 1; window = w }
     news = put-newest l (k .ssd) (k .hdd) (S .images) v size R (k .newest + 1) fits newer w W p p-page
 
-    pub stored-abs : r ≡ k .recovering → abs l (storedCore k v hand w cs p r) ≡ stored p (rowAt v) (nums w) (abs l k)
+    pub stored-abs : r ≡ k .recovering → abs l (storedCore l k v hand w cs p r) ≡ stored p (rowAt v) (nums w) (abs l k)
     unfolding abs stored metaNo
     stored-abs e =
         same-path _ _ record {
@@ -172,7 +172,7 @@ module _
         }
 
     pub mended-abs : v ≡ k .table → w ≡ offPage p (k .window) → r ≡ not (isEmpty (offPage p (k .window)))
-        → abs l (storedCore k v hand w cs p r) ≡ mended p (abs l k)
+        → abs l (storedCore l k v hand w cs p r) ≡ mended p (abs l k)
     unfolding abs mended metaNo
     mended-abs ev ew e =
         same-path _ _ record {
@@ -193,14 +193,14 @@ module _
 -- what a metadata store leaves, with the window of the record and that of the page
 abbrev twoWindows : Label → Core → List ℕ → Slot → ℕ → Phase → List ℕ → List Slot → List Slot → Box
 twoWindows l k v hand p ph cs w z = record {
-  images = record { ssd = putPage (k .ssd) (1 + p) (encodeMeta (k .newest + 1) z (rowsOn p v)); hdd = k .hdd };
+  images = record { ssd = putPage (k .ssd) (metaPlace l p) (encodeMeta (k .newest + 1) z (rowsOn p v)); hdd = k .hdd };
   table = v;
   state = putCallers (recordOf l hand (k .newest + 1) ph false w) cs;
 }
 
 -- slots are opened
 pub announces-box : (l : Label) (k : Core) (said : Reply) (q : ℕ) (t : List ℕ) (h : Slot) (w : List Slot) (cs : List ℕ)
-    → after l k (announces said q t h w cs) ≡ boxOfCore l (storedCore k t h w (callerArray cs) q (k .recovering))
+    → after l k (announces said q t h w cs) ≡ boxOfCore l (storedCore l k t h w (callerArray cs) q (k .recovering))
 unfolding perform confirmed
 announces-box l k said q t h w cs =
     let ph : Phase = phaseFor (k .recovering) in
@@ -209,7 +209,7 @@ announces-box l k said q t h w cs =
 
 -- a flush stores page 0
 pub confirms-box : (l : Label) (k : Core)
-    → after l k confirms ≡ boxOfCore l (storedCore k (k .table) (k .hand) (k .window) (k .callers) 0 (k .recovering))
+    → after l k confirms ≡ boxOfCore l (storedCore l k (k .table) (k .hand) (k .window) (k .callers) 0 (k .recovering))
 unfolding perform confirmed
 confirms-box l k =
     let ph : Phase = phaseFor (k .recovering) in
@@ -222,7 +222,7 @@ phase-empty (s ∷ w) = refl
 
 -- a mending step
 pub mends-box : (l : Label) (k : Core) (p : ℕ)
-    → after l k (mends p) ≡ boxOfCore l (storedCore k (k .table) (k .hand) (offPage p (k .window)) (k .callers) p
+    → after l k (mends p) ≡ boxOfCore l (storedCore l k (k .table) (k .hand) (offPage p (k .window)) (k .callers) p
     (not (isEmpty (offPage p (k .window)))))
 unfolding perform confirmed
 mends-box l k p =

@@ -129,7 +129,7 @@ module _ (l : Label) (k : Core) (S : Shape l k) (d : Disk) (p : Plain) (A : Agre
       T = openings-sound O (rw window-in (ready-sound l k S p R))
 
       core′ : Core
-      core′ = storedCore k t h w (callerArray cs) q (k .recovering)
+      core′ = storedCore l k t h w (callerArray cs) q (k .recovering)
 
       shape′ : Shape l core′
       unfolding core′
@@ -217,11 +217,11 @@ module _ (l : Label) (k : Core) (S : Shape l k) (d : Disk) (p : Plain) (A : Agre
     confirms-next u h A′ =
         let T = ready-sound l k S p R in
         let first : 0 < metaPages l = omega (arith, meta-of-low l (record { 0 = 0 }) (S .images .limits .some-slot)) in
-        let e : abs l (storedCore k (k .table) (k .hand) (k .window) (k .callers) 0 (k .recovering)) ≡ flushed (abs l k) =
+        let e : abs l (storedCore l k (k .table) (k .hand) (k .window) (k .callers) 0 (k .recovering)) ≡ flushed (abs l k) =
         stored-abs l k S (newest-is l k S p R) h (k .table) (T .size) (T .legal) (k .hand) (S .hand-ok) (k .window) (T .rule)
         (k .callers) 0 first (k .recovering) refl ∙ (unfold abs in refl)
         in
-        next confirms (storedCore k (k .table) (k .hand) (k .window) (k .callers) 0 (k .recovering)) (settle p) refl (confirms-box l k)
+        next confirms (storedCore l k (k .table) (k .hand) (k .window) (k .callers) 0 (k .recovering)) (settle p) refl (confirms-box l k)
         (stored-shape l k S (newest-is l k S p R) h (k .table) (T .size) (T .legal) (k .hand) (S .hand-ok) (k .window) (T .rule)
         (k .callers) 0 first (k .recovering) (S .callers)) A′ (rw e (flushed-ready (abs l k) p R (unfold abs in u)))
 
