@@ -11,7 +11,7 @@ use borrow.Author.Tests.{eq-eqb, eqb-true, not-false}
 use Rattle.layout.specs.declared.Slot.{Slot}
 use Rattle.layout.specs.declared.Block.{Block}
 use Rattle.layout.specs.declared.Label.{Label}
-use Rattle.layout.specs.Places.{metaOf, metaPages}
+use Rattle.layout.specs.Places.{metaOf, metaSpan}
 use Rattle.layout.specs.Window.{arrayOf}
 use Rattle.layout.proofs.Booleans.{Told, told, told-true, told-false, clash}
 use Rattle.record.specs.declared.Record.{Record}
@@ -88,7 +88,7 @@ module _ (x : Box) (whole : Whole (x .state)) where
 
   steps-whole : (p : Phase) → Whole (perform (stepping (x .state) p) x .state)
   unfolding perform confirmed
-  steps-whole (Formatting d) = go (leb (metaPages (x .state .label) + 1) d)
+  steps-whole (Formatting d) = go (leb (metaSpan (x .state .label) + 1) d)
     where
       go : (b : Bool)
           → Whole (elim b [

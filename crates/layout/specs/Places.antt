@@ -24,27 +24,31 @@ withinLimits l = leb 1 (l .slots) && (leb (l .slots) 57600 && (leb 1 (l .blocks)
 unfoldable pub metaPages : Label → ℕ
 metaPages l = (l .slots + 239) / 240
 
+-- the pages of the SSD image that hold metadata: "M metadata pages"
+unfoldable pub metaSpan : Label → ℕ
+metaSpan l = metaPages l
+
 -- "M + 2 steps": the steps of a format
 abbrev pub formatSteps : Label → ℕ
-formatSteps l = metaPages l + 2
+formatSteps l = metaSpan l + 2
 
 -- the SSD image is "one label page, M metadata pages, then `slots` data pages": the page at which each stands
 abbrev pub labelPlace : ℕ
 labelPlace = 0
 
-abbrev pub metaPlace : Label → ℕ → ℕ
+unfoldable pub metaPlace : Label → ℕ → ℕ
 metaPlace l p = 1 + p
 
-abbrev pub dataPlace : Label → Slot → ℕ
-dataPlace l s = 1 + metaPages l + s .0
+unfoldable pub dataPlace : Label → Slot → ℕ
+dataPlace l s = 1 + metaSpan l + s .0
 
 -- "The disk image (HDD) is `blocks` pages"
 abbrev pub blockPlace : Label → Block → ℕ
 blockPlace l b = b .0
 
 -- the lengths of both images in bytes, and of the table in words ("two for each slot")
-abbrev pub ssdLength : Label → ℕ
-ssdLength l = 4096 * (1 + metaPages l + l .slots)
+unfoldable pub ssdLength : Label → ℕ
+ssdLength l = 4096 * (1 + metaSpan l + l .slots)
 
 abbrev pub hddLength : Label → ℕ
 hddLength l = 4096 * l .blocks

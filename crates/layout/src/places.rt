@@ -3,7 +3,7 @@ use crate::Block;
 use crate::Label;
 use crate::Slot;
 ghost use mathlib.Core.Path.{_≡_};
-ghost use Rattle.layout.specs.Places.{labelOf, withinLimits, metaPages, formatSteps, ssdLength, hddLength, tableLength, metaPlace, dataPlace, blockPlace, metaOf};
+ghost use Rattle.layout.specs.Places.{labelOf, withinLimits, metaPages, metaSpan, formatSteps, ssdLength, hddLength, tableLength, metaPlace, dataPlace, blockPlace, metaOf};
 
 // The label of a box: the one place where a label is built.
 pub fn label(slots: u32, blocks: u32) -> Label
@@ -38,18 +38,25 @@ pub fn meta_pages(l: Label) -> u32
     ((l.slots as u64 + 239) / 240) as u32
 }
 
+// How many pages of the SSD image hold metadata.
+pub fn meta_span(l: Label) -> u32
+    ensures { λ r. ⌜ r ≡ metaSpan l ⌝ }
+{
+    meta_pages(l)
+}
+
 // The number of a format's steps.
 pub fn format_steps(l: Label) -> u32
     ensures { λ r. ⌜ r ≡ formatSteps l ⌝ }
 {
-    meta_pages(l) + 2
+    meta_span(l) + 2
 }
 
 // The SSD image's length in bytes.
 pub fn ssd_length(l: Label) -> usize
     ensures { λ r. ⌜ r ≡ ssdLength l ⌝ }
 {
-    4096 * (1 + meta_pages(l) as usize + l.slots as usize)
+    4096 * (1 + meta_span(l) as usize + l.slots as usize)
 }
 
 // The HDD image's length in bytes.
@@ -77,7 +84,7 @@ pub fn meta_place(l: Label, p: u32) -> usize
 pub fn data_place(l: Label, s: Slot) -> usize
     ensures { λ r. ⌜ r ≡ dataPlace l s ⌝ }
 {
-    1 + meta_pages(l) as usize + s.0 as usize
+    1 + meta_span(l) as usize + s.0 as usize
 }
 
 // The page of the HDD image that is a block.

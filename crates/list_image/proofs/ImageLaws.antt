@@ -12,6 +12,7 @@ use Rattle.layout.specs.declared.Label.{Label}
 use Rattle.layout.specs.declared.LabelRead.{LabelRead}
 use Rattle.layout.specs.declared.LabelRead.the-variants.{Legal, Illegal}
 use Rattle.layout.specs.Places.{ssdLength}
+use Rattle.layout.proofs.PlaceLaws.{slots-within}
 use Rattle.protocol.specs.Recovery.{metasOf, entryIn, Newest, newestOf, pagesTest}
 use Rattle.record.proofs.WindowLaws.{take-array}
 use Rattle.layout.specs.declared.Window.{Window}
@@ -37,7 +38,7 @@ image-is l pages n stamp left N S L =
 
 -- at most 15 data pages
 pub few-slots : (l : Label) (n : ℕ) → n ≡ ssdLength l → n ≤ 65536 → l .slots ≤ 15
-few-slots l n e h = omega arith
+few-slots l n e h = omega (arith, e, slots-within l)
 
 -- 2
 module _ (ssd : List ℕ) where

@@ -6,7 +6,7 @@ use mathlib.Core.List.{List}
 use native.Mathlib.Omega.{arith}
 use native.Mathlib.Numerals.{add-one}
 use Rattle.pages.specs.Pages.{pageAt}
-use Rattle.layout.specs.Places.{metaPages}
+use Rattle.layout.specs.Places.{metaPages, metaSpan}
 use Rattle.protocol.specs.Box.{Box, Result, boxAfter}
 use Rattle.protocol.specs.Plan.{format, step}
 use Rattle.protocol.specs.Calls.{resultOf}
@@ -19,7 +19,7 @@ use Rattle.load_run.specs.Runs.{Load, drawnOn, runFrom, same, equalTo}
 -- a format and its three steps
 pub prepared : (x : Box) (a b c d : Result) → a ≡ resultOf (format 4 8) x → b ≡ resultOf step (boxAfter a) → c ≡ resultOf step (boxAfter b)
     → d ≡ resultOf step (boxAfter c) → boxAfter d ≡ formatted 4 8 x
-unfolding formatted steps metaPages
+unfolding formatted steps metaSpan metaPages
 prepared x a b c d p q r s =
     let next : Box → Box = λ y. boxAfter (resultOf step y) in
     ap boxAfter s ∙ ap (λ (v : Result). next (boxAfter v)) r ∙ ap (λ (v : Result). next (next (boxAfter v))) q

@@ -5,7 +5,7 @@ use mathlib.Core.Bool.{false}
 use mathlib.Core.List.{List, [], _∷_, _++_}
 use lib.ListN.{length, replicate, length-replicate}
 use Rattle.layout.specs.declared.Label.{Label}
-use Rattle.layout.specs.Places.{labelOf, withinLimits, metaPages}
+use Rattle.layout.specs.Places.{labelOf, withinLimits, metaPages, metaSpan, ssdLength}
 use Rattle.protocol.specs.Reply.{refused}
 use Rattle.protocol.specs.Box.{Result}
 use Rattle.protocol.specs.Plan.{format}
@@ -26,7 +26,7 @@ abbrev zeros : ℕ → List ℕ
 zeros n = replicate n 0
 
 blank-number : 0 ≡ formatNumber p1 (length (zeros 24576)) (length (zeros 32768)) (length (zeros 8))
-unfolding withinLimits lengthsTest metaPages
+unfolding withinLimits lengthsTest ssdLength metaSpan metaPages
 blank-number =
     let a : 24576 ≡ length (zeros 24576) = sym (length-replicate {A = ℕ} 24576 0) in
     let b : 32768 ≡ length (zeros 32768) = sym (length-replicate {A = ℕ} 32768 0) in

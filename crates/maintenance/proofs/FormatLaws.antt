@@ -13,7 +13,7 @@ use lib.Dec.{eqb}
 use borrow.Author.Tests.{le-leb, lt-leb, eqb-true}
 use Rattle.pages.specs.Pages.{putPage}
 use Rattle.layout.specs.declared.Label.{Label}
-use Rattle.layout.specs.Places.{labelOf, withinLimits, metaPages, metaPlace, ssdLength, hddLength, tableLength}
+use Rattle.layout.specs.Places.{labelOf, withinLimits, metaPages, metaSpan, metaPlace, ssdLength, hddLength, tableLength}
 use Rattle.layout.specs.LabelPage.{encodeLabel}
 use Rattle.layout.specs.MetaPage.{encodeMeta, rowsOn}
 use Rattle.record.specs.declared.Record.{Record}
@@ -46,22 +46,27 @@ cleared-all table i n h k e f =
 
 -- the label page is the store of the last step
 pub label-stored : (ssd table after page : List ℕ) (state : Record) (pages d : ℕ) → d ≢ 0
-    → pages ≡ metaPages (labelIn state) → pages ≤ d - 1 → page ≡ encodeLabel (labelIn state) → after ≡ putPage ssd 0 page
+    → pages ≡ metaSpan (labelIn state) → pages ≤ d - 1 → page ≡ encodeLabel (labelIn state) → after ≡ putPage ssd 0 page
     → let f = formatStore (labelIn state) table (windowIn state) d in (Ssd 0 ≡ Ssd (f .place)) × (after ≡ putPage ssd (f .place) (f .bytes))
 label-stored ssd table after page state pages zero n f h g k = absurd (n refl)
 label-stored ssd table after page state pages (suc p) n f h g k =
-    let m : metaPages (labelIn state) ≤ p = rw (← f) (omega arith) in
+    let m : metaSpan (labelIn state) ≤ p = rw (← f) (omega arith) in
     (rw (formatStore, le-leb _ _ m), rw (k, g, formatStore, le-leb _ _ m))
 
+-- each place of metadata is a metadata page's
+pub place-page : (l : Label) (p : ℕ) → p < metaSpan l → p < metaPages l
+unfolding metaSpan
+place-page l p h = h
+
 -- a metadata page is the store of a step before it
-pub meta-step-stored : (ssd table after : List ℕ) (stored : Stored) (state : Record) (d : ℕ) → d ≢ 0 → d - 1 < metaPages (labelIn state)
+pub meta-step-stored : (ssd table after : List ℕ) (stored : Stored) (state : Record) (d : ℕ) → d ≢ 0 → d - 1 < metaSpan (labelIn state)
     → stored ≡ Ssd (metaPlace (labelIn state) (d - 1))
     → after ≡ putPage ssd (metaPlace (labelIn state) (d - 1)) (encodeMeta 0 (windowIn state) (rowsOn (d - 1) table))
     → let f = formatStore (labelIn state) table (windowIn state) d in (stored ≡ Ssd (f .place)) × (after ≡ putPage ssd (f .place) (f .bytes))
 meta-step-stored ssd table after stored state zero n h t k = absurd (n refl)
 meta-step-stored ssd table after stored state (suc p) n h t k =
     let q : suc p - 1 ≡ p = omega arith in
-    let m : p < metaPages (labelIn state) = omega arith in
+    let m : p < metaSpan (labelIn state) = omega arith in
     (rw (t, q, formatStore, lt-leb _ _ m), rw (k, q, formatStore, lt-leb _ _ m))
 
 -- a format: refused by 1, refused by 4, begun

@@ -17,7 +17,7 @@ ghost use lib.ListN.{length};
 ghost use mathlib.Core.List.{[]};
 ghost use lib.ListN.{replicate};
 ghost use Rattle.pages.specs.Pages.{putPage};
-ghost use Rattle.layout.specs.Places.{withinLimits, metaPages};
+ghost use Rattle.layout.specs.Places.{withinLimits, metaSpan};
 ghost use Rattle.record.specs.declared.Phase.the-variants.{Formatting};
 ghost use Rattle.record.specs.Record.{labelIn, windowIn, recordOf};
 ghost use Rattle.protocol.specs.Perform.{formatStore, formatState};
@@ -90,7 +90,7 @@ fn format_store(ssd: &mut [u8], table: &[u32], state: Record, done: u32) -> Stor
     }
     let l = state.label;
     let p = done - 1;
-    if places::meta_pages(l) <= p {
+    if places::meta_span(l) <= p {
         let page = label_page::encode_label(l);
         pages::store(ssd, 0, &page);
         return Stored::Ssd(0);
@@ -100,11 +100,11 @@ fn format_store(ssd: &mut [u8], table: &[u32], state: Record, done: u32) -> Stor
 
 // The record after a format's step, after so many of them before it.
 fn format_state(state: Record, done: u32) -> Record
-    requires { ⌜ done ≤ metaPages (labelIn state) + 1 ⌝ }
+    requires { ⌜ done ≤ metaSpan (labelIn state) + 1 ⌝ }
     ensures { λ r. ⌜ r ≡ formatState (labelIn state) state done ⌝ }
 {
     let l = state.label;
-    if places::meta_pages(l) + 1 <= done {
+    if places::meta_span(l) + 1 <= done {
         let next = state::with_stamp(state, 0);
         return state::with_phase(state::with_hand(next, Slot(0)), Phase::Ready);
     }
@@ -115,7 +115,7 @@ fn format_state(state: Record, done: u32) -> Record
 pub fn format_step(ssd: &mut [u8], table: &[u32], state: Record, done: u32) -> Outcome
     requires { ⌜ FitsRecord (length (now ssd)) (length (now table)) state ⌝ }
     requires { ⌜ withinLimits (labelIn state) ≡ true ⌝ }
-    requires { ⌜ done ≤ metaPages (labelIn state) + 1 ⌝ }
+    requires { ⌜ done ≤ metaSpan (labelIn state) + 1 ⌝ }
     ensures { λ q. ⌜ (q ≡ record { answer = Done; state = formatState (labelIn state) state done; stored = Ssd (formatStore (labelIn state) (now (table .entry)) (windowIn state) done .place) }) × (now (ssd .exit) ≡ putPage (now (ssd .entry)) (formatStore (labelIn state) (now (table .entry)) (windowIn state) done .place) (formatStore (labelIn state) (now (table .entry)) (windowIn state) done .bytes)) ⌝ }
 {
     let stored = format_store(ssd, table, state, done);

@@ -14,6 +14,7 @@ use Rattle.layout.specs.declared.Slot.{Slot}
 use Rattle.layout.specs.declared.Block.{Block}
 use Rattle.layout.specs.declared.Label.{Label}
 use Rattle.layout.specs.Places.{metaPages, metaPlace, dataPlace, blockPlace, ssdLength, hddLength}
+use Rattle.layout.proofs.PlaceLaws.{page-place, meta-within, data-within, meta-few, data-few}
 use Rattle.layout.specs.MetaPage.{encodeMeta, rowsOn}
 use Rattle.record.specs.declared.Record.{Record}
 use Rattle.record.specs.Record.{labelIn, windowIn}
@@ -52,14 +53,20 @@ pub meta-low : (l : Label) (p : ℕ) → p < metaPages l → 240 * p < l .slots
 unfolding metaPages
 meta-low l p h = omega arith
 
--- a slot's page lies within the SSD image, a block's within the HDD image
+-- a metadata page and a slot's page lie within the SSD image, a block's within the HDD image
+pub meta-holds : (ssd : List ℕ) (l : Label) (p place : ℕ) → length ssd ≡ ssdLength l → p < metaPages l → place ≡ metaPlace l p
+    → Holds ssd place
+meta-holds ssd l p place size h e = rw (e, size) (meta-within l p (page-place l p h))
+
+pub meta-fits : (l : Label) (p place : ℕ) → l .slots ≤ 57600 → p < metaPages l → place ≡ metaPlace l p → place ≤ 4294967295
+meta-fits l p place most h e = rw e (omega (arith, meta-few l p (page-place l p h)))
+
 pub data-holds : (ssd : List ℕ) (l : Label) (s : Slot) (place : ℕ) → length ssd ≡ ssdLength l → s .0 < l .slots → place ≡ dataPlace l s
     → Holds ssd place
-data-holds ssd l s place size h e = rw e (omega arith)
+data-holds ssd l s place size h e = rw (e, size) (data-within l s h)
 
 pub data-fits : (l : Label) (s : Slot) (place : ℕ) → l .slots ≤ 57600 → s .0 < l .slots → place ≡ dataPlace l s → place ≤ 4294967295
-unfolding metaPages
-data-fits l s place most h e = rw e (omega arith)
+data-fits l s place most h e = rw e (omega (arith, data-few l s))
 
 pub block-holds : (hdd : List ℕ) (l : Label) (b : Block) (place : ℕ) → length hdd ≡ hddLength l → b .0 < l .blocks → place ≡ blockPlace l b
     → Holds hdd place

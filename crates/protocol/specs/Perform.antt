@@ -8,7 +8,7 @@ use lib.Dec.{leb}
 use Rattle.pages.specs.Pages.{pageAt, zeroPage}
 use Rattle.layout.specs.declared.Slot.{Slot}
 use Rattle.layout.specs.declared.Label.{Label}
-use Rattle.layout.specs.Places.{metaPages, labelPlace, metaPlace, dataPlace, blockPlace, tableLength}
+use Rattle.layout.specs.Places.{metaSpan, labelPlace, metaPlace, dataPlace, blockPlace, tableLength}
 use Rattle.layout.specs.LabelPage.{encodeLabel}
 use Rattle.layout.specs.MetaPage.{encodeMeta, rowsOn}
 use Rattle.record.specs.declared.Record.{Record}
@@ -99,7 +99,7 @@ begun l =
 abbrev pub formatStore : Label → List ℕ → List Slot → ℕ → Store
 formatStore l table window zero = record { image = ssdImage; place = labelPlace; bytes = zeroPage }
 formatStore l table window (suc p) =
-    elim (leb (metaPages l) p) [
+    elim (leb (metaSpan l) p) [
       | true ↦ record { image = ssdImage; place = labelPlace; bytes = encodeLabel l }
       | false ↦ record { image = ssdImage; place = metaPlace l p; bytes = encodeMeta 0 window (rowsOn p table) }
     ]
@@ -107,7 +107,7 @@ formatStore l table window (suc p) =
 -- "M + 2 steps; then ready, with those three set so again"
 abbrev pub formatState : Label → Record → ℕ → Record
 formatState l r d =
-    elim (leb (metaPages l + 1) d) [
+    elim (leb (metaSpan l + 1) d) [
       | true ↦ withPhase (withHand (withStamp r 0) (record { 0 = 0 })) Ready
       | false ↦ withPhase r (Formatting (d + 1))
     ]

@@ -5,7 +5,7 @@ use mathlib.Core.Bool.{true, false}
 use mathlib.Core.List.{List, [], _∷_}
 use lib.ListN.{replicate}
 use Rattle.layout.specs.declared.Slot.{Slot}
-use Rattle.layout.specs.Places.{labelOf, withinLimits, metaPages}
+use Rattle.layout.specs.Places.{labelOf, withinLimits, metaPages, metaSpan}
 use Rattle.layout.specs.PageRule.{listed, distinct, inRange}
 use Rattle.layout.specs.Window.{windowFrom, arrayOf}
 use Rattle.record.specs.declared.Record.{Record}
@@ -72,11 +72,11 @@ unfolding recordTest windowIn arrayOf withinLimits inRange distinct listed zeroS
 past-length = refl
 
 steps-most : recordTest (boxed (slot 3) (Formatting 2) []) ≡ true
-unfolding recordTest windowIn arrayOf withinLimits metaPages inRange distinct listed zeroSlots eachPlace
+unfolding recordTest windowIn arrayOf withinLimits metaSpan metaPages inRange distinct listed zeroSlots eachPlace
 steps-most = refl
 
 steps-high : recordTest (boxed (slot 3) (Formatting 3) []) ≡ false
-unfolding recordTest windowIn arrayOf withinLimits metaPages inRange distinct listed zeroSlots eachPlace
+unfolding recordTest windowIn arrayOf withinLimits metaSpan metaPages inRange distinct listed zeroSlots eachPlace
 steps-high = refl
 
 -- callers: another than 0 or 1; one past the window's length; one while mending

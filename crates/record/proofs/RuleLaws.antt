@@ -12,7 +12,7 @@ use lib.Dec.{eqb, ltb, leb}
 use borrow.Author.Tests.{leb-true, ltb-true, eqb-true, le-leb, lt-ltb, eq-eqb}
 use Rattle.layout.specs.declared.Slot.{Slot}
 use Rattle.layout.specs.declared.Label.{Label}
-use Rattle.layout.specs.Places.{withinLimits, metaPages}
+use Rattle.layout.specs.Places.{withinLimits, metaSpan}
 use Rattle.layout.specs.PageRule.{distinct, inRange}
 use Rattle.layout.proofs.PlaceLaws.{within}
 use Rattle.layout.proofs.Booleans.{and-of, and-parts}
@@ -27,8 +27,8 @@ use Rattle.record.specs.Rule.{stepsTest, recordTest, RecordRule}
 use Rattle.record.proofs.Each.{at, place-get, place-of, range-each, zero-get, zero-of, distinct-get, distinct-of}
 
 -- a phase's steps
-steps-same : (l : Label) (p : Phase) → stepsTest l p ⇔ ((d : ℕ) → p ≡ Formatting d → d ≤ metaPages l + 1)
-steps-same l (Formatting e) = (λ h d q. let n : d ≡ e = cc in omega (arith, leb-true e (metaPages l + 1) h), λ h. le-leb _ _ (h e refl))
+steps-same : (l : Label) (p : Phase) → stepsTest l p ⇔ ((d : ℕ) → p ≡ Formatting d → d ≤ metaSpan l + 1)
+steps-same l (Formatting e) = (λ h d q. let n : d ≡ e = cc in omega (arith, leb-true e (metaSpan l + 1) h), λ h. le-leb _ _ (h e refl))
 steps-same l Recovering = (λ h d q. let z : _≡_ {A = ℕ} 0 1 = cc in absurd (omega arith), λ h. refl)
 steps-same l Ready = (λ h d q. let z : _≡_ {A = ℕ} 0 1 = cc in absurd (omega arith), λ h. refl)
 

@@ -6,7 +6,7 @@ use mathlib.Core.Bool.{Bool, true, _&&_}
 use lib.ListN.{length, getD, drop}
 use lib.Dec.{eqb, ltb, leb}
 use Rattle.layout.specs.declared.Label.{Label}
-use Rattle.layout.specs.Places.{Limits, withinLimits, metaPages}
+use Rattle.layout.specs.Places.{Limits, withinLimits, metaSpan}
 use Rattle.layout.specs.PageRule.{distinct, inRange}
 use Rattle.layout.specs.Window.{windowMost}
 use Rattle.record.specs.declared.Record.{Record}
@@ -19,7 +19,7 @@ use Rattle.record.specs.Record.{windowIn}
 -- 3: "a record number out of range, window repeated or not zero past its length" (the window is an array of 63); document 02, N7: and
 -- each place's caller, 0 "where pending or past the length (another is 3)"
 abbrev pub stepsTest : Label → Phase → Bool
-stepsTest l (Formatting d) = leb d (metaPages l + 1)
+stepsTest l (Formatting d) = leb d (metaSpan l + 1)
 stepsTest l Recovering = true
 stepsTest l Ready = true
 
@@ -39,7 +39,7 @@ recordTest r =
 pub record RecordRule (r : Record) : Type 0 where
   pub limits : Limits (r .label)
   pub hand : r .hand .0 < r .label .slots
-  pub steps : (d : ℕ) → r .phase ≡ Formatting d → d ≤ metaPages (r .label) + 1
+  pub steps : (d : ℕ) → r .phase ≡ Formatting d → d ≤ metaSpan (r .label) + 1
   pub count : r .count ≤ 63
   pub array : length (r .window) ≡ 63
   pub in-range : (k : ℕ) → k < r .count → getD (r .window) k (record { 0 = 0 }) .0 < r .label .slots

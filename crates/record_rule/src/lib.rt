@@ -110,7 +110,7 @@ fn steps_ok(l: Label, phase: Phase) -> bool
 {
     match phase {
         Phase::Formatting(done) => {
-            let last = places::meta_pages(l) + 1;
+            let last = places::meta_span(l) + 1;
             done <= last
         }
         Phase::Recovering => true,

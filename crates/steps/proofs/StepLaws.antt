@@ -9,7 +9,7 @@ use lib.Dec.{leb}
 use borrow.Author.Tests.{leb-true}
 use Rattle.pages.specs.Pages.{putPage}
 use Rattle.layout.specs.declared.Slot.{Slot}
-use Rattle.layout.specs.Places.{metaPages}
+use Rattle.layout.specs.Places.{metaSpan}
 use Rattle.record.specs.declared.Record.{Record}
 use Rattle.record.specs.declared.Phase.{Phase}
 use Rattle.record.specs.declared.Phase.the-variants.{Formatting, Recovering, Ready}
@@ -45,9 +45,9 @@ formats-left : (ssd hdd t : List ℕ) (r : Record) (d : ℕ)
     → formatted ssd hdd t r d ≡ left (perform (formats d) (boxOf ssd hdd t r)) (record { ssd = ssd; hdd = hdd })
 unfolding perform
 formats-left ssd hdd t r zero = refl
-formats-left ssd hdd t r (suc p) = go (told (leb (metaPages (labelIn r)) p))
+formats-left ssd hdd t r (suc p) = go (told (leb (metaSpan (labelIn r)) p))
   where
-    go : Told (leb (metaPages (labelIn r)) p)
+    go : Told (leb (metaSpan (labelIn r)) p)
         → formatted ssd hdd t r (suc p) ≡ left (perform (formats (suc p)) (boxOf ssd hdd t r)) (record { ssd = ssd; hdd = hdd })
     go (told-true e) = rw (formatStore, e)
     go (told-false e) = rw (formatStore, e)
@@ -97,7 +97,7 @@ module _ (ssd hdd t : List ℕ) (r : Record) where
 
 module _ (ssd hdd t : List ℕ) (r : Record) (S : SoundBox ssd hdd 4096 t r) where
   -- so many steps of a format are done
-  pub steps-low : (d : ℕ) → r .phase ≡ Formatting d → d ≤ metaPages (labelIn r) + 1
+  pub steps-low : (d : ℕ) → r .phase ≡ Formatting d → d ≤ metaSpan (labelIn r) + 1
   steps-low d e = leb-true _ _ (ap (stepsTest (labelIn r)) (sym e) ∙ S .sound .steps)
 
   -- while mending a slot is pending

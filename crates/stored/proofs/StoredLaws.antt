@@ -16,6 +16,7 @@ use Rattle.pages.proofs.PageLaws.{length-page}
 use Rattle.layout.specs.declared.Slot.{Slot}
 use Rattle.layout.specs.declared.Label.{Label}
 use Rattle.layout.specs.Places.{Limits, metaPages, metaPlace, ssdLength}
+use Rattle.layout.proofs.PlaceLaws.{page-place, meta-within}
 use Rattle.layout.specs.MetaPage.{stampOf, countOf, slotAt, windowOf, firsts}
 use Rattle.layout.specs.PageRule.{pageTest, inRange, windowTest}
 use Rattle.layout.proofs.Loops.{left}
@@ -40,8 +41,10 @@ pub page-read : (l : Label) (ssd page : Part) (p : ℕ) → length (ssd .bytes) 
     → (page .bytes ≡ getD (metasOf l (ssd .bytes)) p []) × (length (page .bytes) ≡ 4096)
 unfolding pagePart
 page-read l ssd page p size h e =
-    let g : page .bytes ≡ pageAt (ssd .bytes) (1 + p) = ap (λ (x : Part). x .bytes) e in
-    (g ∙ sym (metas-at l (ssd .bytes) p h), ap length g ∙ length-page (ssd .bytes) (1 + p) (omega arith))
+    let g : page .bytes ≡ pageAt (ssd .bytes) (metaPlace l p) = ap (λ (x : Part). x .bytes) e in (
+      g ∙ sym (metas-at l (ssd .bytes) p h),
+      ap length g ∙ length-page (ssd .bytes) (metaPlace l p) (rw size (meta-within l p (page-place l p h))),
+    )
 
 -- the pages that are left
 pub metas-left : (l : Label) (ssd : List ℕ) (p : ℕ) → p < metaPages l

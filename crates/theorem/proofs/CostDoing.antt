@@ -15,7 +15,7 @@ use Rattle.layout.specs.declared.Slot.{Slot}
 use Rattle.layout.specs.declared.Block.{Block}
 use Rattle.layout.specs.declared.Label.{Label}
 use Rattle.layout.specs.Places.{metaOf, metaPlace, dataPlace, blockPlace}
-use Rattle.layout.proofs.PlaceLaws.{meta-of-low}
+use Rattle.layout.proofs.PlaceLaws.{meta-of-low, page-place, meta-within, data-within}
 use Rattle.layout.proofs.Booleans.{Told, told, told-true, told-false, clash}
 use Rattle.record.specs.declared.Record.{Record}
 use Rattle.record.specs.Record.{labelIn}
@@ -150,7 +150,8 @@ module _ (im jm : Images) (z : Sizes im jm) (t : List ℕ) (r : Record) where
       stored = refl;
       sizes = record {
         ssd-size = z .ssd-size
-            ∙ sym (length-put (jm .ssd) _ (metaPlace l (metaOf s)) (omega (arith, L .ssd-size, meta-of-low l s (O .low))) (W _ refl));
+            ∙ sym (length-put (jm .ssd) _ (metaPlace l (metaOf s))
+            (rw (L .ssd-size) (meta-within l (metaOf s) (page-place l (metaOf s) (meta-of-low l s (O .low))))) (W _ refl));
         hdd-size = z .hdd-size;
       };
     }
@@ -196,7 +197,8 @@ module _ (im jm : Images) (z : Sizes im jm) (t : List ℕ) (r : Record) where
     landed : (s : ℕ) → s < r .label .slots → Legal y
         → Sizes im (applied (some (record { image = ssdImage; place = dataPlace l (record { 0 = s }); bytes = q })) jm)
     landed s h L = record {
-      ssd-size = z .ssd-size ∙ sym (length-put (jm .ssd) q (dataPlace l (record { 0 = s })) (omega (arith, L .ssd-size)) q-size);
+      ssd-size = z .ssd-size ∙ sym (length-put (jm .ssd) q (dataPlace l (record { 0 = s }))
+          (rw (L .ssd-size) (data-within l (record { 0 = s }) h)) q-size);
       hdd-size = z .hdd-size;
     }
 

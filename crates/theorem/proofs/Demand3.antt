@@ -9,7 +9,7 @@ use lib.ListN.{length, getD, replicate, length-take, length-replicate, List·get
 use lib.Dec.{ltb}
 use native.Mathlib.Decide.{decLt}
 use Rattle.pages.specs.Pages.{pageAt}
-use Rattle.layout.proofs.PlaceLaws.{meta-of-low}
+use Rattle.layout.proofs.PlaceLaws.{meta-of-low, page-place}
 use Rattle.layout.specs.declared.Label.{Label}
 use Rattle.layout.specs.Places.{labelOf, metaPages, tableLength}
 use Rattle.layout.specs.MetaPage.{encodeMeta, rowsOn, stampOf}
@@ -97,7 +97,7 @@ module _ (l : Label) (x y : Box) (F : Formatted l x y) where
   none-open = nil-window (l .slots)
 
   page-is : (p : ℕ) → p < metaPages l → getD (metasOf l (F .ssd)) p [] ≡ encodeMeta 0 [] (rowsOn p (freeTable l))
-  page-is p h = metas-at l (F .ssd) p h ∙ F .meta-pages p h
+  page-is p h = metas-at l (F .ssd) p h ∙ F .meta-pages p (page-place l p h)
 
   stamp-zero : (p : ℕ) → p < metaPages l → stampOf (getD (metasOf l (F .ssd)) p []) ≡ 0
   stamp-zero p h = ap stampOf (page-is p h)

@@ -15,6 +15,7 @@ use Rattle.layout.specs.declared.Slot.{Slot}
 use Rattle.layout.specs.declared.Block.{Block}
 use Rattle.layout.specs.declared.Label.{Label}
 use Rattle.layout.specs.Places.{dataPlace, blockPlace}
+use Rattle.layout.proofs.PlaceLaws.{datas-apart, data-within}
 use Rattle.layout.proofs.Booleans.{clash, and-parts}
 use Rattle.record.specs.declared.Phase.the-variants.{Ready}
 use Rattle.record.specs.Callers.{callerArray}
@@ -189,8 +190,9 @@ module _ (x : Box) (L : Legal x) (v w : Bool) (s t : Slot) (n : s .0 ≢ t .0) w
   closed-comm low low′ p q size size′ =
       let f = landedFlags v (getD (x .table) (2 * s .0 + 1) 0) in
       let g = landedFlags w (getD (x .table) (2 * t .0 + 1) 0) in
-      let pages = put-comm (x .images .ssd) p q (dataPlace (labelIn (x .state)) s) (dataPlace (labelIn (x .state)) t) (λ e. n (omega arith))
-      (omega (arith, L .ssd-size)) (omega (arith, L .ssd-size)) size size′ in
+      let pages = put-comm (x .images .ssd) p q (dataPlace (labelIn (x .state)) s) (dataPlace (labelIn (x .state)) t)
+      (datas-apart (labelIn (x .state)) s t n) (rw (L .ssd-size) (data-within (labelIn (x .state)) s low))
+      (rw (L .ssd-size) (data-within (labelIn (x .state)) t low′)) size size′ in
       let rows = ap (λ (h : ℕ). set (set (x .table) (2 * s .0 + 1) f) (2 * t .0 + 1) (landedFlags w h)) (flags-kept (s .0) (t .0) f n)
       ∙ set-comm (x .table) (2 * s .0 + 1) (2 * t .0 + 1) f g (λ e. n (omega arith))
       ∙ sym (ap (λ (h : ℕ). set (set (x .table) (2 * t .0 + 1) g) (2 * s .0 + 1) (landedFlags v h))

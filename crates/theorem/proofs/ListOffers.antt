@@ -14,7 +14,7 @@ use Rattle.layout.specs.declared.Slot.{Slot}
 use Rattle.layout.specs.declared.Block.{Block}
 use Rattle.layout.specs.Places.{metaOf, metaPlace, ssdLength, hddLength}
 use Rattle.layout.specs.Window.{arrayOf}
-use Rattle.layout.proofs.PlaceLaws.{meta-of-low}
+use Rattle.layout.proofs.PlaceLaws.{meta-of-low, page-place, meta-within}
 use Rattle.layout.proofs.Booleans.{Told, told, told-true, told-false, clash, and-of, or-neither}
 use Rattle.record.specs.declared.Record.{Record}
 use Rattle.record.specs.declared.Phase.{Phase}
@@ -254,7 +254,8 @@ module _ (x : Box) (on : x .state .phase ≡ Ready) (caller : ℕ) (known : ltb 
         sized : Sized (applied (perform (opens (offeredBox x z .state) s d c f v hand) y .store) im)
         sized = record {
           ssd-size = length-put (im .ssd) _ (metaPlace (labelIn (x .state)) (metaOf s))
-              (omega (arith, I .ssd-size, meta-of-low (labelIn (x .state)) s (O .low)))
+              (rw (I .ssd-size) (meta-within (labelIn (x .state)) (metaOf s)
+              (page-place (labelIn (x .state)) (metaOf s) (meta-of-low (labelIn (x .state)) s (O .low)))))
               (stores-whole (offer b caller) y _ (ap (λ (f : Effect). f .store) (made j e))) ∙ I .ssd-size;
           hdd-size = I .hdd-size;
         }

@@ -13,10 +13,11 @@ use Rattle.pages.specs.Pages.{IsPage}
 use Rattle.pages.proofs.PageLaws.{length-page, length-zero}
 use Rattle.layout.specs.declared.Slot.{Slot}
 use Rattle.layout.specs.declared.Label.{Label}
-use Rattle.layout.specs.Places.{Limits, metaPages, metaPlace, dataPlace, blockPlace, tableLength}
+use Rattle.layout.specs.Places.{Limits, metaPages, metaPlace, dataPlace, blockPlace, tableLength, metaSpan}
 use Rattle.layout.specs.LabelPage.{encodeLabel}
 use Rattle.layout.specs.MetaPage.{encodeMeta, rowsOn}
 use Rattle.layout.specs.PageRule.{PageRule}
+use Rattle.layout.proofs.PlaceLaws.{page-place, meta-not-label, metas-one, meta-below-data, data-within}
 use Rattle.layout.proofs.LabelLaws.{length-encode}
 use Rattle.layout.proofs.RuleLaws.{page-rule}
 use Rattle.record.specs.declared.Record.{Record}
@@ -103,8 +104,8 @@ one-store l ph e q bytes f M s g = (sized same (M .is-page .size), at)
 
     at : s .image ≡ ssdImage → (p : ℕ) → p < metaPages l → s .place ≡ metaPlace l p → MetaStored l p (s .bytes) ph (e .state) (e .table)
     at i p h pl =
-        let n : q ≡ p = let k : metaPlace l q ≡ metaPlace l p = ap (λ (t : Store). t .place) same ∙ pl in omega arith in
-        subst (λ (m : ℕ). MetaStored l m (s .bytes) ph (e .state) (e .table)) n
+        subst (λ (m : ℕ). MetaStored l m (s .bytes) ph (e .state) (e .table))
+        (metas-one l q p (ap (λ (t : Store). t .place) same ∙ pl))
         (subst (λ (t : Store). MetaStored l q (t .bytes) ph (e .state) (e .table)) same M)
 
 -- an effect that stores elsewhere
@@ -124,18 +125,12 @@ confirmed-stores : (l : Label) → Limits l → (r : Record) → labelIn r ≡ l
     → Window (l .slots) (nums (windowIn r)) → (ph : Phase) → Serving ph → (q : ℕ) (said : Reply) → Stores l ph (confirmed q said r table)
 unfolding confirmed
 confirmed-stores l K r e table size R n W ph v q said =
-    one-store l ph (record {
-      said = said;
-      state = withStamp r (r .newest + 1);
-      table = table;
-      store =
-          some (record {
-            image = ssdImage;
-            place = metaPlace (labelIn r) q;
-            bytes =
-                encodeMeta (r .newest + 1) (windowIn r) (rowsOn q table);
-          });
-    }) q _ refl
+    one-store l ph (confirmed q said r table) q _
+    (ap (λ (k : Label). some (record {
+      image = ssdImage;
+      place = metaPlace k q;
+      bytes = encodeMeta (r .newest + 1) (windowIn r) (rowsOn q table);
+    })) e)
     (meta-stored l K table size R (r .newest + 1) (omega arith) (windowIn r) W (λ z. absurd (omega arith)) q ph
     (withStamp r (r .newest + 1)) (go v) (unfold windowIn in refl))
   where
@@ -149,8 +144,8 @@ lands-elsewhere : (l : Label) (ph : Phase) (write : Bool) (s : Slot) (d : List �
 unfolding perform
 lands-elsewhere l ph write s d x e z = elsewhere l ph (landedIn write s d x) _ refl z past
   where
-    past : (p : ℕ) → p < metaPages l → 1 + metaPages (labelIn (x .state)) + s .0 ≢ metaPlace l p
-    past p h q = omega (arith, ap metaPages e)
+    past : (p : ℕ) → p < metaPages l → dataPlace (labelIn (x .state)) s ≢ metaPlace l p
+    past p h q = omega (arith, q, ap (λ (k : Label). dataPlace k s) e, meta-below-data l p (page-place l p h) s)
 
 -- a legal box that is ready
 module _ (x : Box) (L : Legal x) (on : x .state .phase ≡ Ready) where
@@ -179,7 +174,11 @@ module _ (x : Box) (L : Legal x) (on : x .state .phase ≡ Ready) where
   does-stores (does-use-all z A) = λ s g. no-store g
   does-stores (does-announce {said = said} z n O spare) = announces-stores said O spare
   does-stores (does-copy {s = s} z n C) =
-      λ t g. (sized (the-store g) (length-page (x .images .ssd) (dataPlace lab s) (omega (arith, L .ssd-size, C .low))), λ i. hdd-not (the-store g) i)
+      λ t g. (
+        sized (the-store g) (length-page (x .images .ssd) (dataPlace lab s)
+            (rw (L .ssd-size) (data-within lab s (C .low)))),
+        λ i. hdd-not (the-store g) i,
+      )
   does-stores (does-land H bl d size) = lands-elsewhere lab (x .state .phase) true _ _ x refl size
   does-stores (does-fetch {b = b} z H bl w) =
       lands-elsewhere lab (x .state .phase) false _ _ x refl (length-page (x .images .hdd) (blockPlace lab b) (omega (arith, L .hdd-size, bl)))
@@ -216,7 +215,7 @@ module _ (x : Box) (L : Legal x) where
 
   format-window : (d : ℕ) → windowIn (formatState (labelIn (x .state)) (x .state) d) ≡ windowIn (x .state)
   unfolding windowIn
-  format-window d = go (leb (metaPages (labelIn (x .state)) + 1) d)
+  format-window d = go (leb (metaSpan (labelIn (x .state)) + 1) d)
     where
       go : (b : Bool) → windowIn (elim b [
         | true ↦ withPhase
@@ -229,8 +228,9 @@ module _ (x : Box) (L : Legal x) where
 
   formats-stores : (d : ℕ) → x .state .phase ≡ Formatting d → Stores (labelIn (x .state)) (x .state .phase) (perform (formats d) x)
   unfolding perform
-  formats-stores zero on = elsewhere (labelIn (x .state)) (x .state .phase) (perform (formats 0) x) _ refl length-zero (λ p h q. omega arith)
-  formats-stores (suc q) on = go (told (leb (metaPages (labelIn (x .state))) q))
+  formats-stores zero on = elsewhere (labelIn (x .state)) (x .state .phase) (perform (formats 0) x) _ refl length-zero
+      (λ p h q. meta-not-label (labelIn (x .state)) p (sym q))
+  formats-stores (suc q) on = go (told (leb (metaSpan (labelIn (x .state))) q))
     where
       meta : MetaStored (labelIn (x .state)) q (encodeMeta 0 (windowIn (x .state)) (rowsOn q (x .table))) (x .state .phase)
           (formatState (labelIn (x .state)) (x .state) (suc q)) (x .table)
@@ -239,10 +239,10 @@ module _ (x : Box) (L : Legal x) where
           (L .window-rule) (λ _. none-open (suc q) on) q (x .state .phase) _
           (rw on refl) (format-window (suc q))
 
-      go : Told (leb (metaPages (labelIn (x .state))) q) → Stores (labelIn (x .state)) (x .state .phase) (perform (formats (suc q)) x)
+      go : Told (leb (metaSpan (labelIn (x .state))) q) → Stores (labelIn (x .state)) (x .state .phase) (perform (formats (suc q)) x)
       go (told-true e) = elsewhere (labelIn (x .state)) (x .state .phase) (perform (formats (suc q)) x)
           (record { image = ssdImage; place = 0; bytes = encodeLabel (labelIn (x .state)) }) (rw (formatStore, e))
-          (length-encode (labelIn (x .state))) (λ p h z. omega arith)
+          (length-encode (labelIn (x .state))) (λ p h z. meta-not-label (labelIn (x .state)) p (sym z))
       go (told-false e) = one-store (labelIn (x .state)) (x .state .phase) (perform (formats (suc q)) x) q _ (rw (formatStore, e)) meta
 
   step-stores : (ph : Phase) → x .state .phase ≡ ph → (storesMeta (stepping (x .state) ph) && leb largestStamp (x .state .newest)) ≡ false

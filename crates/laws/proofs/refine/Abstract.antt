@@ -9,7 +9,7 @@ use lib.Dec.{ltb}
 use Rattle.pages.specs.Pages.{pageAt}
 use Rattle.layout.specs.declared.Slot.{Slot}
 use Rattle.layout.specs.declared.Label.{Label}
-use Rattle.layout.specs.Places.{Limits, metaPages, ssdLength, hddLength, tableLength}
+use Rattle.layout.specs.Places.{Limits, metaPages, dataPlace, ssdLength, hddLength, tableLength}
 use Rattle.layout.specs.LabelPage.{encodeLabel}
 use Rattle.layout.specs.MetaPage.{stampOf}
 use Rattle.layout.specs.PageRule.{pageTest}
@@ -63,7 +63,7 @@ abs l k = record {
   row = rowAt (k .table);
   entry = entryRow l (metasOf l (k .ssd));
   hdd = λ b. pageAt (k .hdd) b;
-  slotPage = λ s. pageAt (k .ssd) (1 + metaPages l + s);
+  slotPage = λ s. pageAt (k .ssd) (dataPlace l (record { 0 = s }));
   window = nums (k .window);
   storedWindow = nums (newestOf (metasOf l (k .ssd)) .window);
   newest = k .newest;

@@ -15,7 +15,8 @@ use Rattle.pages.specs.Pages.{pageAt, putPage, Holds}
 use Rattle.pages.proofs.PageLaws.{put-same, put-other}
 use Rattle.layout.specs.declared.Slot.{Slot}
 use Rattle.layout.specs.declared.Label.{Label}
-use Rattle.layout.specs.Places.{metaPages, metaOf, entryOf, ssdLength}
+use Rattle.layout.specs.Places.{metaPages, metaPlace, metaOf, entryOf, ssdLength}
+use Rattle.layout.proofs.PlaceLaws.{page-place, metas-apart, meta-within}
 use Rattle.layout.specs.MetaPage.{stampOf, windowOf, entryAt, firsts}
 use Rattle.protocol.specs.Recovery.{metasOf, entryIn, Newest, newer, newestFrom, newestOf}
 
@@ -42,23 +43,26 @@ module _ (l : Label) (ssd : List ℕ) where
   unfolding metasOf
   length-metas = length-firsts (metaPages l) _
 
-  pub metas-at : (p : ℕ) → p < metaPages l → getD (metasOf l ssd) p [] ≡ pageAt ssd (1 + p)
+  pub metas-at : (p : ℕ) → p < metaPages l → getD (metasOf l ssd) p [] ≡ pageAt ssd (metaPlace l p)
   unfolding metasOf
   metas-at p h = get-firsts (metaPages l) _ p [] h
 
 module _ (l : Label) (ssd : List ℕ) (size : length ssd ≡ ssdLength l) (page : List ℕ) (page-size : length page ≡ 4096) where
   -- a metadata page is stored
-  pub metas-put : (p : ℕ) → p < metaPages l → metasOf l (putPage ssd (1 + p) page) ≡ set (metasOf l ssd) p page
+  pub metas-put : (p : ℕ) → p < metaPages l → metasOf l (putPage ssd (metaPlace l p) page) ≡ set (metasOf l ssd) p page
   unfolding metasOf
   metas-put p h =
       firsts-set (metaPages l) _ _ p page h
-      (put-same ssd page (1 + p) (omega arith) page-size)
-      (λ k q n. put-other ssd page (1 + p) (1 + k) (omega arith) page-size (λ e. n (omega arith)))
+      (put-same ssd page (metaPlace l p) fits page-size)
+      (λ k q n. put-other ssd page (metaPlace l p) (metaPlace l k) fits page-size (metas-apart l k p n))
+    where
+      fits : Holds ssd (metaPlace l p)
+      fits = rw size (meta-within l p (page-place l p h))
 
   -- a page elsewhere is stored
-  pub metas-else : (q : ℕ) → Holds ssd q → ((p : ℕ) → p < metaPages l → 1 + p ≢ q) → metasOf l (putPage ssd q page) ≡ metasOf l ssd
+  pub metas-else : (q : ℕ) → Holds ssd q → ((p : ℕ) → p < metaPages l → metaPlace l p ≢ q) → metasOf l (putPage ssd q page) ≡ metasOf l ssd
   unfolding metasOf
-  metas-else q h n = firsts-ext (metaPages l) _ _ (λ k m. put-other ssd page q (1 + k) h page-size (n k m))
+  metas-else q h n = firsts-ext (metaPages l) _ _ (λ k m. put-other ssd page q (metaPlace l k) h page-size (n k m))
 
 -- entries
 pub entry-set : (pages : List (List ℕ)) (p : ℕ) (page : List ℕ) (s : Slot) → p < length pages

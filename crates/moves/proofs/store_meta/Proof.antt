@@ -2,7 +2,7 @@ use native.Mathlib.Omega.{arith}
 use lib.ListN.{length-take, length-drop}
 use borrow.Author.Needs.{needs}
 use Rattle.record.specs.Record.{labelIn}
-use Rattle.moves.proofs.MoveLaws.{meta-low, meta-stored}
+use Rattle.moves.proofs.MoveLaws.{meta-fits, meta-holds, meta-low, meta-stored}
 use Rattle.moves.proofs.store_meta.Statement.{statement}
 use Rattle.moves.proofs.store_meta.Tie as tie
 
@@ -44,14 +44,22 @@ slice-aggregate-store : tie.Need-slice-aggregate-store
 slice-aggregate-store c = search needs
 
 store-requires : tie.Need-store-requires
-store-requires c κs = search needs
+store-requires c κs =
+    let s = c .before .before .before .before .before .before .before .before .before .before in
+    let a = s .args in (
+      meta-holds (a .ssd .now) (a .state .label) (a .p) _ (s .pre .0 .ssd-size) (s .pre .1) (c .before .before .meta-place .ensures),
+      search needs,
+    )
 
 cast-number : tie.Need-cast-number
 cast-number c =
     let s = c .before .before .before .before .before .before .before .before .before .before .before .before .before in
     let F = s .pre .0 in
-    let h = meta-low (labelIn (s .args .state)) (s .args .p) (s .pre .1) in
-    rw (c .before .before .before .before .before .meta-place .ensures) (omega (arith, F .slots-most, h))
+    omega (
+      arith,
+      meta-fits (s .args .state .label) (s .args .p) _ (F .slots-most) (s .pre .1)
+          (c .before .before .before .before .before .meta-place .ensures),
+    )
 
 same-length : tie.Need-same-length
 same-length c = search needs

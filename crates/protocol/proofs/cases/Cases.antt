@@ -7,7 +7,7 @@ use mathlib.Core.Option.{some}
 use lib.ListN.{length, replicate}
 use Rattle.layout.specs.declared.Block.{Block}
 use Rattle.layout.specs.declared.Label.{Label}
-use Rattle.layout.specs.Places.{labelOf, metaPages, ssdLength}
+use Rattle.layout.specs.Places.{labelOf, metaPages, metaSpan, ssdLength}
 use Rattle.record.specs.declared.Record.{Record}
 use Rattle.record.specs.declared.Phase.the-variants.{Formatting, Recovering, Ready}
 use Rattle.protocol.specs.Reply.{announced, copiedOut, looked, done}
@@ -281,7 +281,7 @@ unfolding known textOf
 sized-usual = computed-1 first record { ssd-size = refl; hdd-size = refl }
 
 ssd-bytes : ssdLength usual ≡ 24576
-unfolding metaPages
+unfolding metaPages metaSpan ssdLength
 ssd-bytes = refl
 
 P1-size : Holds p1-size
@@ -290,16 +290,16 @@ P1-size =
     ∙ sized-usual .ssd-size
     ∙ ssd-bytes
 
-format-run : (l : Label) (x : Box) → metaPages (labelOf (l .slots) (l .blocks)) ≡ 1 → formatted (l .slots) (l .blocks) x ≡ run (formats l) (startOf l x) .box
+format-run : (l : Label) (x : Box) → metaSpan (labelOf (l .slots) (l .blocks)) ≡ 1 → formatted (l .slots) (l .blocks) x ≡ run (formats l) (startOf l x) .box
 unfolding formatted steps run called
 format-run l x e = ap (λ (m : ℕ). steps (m + 2) (boxAfter (resultOf (format (l .slots) (l .blocks)) x))) e
 
-start-fresh : (l : Label) (text : List ℕ) → metaPages (labelOf (l .slots) (l .blocks)) ≡ 1 → Holds (script (formatted-as l text)) → start l .box ≡ fresh l text
+start-fresh : (l : Label) (text : List ℕ) → metaSpan (labelOf (l .slots) (l .blocks)) ≡ 1 → Holds (script (formatted-as l text)) → start l .box ≡ fresh l text
 unfolding start
 start-fresh l text e h = format-run l (unformatted l) e ∙ box-after l (formats l) [] (startOf l (unformatted l)) ∙ ap boxOf h
 
 pub start-usual : start usual .box ≡ fresh usual (textOf 52 56)
-unfolding metaPages
+unfolding metaPages metaSpan ssdLength
 start-usual = start-fresh usual (textOf 52 56) refl P1
 
 computed-one : Computed (formatted-as one (textOf 49 50)) (unformatted one)
@@ -311,7 +311,7 @@ unfolding known
 unformatted-one = computed-1 first record { ssd-size = refl; hdd-size = refl }
 
 pub start-one : start one .box ≡ fresh one (textOf 49 50)
-unfolding metaPages
+unfolding metaPages metaSpan ssdLength
 start-one =
     start-fresh one (textOf 49 50) refl
     (shows (formatted-as one (textOf 49 50)) (unformatted one) refl unformatted-one computed-one)
@@ -325,7 +325,7 @@ unfolding known
 unformatted-two = computed-one first record { ssd-size = refl; hdd-size = refl }
 
 pub start-two : start two .box ≡ fresh two (textOf 50 51)
-unfolding metaPages
+unfolding metaPages metaSpan ssdLength
 start-two =
     start-fresh two (textOf 50 51) refl
     (shows (formatted-as two (textOf 50 51)) (unformatted two) refl unformatted-two computed-two)

@@ -7,7 +7,7 @@ use mathlib.Core.List.{List, [], _∷_, _++_}
 use lib.ListN.{length, replicate, length-replicate}
 use Rattle.layout.specs.declared.Slot.{Slot}
 use Rattle.layout.specs.declared.Label.{Label}
-use Rattle.layout.specs.Places.{labelOf, metaPages}
+use Rattle.layout.specs.Places.{labelOf, metaPages, metaSpan, ssdLength}
 use Rattle.record.specs.declared.Phase.the-variants.{Ready}
 use Rattle.record.specs.Record.{recordOf, withCallers}
 use Rattle.protocol.specs.Reply.{Reply, refusal, announced}
@@ -39,7 +39,7 @@ flooded s closed callers = record {
 }
 
 sized : Sized nine (record { ssd = replicate (4096 * 11) 0; hdd = replicate (4096 * 12) 0 })
-unfolding metaPages
+unfolding metaPages metaSpan ssdLength
 sized = record { ssd-size = length-replicate {A = ℕ} (4096 * 11) 0; hdd-size = length-replicate {A = ℕ} (4096 * 12) 0 }
 
 abbrev saidOf : Effect → Reply

@@ -14,7 +14,7 @@ use Rattle.pages.specs.Pages.{putPage, Holds, padded, pageAt, zeroPage}
 use Rattle.pages.proofs.PageLaws.{length-put}
 use Rattle.layout.specs.declared.Block.{Block}
 use Rattle.layout.specs.declared.Label.{Label}
-use Rattle.layout.specs.Places.{labelPlace, metaPages, ssdLength, hddLength, tableLength, withinLimits}
+use Rattle.layout.specs.Places.{labelPlace, metaPages, metaSpan, metaPlace, dataPlace, ssdLength, hddLength, tableLength, withinLimits}
 use Rattle.protocol.specs.Reply.{refused}
 use Rattle.protocol.specs.Box.{Images, Box, Image, ssdImage, hddImage, Store, applied, Effect}
 use Rattle.protocol.specs.Condition.{conditionOf, slotFrom, closedSlots}
@@ -48,28 +48,28 @@ pub record Sized (l : Label) (im : Images) : Type 0 where
 
 -- a store is a page within its image
 unfoldable pub within : Label → Image → ℕ → List ℕ → Bool
-within l ssdImage p bytes = leb (suc p) (1 + metaPages l + l .slots) && eqb (length bytes) 4096
-within l hddImage p bytes = leb (suc p) (l .blocks) && eqb (length bytes) 4096
+within l ssdImage p bytes = leb (4096 * p + 4096) (ssdLength l) && eqb (length bytes) 4096
+within l hddImage p bytes = leb (4096 * p + 4096) (hddLength l) && eqb (length bytes) 4096
 
 unfoldable pub storeWithin : Label → Option Store → Bool
 storeWithin l none = true
 storeWithin l (some s) = within l (s .image) (s .place) (s .bytes)
 
-holds : (image : List ℕ) (n p : ℕ) → length image ≡ 4096 * n → suc p ≤ n → Holds image p
+holds : (image : List ℕ) (n p : ℕ) → length image ≡ n → 4096 * p + 4096 ≤ n → Holds image p
 holds image n p e h = omega (arith, e)
 
 stored-size : (l : Label) (i : Image) (p : ℕ) (bytes : List ℕ) (im : Images) → Sized l im → within l i p bytes ≡ true
     → Sized l (applied (some (record { image = i; place = p; bytes = bytes })) im)
 unfolding within
 stored-size l ssdImage p bytes im z h =
-    let n : ℕ = 1 + metaPages l + l .slots in
-    let hs = and-parts (leb (suc p) n) (eqb (length bytes) 4096) h in
-    let h : Holds (im .ssd) p = holds (im .ssd) n p (z .ssd-size) (leb-true (suc p) n (hs .0)) in
+    let n : ℕ = ssdLength l in
+    let hs = and-parts (leb (4096 * p + 4096) n) (eqb (length bytes) 4096) h in
+    let h : Holds (im .ssd) p = holds (im .ssd) n p (z .ssd-size) (leb-true (4096 * p + 4096) n (hs .0)) in
     record { ssd-size = length-put (im .ssd) bytes p h (eqb-true (length bytes) 4096 (hs .1)) ∙ z .ssd-size; hdd-size = z .hdd-size }
 stored-size l hddImage p bytes im z h =
-    let n : ℕ = l .blocks in
-    let hs = and-parts (leb (suc p) n) (eqb (length bytes) 4096) h in
-    let h : Holds (im .hdd) p = holds (im .hdd) n p (z .hdd-size) (leb-true (suc p) n (hs .0)) in
+    let n : ℕ = hddLength l in
+    let hs = and-parts (leb (4096 * p + 4096) n) (eqb (length bytes) 4096) h in
+    let h : Holds (im .hdd) p = holds (im .hdd) n p (z .hdd-size) (leb-true (4096 * p + 4096) n (hs .0)) in
     record { ssd-size = z .ssd-size; hdd-size = length-put (im .hdd) bytes p h (eqb-true (length bytes) 4096 (hs .1)) ∙ z .hdd-size }
 
 applied-size : (l : Label) (store : Option Store) (im : Images) → Sized l im → storeWithin l store ≡ true → Sized l (applied store im)
@@ -223,7 +223,8 @@ pub record Checked : Type 0 where
 -- On its line stands everything recursive that the definitions compute with, so that a case unfolds `known` alone.
 unfoldable pub known : Label → List Event → List Block → Box → Checked
 unfolding sameLabel within storeWithin testKnown judgedKnown effectKnown reopensKnown struckKnown movedKnown shownKnown readsKnown
-    diskFrom unformatted metaPage labelPage pages pageAt putPage zeroPage padded pagePart leBytes leNumber withinLimits metaPages digits
+    diskFrom unformatted metaPage labelPage pages pageAt putPage zeroPage padded pagePart leBytes leNumber withinLimits metaPages metaSpan
+    metaPlace dataPlace ssdLength digits
     labelText encodeLabel after numberFrom number allZero decodeLabel slotsBytes entryBytes rowsBytes encodeMeta stampOf countOf slotAt
     firsts windowOf entryPart decodeEntry rowsFrom countTest zeroTest listed distinct inRange windowTest legalFlags pairTest entryTest
     entriesFrom entriesTest passes pageTest windowIn arrayOf without slotFrom conditionOf closedSlots sweepFrom lowestFrom plan highest

@@ -1,6 +1,6 @@
 -- A format from its first call to its last step: what each step finds, stores and leaves.
 use Prim.Native.Nat.{ℕ, zero, suc, _+_, _*_, _≤_, _<_}
-use mathlib.Core.Path.{_≡_, refl, ap, _∙_}
+use mathlib.Core.Path.{_≡_, refl, sym, ap, _∙_}
 use mathlib.Core.Logic.{_≢_}
 use mathlib.Core.Bool.{Bool, true, false, _&&_}
 use mathlib.Core.List.{List, []}
@@ -11,14 +11,15 @@ use native.Mathlib.Numerals.{add-one}
 use lib.ListN.{length, replicate, length-take, length-replicate, getD-replicate, drop}
 use lib.Dec.{eqb, leb}
 use borrow.Author.Tests.{le-leb, lt-leb, eq-eqb, lt-ltb, eqb-true, not-false}
-use Rattle.pages.specs.Pages.{pageAt, putPage, zeroPage}
+use Rattle.pages.specs.Pages.{pageAt, putPage, zeroPage, Holds}
 use Rattle.pages.proofs.PageLaws.{put-same, put-other, length-put, length-zero}
+use Rattle.layout.specs.declared.Slot.{Slot}
 use Rattle.layout.specs.declared.Label.{Label}
-use Rattle.layout.specs.Places.{Limits, labelOf, metaPages, formatSteps, labelPlace, metaPlace, ssdLength, hddLength, tableLength}
+use Rattle.layout.specs.Places.{Limits, labelOf, metaSpan, formatSteps, labelPlace, metaPlace, dataPlace, ssdLength, hddLength, tableLength}
 use Rattle.layout.specs.LabelPage.{encodeLabel}
 use Rattle.layout.specs.MetaPage.{encodeMeta, rowsOn}
 use Rattle.layout.specs.PageRule.{inRange, distinct, pairTest, legalFlags}
-use Rattle.layout.proofs.PlaceLaws.{within}
+use Rattle.layout.proofs.PlaceLaws.{within, meta-not-label, metas-apart, meta-below-data, label-below-data, label-within, meta-within}
 use Rattle.layout.proofs.Booleans.{clash, and-parts}
 use Rattle.layout.proofs.LabelLaws as label
 use Rattle.layout.proofs.MetaLaws as meta
@@ -58,7 +59,7 @@ storeAt l d = formatStore l (freeTable l) [] d
 
 -- the phase after k steps
 abbrev pub phaseAfter : Label → ℕ → Phase
-phaseAfter l k = elim (leb (metaPages l + 2) k) [ true ↦ Ready | false ↦ Formatting k ]
+phaseAfter l k = elim (leb (formatSteps l) k) [ true ↦ Ready | false ↦ Formatting k ]
 
 -- the SSD image after k steps
 unfoldable pub formatSsd : Label → List ℕ → ℕ → List ℕ
@@ -80,25 +81,25 @@ unfolding windowIn
 no-window l ph = refl
 
 -- where each step stores
-store-meta : (l : Label) (p : ℕ) → p < metaPages l
+store-meta : (l : Label) (p : ℕ) → p < metaSpan l
     → storeAt l (suc p) ≡ record { image = ssdImage; place = metaPlace l p; bytes = encodeMeta 0 [] (rowsOn p (freeTable l)) }
-store-meta l p h = rw (formatStore, lt-leb (metaPages l) p h)
+store-meta l p h = rw (formatStore, lt-leb (metaSpan l) p h)
 
-store-label : (l : Label) (p : ℕ) → metaPages l ≤ p
+store-label : (l : Label) (p : ℕ) → metaSpan l ≤ p
     → storeAt l (suc p) ≡ record { image = ssdImage; place = labelPlace; bytes = encodeLabel l }
-store-label l p h = rw (formatStore, le-leb (metaPages l) p h)
+store-label l p h = rw (formatStore, le-leb (metaSpan l) p h)
 
 on-ssd : (l : Label) (d : ℕ) → storeAt l d .image ≡ ssdImage
 on-ssd l zero = refl
-on-ssd l (suc p) = go (decLt p (metaPages l))
+on-ssd l (suc p) = go (decLt p (metaSpan l))
   where
-    go : Dec (p < metaPages l) → storeAt l (suc p) .image ≡ ssdImage
+    go : Dec (p < metaSpan l) → storeAt l (suc p) .image ≡ ssdImage
     go (yes h) = ap (λ (s : Store). s .image) (store-meta l p h)
     go (no h) = ap (λ (s : Store). s .image) (store-label l p (omega arith))
 
 -- a step of a format, after d others
 module _ (l : Label) (ssd hdd : List ℕ) (d : ℕ) (L : Limits l) (hs : length ssd ≡ ssdLength l) (hh : length hdd ≡ hddLength l)
-    (hd : d ≤ metaPages l + 1) where
+    (hd : d ≤ metaSpan l + 1) where
   box : Box
   box = formatBox l ssd hdd (Formatting d)
 
@@ -129,12 +130,12 @@ module _ (l : Label) (ssd hdd : List ℕ) (d : ℕ) (L : Limits l) (hs : length 
 
   state-after : formatState l (recordOf l (record { 0 = 0 }) 0 (Formatting d) false []) d ≡ recordOf l (record { 0 = 0 }) 0
       (phaseAfter l (suc d)) false []
-  state-after = go (decLt d (metaPages l + 1))
+  state-after = go (decLt d (metaSpan l + 1))
     where
-      go : Dec (d < metaPages l + 1) → formatState l (recordOf l (record { 0 = 0 }) 0 (Formatting d) false []) d ≡ recordOf l
+      go : Dec (d < metaSpan l + 1) → formatState l (recordOf l (record { 0 = 0 }) 0 (Formatting d) false []) d ≡ recordOf l
           (record { 0 = 0 }) 0 (phaseAfter l (suc d)) false []
-      go (yes h) = rw (formatState, lt-leb (metaPages l + 1) d h, phaseAfter, lt-leb (metaPages l + 2) (suc d) (omega arith), add-one d)
-      go (no h) = rw (formatState, le-leb (metaPages l + 1) d (omega arith), phaseAfter, le-leb (metaPages l + 2) (suc d) (omega arith))
+      go (yes h) = rw (formatState, lt-leb (metaSpan l + 1) d h, phaseAfter, lt-leb (metaSpan l + 2) (suc d) (omega arith), add-one d)
+      go (no h) = rw (formatState, le-leb (metaSpan l + 1) d (omega arith), phaseAfter, le-leb (metaSpan l + 2) (suc d) (omega arith))
 
   -- it is not refused, and makes its one store
   pub step-effect : effectOf step (formatBox l ssd hdd (Formatting d)) ≡ record {
@@ -150,12 +151,12 @@ module _ (l : Label) (ssd hdd : List ℕ) (d : ℕ) (L : Limits l) (hs : length 
       (putPage ssd (storeAt l d .place) (storeAt l d .bytes)) hdd (phaseAfter l (suc d))
   step-box = rw (step-effect, on-ssd l d)
 
-store-else : (l : Label) (d p : ℕ) → p ≢ d → 1 + p ≢ storeAt l (suc d) .place
-store-else l d p n = go (decLt d (metaPages l))
+store-else : (l : Label) (d p : ℕ) → p ≢ d → metaPlace l p ≢ storeAt l (suc d) .place
+store-else l d p n = go (decLt d (metaSpan l))
   where
-    go : Dec (d < metaPages l) → 1 + p ≢ storeAt l (suc d) .place
-    go (yes h) = rw (store-meta l d h) (λ e. n (omega arith))
-    go (no h) = rw (store-label l d (omega arith)) (λ e. absurd (omega arith))
+    go : Dec (d < metaSpan l) → metaPlace l p ≢ storeAt l (suc d) .place
+    go (yes h) = rw (store-meta l d h) (metas-apart l p d n)
+    go (no h) = rw (store-label l d (omega arith)) (meta-not-label l p)
 
 -- one step more
 pub steps-more : (n : ℕ) (x : Box) → steps (suc n) x ≡ boxAfter (resultOf step (steps n x))
@@ -168,15 +169,21 @@ length-meta : (p : ℕ) (l : Label) → length (encodeMeta 0 [] (rowsOn p (freeT
 length-meta p l = meta.length-encode 0 [] (rowsOn p (freeTable l)) (omega arith)
     (omega (arith, length-take 480 (drop (480 * p) (freeTable l))))
 
-store-fits : (l : Label) (d : ℕ) → Limits l → (storeAt l d .place < 1 + metaPages l) × (length (storeAt l d .bytes) ≡ 4096)
-store-fits l zero L = (omega arith, length-zero)
-store-fits l (suc p) L = go (decLt p (metaPages l))
-  where
-    go : Dec (p < metaPages l) → (storeAt l (suc p) .place < 1 + metaPages l) × (length (storeAt l (suc p) .bytes) ≡ 4096)
-    go (yes h) = rw (store-meta l p h) (omega arith, length-meta p l)
-    go (no h) = rw (store-label l p (omega arith)) (omega arith, label.length-encode l)
+pub record StepFits (l : Label) (s : Store) : Type 0 where
+  pub there : 4096 * s .place + 4096 ≤ ssdLength l
+  pub below : (t : Slot) → s .place < dataPlace l t
+  pub sized : length (s .bytes) ≡ 4096
 
-going : (l : Label) (d : ℕ) → d < metaPages l + 2 → phaseAfter l d ≡ Formatting d
+store-fits : (l : Label) (d : ℕ) → StepFits l (storeAt l d)
+store-fits l zero = record { there = label-within l; below = label-below-data l; sized = length-zero }
+store-fits l (suc p) = go (decLt p (metaSpan l))
+  where
+    go : Dec (p < metaSpan l) → StepFits l (storeAt l (suc p))
+    go (yes h) = rw (store-meta l p h) record { there = meta-within l p h; below = meta-below-data l p h; sized = length-meta p l }
+    go (no h) =
+        rw (store-label l p (omega arith)) record { there = label-within l; below = label-below-data l; sized = label.length-encode l }
+
+going : (l : Label) (d : ℕ) → d < metaSpan l + 2 → phaseAfter l d ≡ Formatting d
 going l d h = rw (phaseAfter, lt-leb _ _ h)
 
 -- the whole of a format, begun on images of the right lengths
@@ -185,12 +192,14 @@ module _ (l : Label) (ssd hdd : List ℕ) (L : Limits l) (hs : length ssd ≡ ss
   unfolding formatSsd
   length-format zero = hs
   length-format (suc d) =
-      let i = length-format d in
-      let f = store-fits l d L in
-      length-put (formatSsd l ssd d) (storeAt l d .bytes) (storeAt l d .place) (omega (arith, f .0)) (f .1) ∙ i
+      length-put (formatSsd l ssd d) (storeAt l d .bytes) (storeAt l d .place) (rw (length-format d) (store-fits l d .there))
+      (store-fits l d .sized) ∙ length-format d
+
+  step-there : (d : ℕ) → Holds (formatSsd l ssd d) (storeAt l d .place)
+  step-there d = rw (length-format d) (store-fits l d .there)
 
   -- the box after k steps
-  pub after-steps : (k : ℕ) → k ≤ metaPages l + 2
+  pub after-steps : (k : ℕ) → k ≤ metaSpan l + 2
       → steps k (formatBox l ssd hdd (Formatting 0)) ≡ formatBox l (formatSsd l ssd k) hdd (phaseAfter l k)
   unfolding formatSsd steps
   after-steps zero h = rw (going l 0 (omega arith))
@@ -201,7 +210,7 @@ module _ (l : Label) (ssd hdd : List ℕ) (L : Limits l) (hs : length ssd ≡ ss
       ∙ step-box l (formatSsd l ssd d) hdd d L (length-format d) hh (omega arith)
 
   -- each of its steps makes one store
-  pub stores-at : (k : ℕ) → k < metaPages l + 2 → effectOf step (steps k (formatBox l ssd hdd (Formatting 0))) .store ≡ some (storeAt l k)
+  pub stores-at : (k : ℕ) → k < metaSpan l + 2 → effectOf step (steps k (formatBox l ssd hdd (Formatting 0))) .store ≡ some (storeAt l k)
   stores-at k h =
       let y : Box = formatBox l (formatSsd l ssd k) hdd (Formatting k) in
       let e : steps k (formatBox l ssd hdd (Formatting 0)) ≡ y = after-steps k (omega arith)
@@ -213,46 +222,42 @@ module _ (l : Label) (ssd hdd : List ℕ) (L : Limits l) (hs : length ssd ≡ ss
   keeps-page : (d q : ℕ) → q ≢ storeAt l d .place → pageAt (formatSsd l ssd (suc d)) q ≡ pageAt (formatSsd l ssd d) q
   unfolding formatSsd
   keeps-page d q n =
-      let i = length-format d in
-      let f = store-fits l d L in
-      put-other (formatSsd l ssd d) (storeAt l d .bytes) (storeAt l d .place) q (omega (arith, f .0)) (f .1) n
+      put-other (formatSsd l ssd d) (storeAt l d .bytes) (storeAt l d .place) q (step-there d) (store-fits l d .sized) n
 
   gets-page : (d : ℕ) → pageAt (formatSsd l ssd (suc d)) (storeAt l d .place) ≡ storeAt l d .bytes
   unfolding formatSsd
   gets-page d =
-      let i = length-format d in
-      let f = store-fits l d L in
-      put-same (formatSsd l ssd d) (storeAt l d .bytes) (storeAt l d .place) (omega (arith, f .0)) (f .1)
+      put-same (formatSsd l ssd d) (storeAt l d .bytes) (storeAt l d .place) (step-there d) (store-fits l d .sized)
 
   -- the label page is zero till the last step
-  pub format-zero : (d : ℕ) → d ≤ metaPages l → pageAt (formatSsd l ssd (suc d)) 0 ≡ zeroPage
+  pub format-zero : (d : ℕ) → d ≤ metaSpan l → pageAt (formatSsd l ssd (suc d)) 0 ≡ zeroPage
   format-zero zero h = gets-page 0
   format-zero (suc p) h =
       let e = ap (λ (s : Store). s .place) (store-meta l p (omega arith)) in
-      keeps-page (suc p) 0 (omega arith) ∙ format-zero p (omega arith)
+      keeps-page (suc p) labelPlace (λ q. meta-not-label l p (sym e ∙ sym q)) ∙ format-zero p (omega arith)
 
-  pub format-label : pageAt (formatSsd l ssd (metaPages l + 2)) 0 ≡ encodeLabel l
+  pub format-label : pageAt (formatSsd l ssd (metaSpan l + 2)) 0 ≡ encodeLabel l
   format-label =
-      let n : metaPages l + 2 ≡ suc (suc (metaPages l)) = omega arith in
-      let e = store-label l (metaPages l) (omega arith) in
-      rw n (rw e at (gets-page (suc (metaPages l))))
+      let n : metaSpan l + 2 ≡ suc (suc (metaSpan l)) = omega arith in
+      let e = store-label l (metaSpan l) (omega arith) in
+      rw n (rw e at (gets-page (suc (metaSpan l))))
 
   -- metadata page p is stored by the step after p + 1 others
-  pub format-meta : (k p : ℕ) → p < metaPages l → p + 1 < k → pageAt (formatSsd l ssd k) (1 + p) ≡ encodeMeta 0 [] (rowsOn p (freeTable l))
+  pub format-meta : (k p : ℕ) → p < metaSpan l → p + 1 < k → pageAt (formatSsd l ssd k) (metaPlace l p) ≡ encodeMeta 0 [] (rowsOn p (freeTable l))
   format-meta zero p h q = absurd (omega arith)
   format-meta (suc zero) p h q = absurd (omega arith)
   format-meta (suc (suc d)) p h q = go (ℕ-discrete p d) (format-meta (suc d) p h)
     where
-      go : Dec (p ≡ d) → (p + 1 < suc d → pageAt (formatSsd l ssd (suc d)) (1 + p) ≡ encodeMeta 0 [] (rowsOn p (freeTable l)))
-          → pageAt (formatSsd l ssd (suc (suc d))) (1 + p) ≡ encodeMeta 0 [] (rowsOn p (freeTable l))
+      go : Dec (p ≡ d) → (p + 1 < suc d → pageAt (formatSsd l ssd (suc d)) (metaPlace l p) ≡ encodeMeta 0 [] (rowsOn p (freeTable l)))
+          → pageAt (formatSsd l ssd (suc (suc d))) (metaPlace l p) ≡ encodeMeta 0 [] (rowsOn p (freeTable l))
       go (yes e) ih = rw (← e) (rw (store-meta l p h) at (gets-page (suc p)))
-      go (no n) ih = keeps-page (suc d) (1 + p) (store-else l d p n) ∙ ih (omega arith)
+      go (no n) ih = keeps-page (suc d) (metaPlace l p) (store-else l d p n) ∙ ih (omega arith)
 
   -- the data pages are untouched
-  pub format-data : (k q : ℕ) → metaPages l < q → pageAt (formatSsd l ssd k) q ≡ pageAt ssd q
+  pub format-data : (k : ℕ) (s : Slot) → pageAt (formatSsd l ssd k) (dataPlace l s) ≡ pageAt ssd (dataPlace l s)
   unfolding formatSsd
-  format-data zero q h = refl
-  format-data (suc d) q h = keeps-page d q (omega (arith, store-fits l d L .0)) ∙ format-data d q h
+  format-data zero s = refl
+  format-data (suc d) s = keeps-page d (dataPlace l s) (λ e. omega (arith, store-fits l d .below s)) ∙ format-data d s
 
 -- a format that is not refused
 pub record Begun (l : Label) (x : Box) (e : Effect) : Type 0 where
@@ -292,7 +297,7 @@ pub record Formatted (l : Label) (x y : Box) : Type 0 where
   pub ssd-size : length ssd ≡ ssdLength l
   pub hdd-size : length (x .images .hdd) ≡ hddLength l
   pub label-page : pageAt ssd labelPlace ≡ encodeLabel l
-  pub meta-pages : (p : ℕ) → p < metaPages l → pageAt ssd (metaPlace l p) ≡ encodeMeta 0 [] (rowsOn p (freeTable l))
+  pub meta-pages : (p : ℕ) → p < metaSpan l → pageAt ssd (metaPlace l p) ≡ encodeMeta 0 [] (rowsOn p (freeTable l))
 
 -- the k-th step from a box stores this
 abbrev pub StoresAt : ℕ → Box → Store → Type 0
@@ -319,7 +324,7 @@ module _ (slots blocks : ℕ) (x : Box) (taken : refused (resultOf (format slots
   pub whole-format : Formatted (labelOf slots blocks) x (formatted slots blocks x)
   unfolding formatted
   whole-format =
-      let n : ℕ = metaPages l + 2 in
+      let n : ℕ = metaSpan l + 2 in
       let end : phaseAfter l n ≡ Ready = rw (phaseAfter, le-leb n n (omega arith)) in
       record {
         limits = B .limits;

@@ -12,7 +12,8 @@ use Rattle.pages.specs.Pages.{pageAt, putPage}
 use Rattle.pages.proofs.PageLaws.{length-page}
 use Rattle.layout.specs.declared.Slot.{Slot}
 use Rattle.layout.specs.declared.Label.{Label}
-use Rattle.layout.specs.Places.{metaPages, metaPlace, tableLength}
+use Rattle.layout.specs.Places.{metaPages, metaPlace, dataPlace, tableLength}
+use Rattle.layout.proofs.PlaceLaws.{data-within}
 use Rattle.layout.specs.MetaPage.{encodeMeta, rowsOn}
 use Rattle.layout.specs.PageRule.{distinct}
 use Rattle.record.specs.declared.Record.{Record}
@@ -145,8 +146,8 @@ module _
         (rowAt v s) (entryRow l (metasOf l (k .ssd)) s)
     ents = put-entry l (k .ssd) (k .hdd) (S .images) v size R (k .newest + 1) fits newer w W p p-page
 
-    dats : (s : ℕ) → pageAt (putPage (k .ssd) (metaPlace l p) (encodeMeta (k .newest + 1) w (rowsOn p v))) (1 + metaPages l + s) ≡ pageAt (k .ssd)
-        (1 + metaPages l + s)
+    dats : (s : ℕ) → pageAt (putPage (k .ssd) (metaPlace l p) (encodeMeta (k .newest + 1) w (rowsOn p v))) (dataPlace l (record { 0 = s })) ≡ pageAt (k .ssd)
+        (dataPlace l (record { 0 = s }))
     dats = put-page l (k .ssd) (k .hdd) (S .images) v size R (k .newest + 1) fits newer w W p p-page
 
     news : newestOf (metasOf l (putPage (k .ssd) (metaPlace l p) (encodeMeta (k .newest + 1) w (rowsOn p v)))) ≡
@@ -250,7 +251,7 @@ leftUnconfirmed false u = u
 
 abbrev pub landedCore : Bool → Bool → Label → Core → ℕ → List ℕ → Core
 landedCore o write l k s d = record {
-  ssd = putPage (k .ssd) (1 + metaPages l + s) d;
+  ssd = putPage (k .ssd) (dataPlace l (record { 0 = s })) d;
   hdd = k .hdd;
   table = set (k .table) (2 * s + 1) (landedFlags write (getD (k .table) (2 * s + 1) 0));
   hand = k .hand;
@@ -268,7 +269,7 @@ lands-box l k s d o write e = ap (λ (b : Bool). landing (landedState b (record 
   where
     landing : Record → Box
     landing r = record {
-      images = record { ssd = putPage (k .ssd) (1 + metaPages l + s) d; hdd = k .hdd };
+      images = record { ssd = putPage (k .ssd) (dataPlace l (record { 0 = s })) d; hdd = k .hdd };
       table = set (k .table) (2 * s + 1) (landedFlags write (getD (k .table) (2 * s + 1) 0));
       state = r;
     }
@@ -307,7 +308,7 @@ module _
       callers = C;
     }
 
-    landed-metas : metasOf l (putPage (k .ssd) (1 + metaPages l + s) d) ≡ metasOf l (k .ssd)
+    landed-metas : metasOf l (putPage (k .ssd) (dataPlace l (record { 0 = s })) d) ≡ metasOf l (k .ssd)
     landed-metas = data-metas l (k .ssd) (k .hdd) (S .images) s s-slot d d-size
 
     landed-rows : (u : ℕ) → rowAt (set (k .table) (2 * s + 1) (landedFlags write (getD (k .table) (2 * s + 1) 0))) u
@@ -346,7 +347,7 @@ module _
 abbrev pub copiedCore : Label → Core → ℕ → List ℕ → Slot → Core
 copiedCore l k s v hand = record {
   ssd = k .ssd;
-  hdd = putPage (k .hdd) (getD v (2 * s) 0) (pageAt (k .ssd) (1 + metaPages l + s));
+  hdd = putPage (k .hdd) (getD v (2 * s) 0) (pageAt (k .ssd) (dataPlace l (record { 0 = s })));
   table = set v (2 * s + 1) (withoutDirty (getD v (2 * s + 1) 0));
   hand = hand;
   newest = k .newest;
@@ -377,8 +378,9 @@ module _
     block-low : getD v (2 * s) 0 < l .blocks
     block-low = A .legal s s-slot .low is-valid
 
-    page-sized : length (pageAt (k .ssd) (1 + metaPages l + s)) ≡ 4096
-    page-sized = length-page (k .ssd) (1 + metaPages l + s) (omega (arith, S .images .ssd-size))
+    page-sized : length (pageAt (k .ssd) (dataPlace l (record { 0 = s }))) ≡ 4096
+    page-sized = length-page (k .ssd) (dataPlace l (record { 0 = s }))
+        (rw (S .images .ssd-size) (data-within l (record { 0 = s }) s-slot))
 
     clean-row : Changed (getD v (2 * s) 0) (getD v (2 * s + 1) 0) (withoutDirty (getD v (2 * s + 1) 0))
         (cleaned (rowOf (getD v (2 * s) 0) (getD v (2 * s + 1) 0 % 8)))

@@ -18,7 +18,7 @@ use Rattle.layout.specs.Places.{tableLength}
 use Rattle.layout.specs.LabelPage.{decodeLabel}
 use Rattle.layout.specs.MetaPage.{rowsFrom}
 use Rattle.layout.specs.PageRule.{listed}
-use Rattle.layout.proofs.PlaceLaws.{within}
+use Rattle.layout.proofs.PlaceLaws.{within, label-within}
 use Rattle.layout.proofs.LabelLaws.{label-back}
 use Rattle.record.specs.declared.Phase.{Phase}
 use Rattle.protocol.specs.Rows.{valid, dirty, writing}
@@ -179,7 +179,7 @@ module _ (l : Label) (k : Core) (p : Plain) (K : ImagesKept l (k .ssd) (k .hdd))
   unfolding labelTest
   label-pass =
       let d : decodeLabel (pageAt (k .ssd) 0) ≡ Legal l = ap decodeLabel (K .label-page) ∙ label-back l (within l .1 (K .limits)) in
-      rw (d, le-leb 4096 (length (k .ssd)) (omega (arith, K .ssd-size)))
+      rw (d, le-leb 4096 (length (k .ssd)) (rw (K .ssd-size) (label-within l)))
 
   length-pass : (table : List ℕ) → length table ≡ tableLength l → lengthTest l (record { ssd = k .ssd; hdd = k .hdd }) table ≡ true
   unfolding lengthTest lengthsTest

@@ -15,9 +15,10 @@ use Rattle.pages.specs.Pages.{pageAt, putPage, Holds}
 use Rattle.pages.proofs.PageLaws.{put-same, put-other, length-put}
 use Rattle.layout.specs.declared.Slot.{Slot}
 use Rattle.layout.specs.declared.Label.{Label}
-use Rattle.layout.specs.Places.{Limits, metaPages, tableLength}
+use Rattle.layout.specs.Places.{Limits, metaPages, metaPlace, dataPlace, tableLength}
 use Rattle.layout.specs.MetaPage.{encodeMeta, rowsOn, stampOf, windowOf, entryAt}
 use Rattle.layout.specs.PageRule.{pageTest, pairTest, inRange}
+use Rattle.layout.proofs.PlaceLaws.{page-place, meta-not-label, label-below-data, meta-below-data, datas-apart, meta-within, data-within}
 use Rattle.layout.proofs.RoundTrip.{encoded-legal, range-fit}
 use Rattle.layout.proofs.MetaLaws.{length-encode, encode-stamp, encode-window, encode-entry}
 use Rattle.protocol.specs.Recovery.{metasOf, entryIn, newestOf}
@@ -149,10 +150,10 @@ module _
     sized = page-size l (K .limits) table size R t t-fits w W p
 
     new : List ℕ
-    new = putPage ssd (1 + p) page
+    new = putPage ssd (metaPlace l p) page
 
-    fits : Holds ssd (1 + p)
-    fits = omega (arith, K .ssd-size)
+    fits : Holds ssd (metaPlace l p)
+    fits = rw (K .ssd-size) (meta-within l p (page-place l p p-page))
 
     new-metas : metasOf l new ≡ set (metasOf l ssd) p page
     unfolding new
@@ -198,9 +199,9 @@ module _
         let wi : windowOf page ≡ w = unfold page in page-window l (K .limits) table size R t t-fits w W p in
         rw (new-metas, newest-set (metasOf l ssd) p page p-there (rw st newer), st, wi)
 
-    new-else : (q : ℕ) → q ≢ 1 + p → pageAt new q ≡ pageAt ssd q
+    new-else : (q : ℕ) → q ≢ metaPlace l p → pageAt new q ≡ pageAt ssd q
     unfolding new
-    new-else q n = put-other ssd page (1 + p) q fits sized n
+    new-else q n = put-other ssd page (metaPlace l p) q fits sized n
 
     old-stamp : (q : ℕ) → q < metaPages l → stampOf (getD (metasOf l ssd) q []) < t
     old-stamp q h = omega (arith, stamp-most (record { stamp = 0; window = [] }) (metasOf l ssd) q (omega (arith, length-metas l ssd)))
@@ -234,59 +235,60 @@ module _
         apart q r h k (no e) (no f) d z = rw (there q e, there r f) (K .pages .apart q r h k d (rw (there q e) at z))
 
     -- the same, with the page written out
-    pub put-kept : ImagesKept l (putPage ssd (1 + p) (encodeMeta t w (rowsOn p table))) hdd
+    pub put-kept : ImagesKept l (putPage ssd (metaPlace l p) (encodeMeta t w (rowsOn p table))) hdd
     unfolding new page
     put-kept = record {
       limits = K .limits;
-      ssd-size = length-put ssd page (1 + p) fits sized ∙ K .ssd-size;
+      ssd-size = length-put ssd page (metaPlace l p) fits sized ∙ K .ssd-size;
       hdd-size = K .hdd-size;
-      label-page = new-else 0 (omega arith) ∙ K .label-page;
+      label-page = new-else 0 (λ e. meta-not-label l p (sym e)) ∙ K .label-page;
       pages = new-pages;
     }
 
-    pub put-entry : (s : ℕ) → entryRow l (metasOf l (putPage ssd (1 + p) (encodeMeta t w (rowsOn p table)))) s ≡ cond (eqb (s / 240) p)
+    pub put-entry : (s : ℕ) → entryRow l (metasOf l (putPage ssd (metaPlace l p) (encodeMeta t w (rowsOn p table)))) s ≡ cond (eqb (s / 240) p)
         (rowAt table s) (entryRow l (metasOf l ssd) s)
     unfolding new page
     put-entry = new-entry
 
-    pub put-newest : newestOf (metasOf l (putPage ssd (1 + p) (encodeMeta t w (rowsOn p table)))) ≡ record { stamp = t; window = w }
+    pub put-newest : newestOf (metasOf l (putPage ssd (metaPlace l p) (encodeMeta t w (rowsOn p table)))) ≡ record { stamp = t; window = w }
     unfolding new page
     put-newest = new-newest
 
-    pub put-page : (s : ℕ) → pageAt (putPage ssd (1 + p) (encodeMeta t w (rowsOn p table))) (1 + metaPages l + s) ≡ pageAt ssd
-        (1 + metaPages l + s)
+    pub put-page : (s : ℕ) → pageAt (putPage ssd (metaPlace l p) (encodeMeta t w (rowsOn p table))) (dataPlace l (record { 0 = s })) ≡ pageAt ssd
+        (dataPlace l (record { 0 = s }))
     unfolding new page
-    put-page s = new-else (1 + metaPages l + s) (omega arith)
+    put-page s = new-else (dataPlace l (record { 0 = s })) (λ e. omega (arith, e, meta-below-data l p (page-place l p p-page) (record { 0 = s })))
 
 -- a data page stored
 module _ (l : Label) (ssd hdd : List ℕ) (K : ImagesKept l ssd hdd) (s : ℕ) (s-slot : s < l .slots) (d : List ℕ)
     (d-size : length d ≡ 4096) where
-  data-fits : Holds ssd (1 + metaPages l + s)
-  data-fits = omega (arith, K .ssd-size)
+  data-fits : Holds ssd (dataPlace l (record { 0 = s }))
+  data-fits = rw (K .ssd-size) (data-within l (record { 0 = s }) s-slot)
 
-  data-else : (q : ℕ) → q ≢ 1 + metaPages l + s → pageAt (putPage ssd (1 + metaPages l + s) d) q ≡ pageAt ssd q
-  data-else q n = put-other ssd d (1 + metaPages l + s) q data-fits d-size n
+  data-else : (q : ℕ) → q ≢ dataPlace l (record { 0 = s }) → pageAt (putPage ssd (dataPlace l (record { 0 = s })) d) q ≡ pageAt ssd q
+  data-else q n = put-other ssd d (dataPlace l (record { 0 = s })) q data-fits d-size n
 
-  pub data-metas : metasOf l (putPage ssd (1 + metaPages l + s) d) ≡ metasOf l ssd
-  data-metas = metas-else l ssd (K .ssd-size) d d-size (1 + metaPages l + s) data-fits (λ p h. omega arith)
+  pub data-metas : metasOf l (putPage ssd (dataPlace l (record { 0 = s })) d) ≡ metasOf l ssd
+  data-metas = metas-else l ssd (K .ssd-size) d d-size (dataPlace l (record { 0 = s })) data-fits
+      (λ p h e. omega (arith, e, meta-below-data l p (page-place l p h) (record { 0 = s })))
 
-  pub data-kept : ImagesKept l (putPage ssd (1 + metaPages l + s) d) hdd
+  pub data-kept : ImagesKept l (putPage ssd (dataPlace l (record { 0 = s })) d) hdd
   data-kept = record {
     limits = K .limits;
-    ssd-size = length-put ssd d (1 + metaPages l + s) data-fits d-size ∙ K .ssd-size;
+    ssd-size = length-put ssd d (dataPlace l (record { 0 = s })) data-fits d-size ∙ K .ssd-size;
     hdd-size = K .hdd-size;
-    label-page = data-else 0 (omega arith) ∙ K .label-page;
+    label-page = data-else 0 (λ e. omega (arith, e, label-below-data l (record { 0 = s }))) ∙ K .label-page;
     pages = rw data-metas (K .pages);
   }
 
-  pub data-page : (u : ℕ) → pageAt (putPage ssd (1 + metaPages l + s) d) (1 + metaPages l + u) ≡ base.upd
-      (λ v. pageAt ssd (1 + metaPages l + v)) s d u
+  pub data-page : (u : ℕ) → pageAt (putPage ssd (dataPlace l (record { 0 = s })) d) (dataPlace l (record { 0 = u })) ≡ base.upd
+      (λ v. pageAt ssd (dataPlace l (record { 0 = v }))) s d u
   data-page u = go (ℕ-discrete u s)
     where
-      go : Dec (u ≡ s) → pageAt (putPage ssd (1 + metaPages l + s) d) (1 + metaPages l + u) ≡ base.upd
-          (λ v. pageAt ssd (1 + metaPages l + v)) s d u
-      go (yes e) = rw (e, base.upd-same) (put-same ssd d (1 + metaPages l + s) data-fits d-size)
-      go (no n) = rw base.upd-other (data-else (1 + metaPages l + u) (omega arith))
+      go : Dec (u ≡ s) → pageAt (putPage ssd (dataPlace l (record { 0 = s })) d) (dataPlace l (record { 0 = u })) ≡ base.upd
+          (λ v. pageAt ssd (dataPlace l (record { 0 = v }))) s d u
+      go (yes e) = rw (e, base.upd-same) (put-same ssd d (dataPlace l (record { 0 = s })) data-fits d-size)
+      go (no n) = rw base.upd-other (data-else (dataPlace l (record { 0 = u })) (datas-apart l (record { 0 = u }) (record { 0 = s }) n))
 
 -- a page of the HDD stored
 module _ (l : Label) (ssd hdd : List ℕ) (K : ImagesKept l ssd hdd) (b : ℕ) (b-block : b < l .blocks) (d : List ℕ)

@@ -10,7 +10,7 @@ use Rattle.pages.specs.Parts.{pagePart}
 use Rattle.layout.specs.declared.Slot.{Slot}
 use Rattle.layout.specs.declared.Block.{Block}
 use Rattle.layout.specs.declared.Label.{Label}
-use Rattle.layout.specs.Places.{metaPages}
+use Rattle.layout.specs.Places.{dataPlace}
 use Rattle.protocol.specs.declared.Condition.{Condition}
 use Rattle.protocol.specs.declared.Condition.the-variants.{NotCached, Clean, Dirty, Writing, Fetching}
 use Rattle.protocol.specs.Rows.{valid, writing}
@@ -67,14 +67,14 @@ module _ (l : Label) (k : Core) (S : Shape l k) (p : Plain) (R : model.Ready (ab
   -- what the model finds where the table finds slot s
   pub model-at : (s : ℕ) → Held l (k .table) b s
       → (viewAt (abs l k) b (seen.find (rowAt (k .table)) (l .slots) b) ≡ cond (writing (getD (k .table) (2 * s + 1) 0))
-      (pageAt (k .hdd) b) (pageAt (k .ssd) (1 + metaPages l + s)))
+      (pageAt (k .hdd) b) (pageAt (k .ssd) (dataPlace l (record { 0 = s }))))
       × (shutAt (abs l k) (seen.find (rowAt (k .table)) (l .slots) b) ≡ cond (writing (getD (k .table) (2 * s + 1) 0)) none (some s))
   unfolding abs
   model-at s H = go (found (rowAt (k .table)) (l .slots) b)
     where
       go : {o : Option ℕ} → Found (rowAt (k .table)) (l .slots) b o
           → (viewAt (abs l k) b o ≡ cond (writing (getD (k .table) (2 * s + 1) 0)) (pageAt (k .hdd) b)
-          (pageAt (k .ssd) (1 + metaPages l + s))) × (shutAt (abs l k) o ≡ cond (writing (getD (k .table) (2 * s + 1) 0)) none (some s))
+          (pageAt (k .ssd) (dataPlace l (record { 0 = s })))) × (shutAt (abs l k) o ≡ cond (writing (getD (k .table) (2 * s + 1) 0)) none (some s))
       go (Found.nowhere h) = absurd (h s (H .low) (both s H .held) (both s H .blocked))
       go (Found.at t i v e) =
           let q : t ≡ s = one s t (both s H) v e in
@@ -132,7 +132,7 @@ module _ (l : Label) (k : Core) (S : Shape l k) (p : Plain) (R : model.Ready (ab
       (said-slot (conditionOf (k .table) (record { 0 = b })) ∙ by-condition here .1)
 
   -- the slot that a look-up names holds the page
-  named : (o : Option ℕ) (s : Slot) → asSlot (shutAt (abs l k) o) ≡ some s → viewAt (abs l k) b o ≡ pageAt (k .ssd) (1 + metaPages l + s .0)
+  named : (o : Option ℕ) (s : Slot) → asSlot (shutAt (abs l k) o) ≡ some s → viewAt (abs l k) b o ≡ pageAt (k .ssd) (dataPlace l s)
   unfolding abs
   named none s e = absurd (Option·none-ne-some s e)
   named (some t) s e = go (told (openRow (rowAt (k .table) t)))
@@ -142,14 +142,14 @@ module _ (l : Label) (k : Core) (S : Shape l k) (p : Plain) (R : model.Ready (ab
       number-of (some u) = u .0
 
       go : Told (openRow (rowAt (k .table) t)) → cond (openRow (rowAt (k .table) t)) (pageAt (k .hdd) b)
-          (pageAt (k .ssd) (1 + metaPages l + t)) ≡ pageAt (k .ssd) (1 + metaPages l + s .0)
+          (pageAt (k .ssd) (dataPlace l (record { 0 = t }))) ≡ pageAt (k .ssd) (dataPlace l s)
       go (told-true o) = absurd (Option·none-ne-some s (rw o at e))
       go (told-false o) =
           let f : asSlot (some t) ≡ some s = rw o at e in
           let q : t ≡ s .0 = ap number-of f in
-          rw o (ap (λ (n : ℕ). pageAt (k .ssd) (1 + metaPages l + n)) q)
+          rw o (ap (λ (n : ℕ). pageAt (k .ssd) (dataPlace l (record { 0 = n }))) q)
 
   pub look-page : (s : Slot) → slotSaid (resultOf (lookUp (record { 0 = b })) (boxOfCore l k) .said) ≡ some s
-      → seen.view (abs l k) b ≡ pageAt (k .ssd) (1 + metaPages l + s .0)
+      → seen.view (abs l k) b ≡ pageAt (k .ssd) (dataPlace l s)
   unfolding seen.view places.slotOf abs
   look-page s e = named (seen.find (rowAt (k .table)) (l .slots) b) s (sym look-slot ∙ e)

@@ -1,5 +1,5 @@
 use native.Mathlib.Omega.{arith}
-use Rattle.layout.specs.Places.{metaPages}
+use Rattle.layout.proofs.PlaceLaws.{data-few}
 use borrow.Author.Needs.{needs}
 use Rattle.c_answers.proofs.seen.in_ssd.Statement.{statement}
 use Rattle.c_answers.proofs.seen.in_ssd.Tie as tie
@@ -8,8 +8,7 @@ data-place-requires : tie.Need-data-place-requires
 data-place-requires c κs = search needs
 
 mul-t5 : tie.Need-mul-t5
-unfolding metaPages
-mul-t5 c = omega (arith, c .data-place .ensures)
+mul-t5 c = omega (arith, c .data-place .ensures, data-few (c .before .args .l) (c .before .args .s))
 
 returns : tie.Need-returns
 returns c = rw (c .data-place .ensures)

@@ -2,17 +2,17 @@ use Prim.Native.Nat.{_+_, _≤_, _<_}
 use native.Mathlib.Omega.{arith}
 use borrow.Author.Tests.{le-leb, lt-leb}
 use borrow.Author.Needs.{needs}
-use Rattle.layout.specs.Places.{metaPages}
+use Rattle.layout.specs.Places.{metaSpan}
+use Rattle.layout.proofs.PlaceLaws.{span-few}
 use Rattle.protocol.specs.Perform.{formatState}
 use Rattle.maintenance.proofs.format.format_state.Statement.{statement}
 use Rattle.maintenance.proofs.format.format_state.Tie as tie
 
-meta-pages-requires : tie.Need-meta-pages-requires
-meta-pages-requires c κs = search needs
+meta-span-requires : tie.Need-meta-span-requires
+meta-span-requires c κs = search needs
 
 add-if1 : tie.Need-add-if1
-unfolding metaPages
-add-if1 c = omega (arith, c .meta-pages .ensures)
+add-if1 c = omega (arith, c .meta-span .ensures, span-few (c .before .before .args .state .label))
 
 with-stamp-requires : tie.Need-with-stamp-requires
 with-stamp-requires c κs = search needs
@@ -27,12 +27,11 @@ returns : tie.Need-returns
 returns c =
     let m = c .before .before .before .before in
     let a = m .before .before .args in
-    let h : metaPages (a .state .label) + 1 ≤ a .done = rw (← m .meta-pages .ensures) (c .before .before .before .if1 .taken) in
+    let h : metaSpan (a .state .label) + 1 ≤ a .done = rw (← m .meta-span .ensures) (c .before .before .before .if1 .taken) in
     rw (c .with-phase .ensures, c .before .with-hand .ensures, c .before .before .with-stamp .ensures, formatState, le-leb _ _ h)
 
 add-t5 : tie.Need-add-t5
-unfolding metaPages
-add-t5 c = omega (arith, c .before .meta-pages .ensures)
+add-t5 c = omega (arith, c .before .meta-span .ensures, span-few (c .before .before .before .args .state .label))
 
 with-phase-requires-2 : tie.Need-with-phase-requires-2
 with-phase-requires-2 c κs = search needs
@@ -41,14 +40,14 @@ returns-2 : tie.Need-returns-2
 returns-2 c =
     let m = c .before .before in
     let a = m .before .before .args in
-    let h : a .done < metaPages (a .state .label) + 1 = rw (← m .meta-pages .ensures) (c .before .if1 .left) in
+    let h : a .done < metaSpan (a .state .label) + 1 = rw (← m .meta-span .ensures) (c .before .if1 .left) in
     rw (c .with-phase2 .ensures, formatState, lt-leb _ _ h)
 
 pub format-state-spec : {M : Type 1} → statement M
 format-state-spec =
     tie.close
     (tie.spec
-    meta-pages-requires
+    meta-span-requires
     add-if1
     with-stamp-requires
     with-hand-requires
