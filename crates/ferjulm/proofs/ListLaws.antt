@@ -26,7 +26,7 @@ use Rattle.protocol.specs.Rows.{rowFlags, writing}
 use Rattle.protocol.specs.Box.{Box, left, Result, boxAfter}
 use Rattle.protocol.specs.Plan.{slotMap, cost, Call, format, step, flush, reopen, offer, fetch, landFetch, lookUp, view, writeBack, land, lookUpList, offerList, ask, grown, Move, lowestPage, stepping, plan}
 use Rattle.protocol.specs.Perform.{confirmed, landedState, formatState, perform}
-use Rattle.protocol.specs.Recovery.{labelAt, metasOf, newestOf, recover, offPage}
+use Rattle.protocol.specs.Recovery.{labelAt, metasOf, newestOf, spentStamp, recover, offPage}
 use Rattle.protocol.specs.Kinds.{Aim}
 use Rattle.protocol.specs.Judge.{Reason, badRows, test, judged}
 use Rattle.protocol.specs.Calls.{decided, effectOf, resultOf}
@@ -132,7 +132,8 @@ module _ (x : Box) (whole : Whole (x .state)) where
   does-whole S (does-rest n u) = whole
   does-whole S (does-confirm u n) = record { slots = whole .slots; callers = whole .callers }
 
-  recovers-whole : judged reopen x ≡ none → let l = labelAt (x .images .ssd) in Whole (recover l (metasOf l (x .images .ssd)) .state)
+  recovers-whole : judged reopen x ≡ none → let l = labelAt (x .images .ssd) in
+      Whole (recover l (metasOf l (x .images .ssd)) (spentStamp l (x .images .ssd)) .state)
   unfolding recover test
   recovers-whole e =
       let l = labelAt (x .images .ssd) in

@@ -20,7 +20,7 @@ use Rattle.layout.proofs.Decimal.{decimal-one, decimal-long}
 use Rattle.record.specs.declared.Record.{Record}
 use Rattle.protocol.specs.Reply.{refusal, refused}
 use Rattle.protocol.specs.Rows.{rowBlock, rowFlags, valid}
-use Rattle.protocol.specs.Recovery.{metasOf, entryIn, newestOf, pagesTest, recovered, recover}
+use Rattle.protocol.specs.Recovery.{metasOf, entryIn, newestOf, spentStamp, pagesTest, recovered, recover}
 use Rattle.protocol.specs.Box.{Result}
 use Rattle.protocol.specs.Judge.{lengthsTest}
 use Rattle.protocol.specs.Calls.{reopenOf}
@@ -61,7 +61,7 @@ entry-none s e a q = omega (arith, ap length q)
 data Verdict (ssd : List ℕ) (r : Result) : Type 0 where
   refuses : (n : ℕ) → n < 10 → listingOf ssd ≡ refusalText n → r .said ≡ refusal n → Verdict ssd r
   lists : (l : Label) → labelIf ssd ≡ Legal l → imageText l (metasOf l ssd) (newestOf (metasOf l ssd)) ≡ listingOf ssd
-      → refused (r .said) ≡ false → r .table ≡ recover l (metasOf l ssd) .table → Verdict ssd r
+      → refused (r .said) ≡ false → r .table ≡ recover l (metasOf l ssd) (spentStamp l ssd) .table → Verdict ssd r
 
 module _ (ssd hdd table : List ℕ) (state : Record) (b : Beside ssd hdd table) where
   abbrev result : Result
@@ -79,7 +79,7 @@ module _ (ssd hdd table : List ℕ) (state : Record) (b : Beside ssd hdd table) 
       refuses 5 (omega arith) (sym (bad-pages ssd l e h (le-leb _ _ (b .short)) q))
       (sym (ap (λ (r : Result). r .said) (reopens.bad-pages ssd hdd table state l e (by-length l e true h) q)))
   measured l e h (told-true q) =
-      let r = reopens.taken ssd hdd table state l e (by-length l e true h) (recover l (metasOf l ssd)) q refl in
+      let r = reopens.taken ssd hdd table state l e (by-length l e true h) (recover l (metasOf l ssd) (spentStamp l ssd)) q refl in
       lists l e (listed-as ssd l e h (le-leb _ _ (b .short)) q) (ap (λ (x : Result). refused (x .said)) (sym r)) (ap (λ (x : Result). x .table) (sym r))
 
   labelled : (l : Label) → labelIf ssd ≡ Legal l → Told (eqb (length ssd) (ssdLength l)) → Verdict ssd result
@@ -161,11 +161,11 @@ module _ (w : List Slot) (s : Slot) (e : Entry) where
             }
 
 -- the rows of a reopened table
-row-of : (l : Label) (pages : List (List ℕ)) (table : List ℕ) → table ≡ recover l pages .table → (s : Slot) → s .0 < l .slots
+row-of : (l : Label) (pages : List (List ℕ)) (spent : ℕ) (table : List ℕ) → table ≡ recover l pages spent .table → (s : Slot) → s .0 < l .slots
     → (rowBlock table s .0 ≡ recovered (newestOf pages .window) s (entryIn pages s) .block .0)
     × (rowFlags table s ≡ recovered (newestOf pages .window) s (entryIn pages s) .flags)
 unfolding recover
-row-of l pages table e s h =
+row-of l pages spent table e s h =
     let f : ℕ → Entry = λ k. recovered (newestOf pages .window) (record { 0 = k }) (entryIn pages (record { 0 = k })) in (
       ap (λ (t : List ℕ). getD t (2 * s .0) 0) e ∙ rows-block (l .slots) f (s .0) h,
       ap (λ (t : List ℕ). getD t (2 * s .0 + 1) 0) e ∙ rows-flags (l .slots) f (s .0) h,
@@ -182,5 +182,5 @@ same-fates ssd hdd table state b h = go (verdict ssd hdd table state b)
       label = l;
       labelled = e;
       text = sym t;
-      fates = λ s i. let q = row-of l (metasOf l ssd) _ g s i in same-fate _ s _ _ (q .0) (q .1);
+      fates = λ s i. let q = row-of l (metasOf l ssd) _ _ g s i in same-fate _ s _ _ (q .0) (q .1);
     }

@@ -32,7 +32,7 @@ use Rattle.protocol.specs.Box.{Images, Box, ssdImage, hddImage, Store, E
 use Rattle.protocol.specs.Condition.{conditionOf, isOpen}
 use Rattle.protocol.specs.Plan.{Ask, slotMap, cost, Call, format, step, reopen, offer, fetch, land, landFetch, lookUp, lookUpList, offerList, ask}
 use Rattle.protocol.specs.Kinds.{Purpose, aim}
-use Rattle.protocol.specs.Recovery.{labelAt, metasOf, entryIn, storedRows, Recovered, recoverFrom}
+use Rattle.protocol.specs.Recovery.{labelAt, metasOf, spentStamp, entryIn, storedRows, Recovered, recoverFrom}
 use Rattle.protocol.specs.SlotMap.{letterOf, mapLines, mapBytes, mapText}
 use Rattle.protocol.specs.Judge.{noLabel, wrongLength, test}
 use Rattle.protocol.specs.Calls.{effectOf, resultOf, boxOf, viewOf, wordsLeft, mapOf}
@@ -137,15 +137,16 @@ MendsSoon x =
     (k : ℕ) → ((j : ℕ) → j ≤ k → refused (resultOf step (steps j x) .said) ≡ false)
     → ((j : ℕ) → j ≤ k → steps j x .state .phase ≡ Recovering) → k < 63
 
--- A reopening after 2 and 4 is `recoverFrom` of the label and the metadata pages: nothing is 5.
+-- A reopening after 2 and 4 is `recoverFrom` of the label, the metadata pages and the spent stamp: nothing is 5.
 abbrev pub recoveredTo : Box → Option Recovered → Effect
 recoveredTo x none = refusing 5 x
 recoveredTo x (some r) = record { said = done; state = r .state; table = r .table; store = none }
 
 abbrev pub ReopensFrom : Box → Type 0
 ReopensFrom x =
+    let l = labelAt (x .images .ssd) in
     test noLabel reopen x ≡ false → test wrongLength reopen x ≡ false
-    → effectOf reopen x ≡ recoveredTo x (recoverFrom (labelAt (x .images .ssd)) (metasOf (labelAt (x .images .ssd)) (x .images .ssd)))
+    → effectOf reopen x ≡ recoveredTo x (recoverFrom l (metasOf l (x .images .ssd)) (spentStamp l (x .images .ssd)))
 
 -- What a view hands back does not depend on where the images lie: its number, and its bytes, which are what demand 3 reads. So
 -- view's contract, at the places of the lent images, gives `readOf`.

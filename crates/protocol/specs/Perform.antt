@@ -18,7 +18,7 @@ use Rattle.protocol.specs.Rows.{rowBlock, rowFlags, setFlags, writing, w
 use Rattle.record.specs.Record.{labelIn, windowIn, callersIn, recordOf, withHand, withPhase, withStamp, withWindow, withCallers}
 use Rattle.record.specs.Window.{without, beside}
 use Rattle.protocol.specs.Box.{Box, ssdImage, hddImage, Store, Effect}
-use Rattle.protocol.specs.Recovery.{labelAt, metasOf, recover, phaseOf, offPage}
+use Rattle.protocol.specs.Recovery.{labelAt, metasOf, spentStamp, recover, phaseOf, offPage}
 use Rattle.protocol.specs.Plan.{grown, Move, stay, uses, usesAll, announces, lands, copies, confirms, mends, begins, formats, recovers}
 
 -- "A metadata store writes from the table (without used flags) the whole metadata page .., with the window, and the newest
@@ -136,5 +136,6 @@ perform (formats d) x =
       store = some (formatStore (labelIn (x .state)) (x .table) (windowIn (x .state)) d);
     }
 perform recovers x =
-    let r = recover (labelAt (x .images .ssd)) (metasOf (labelAt (x .images .ssd)) (x .images .ssd)) in
+    let l = labelAt (x .images .ssd) in
+    let r = recover l (metasOf l (x .images .ssd)) (spentStamp l (x .images .ssd)) in
     record { said = done; state = r .state; table = r .table; store = none }

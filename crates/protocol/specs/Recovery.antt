@@ -54,6 +54,13 @@ newestFrom n (page ∷ pages) = newestFrom (newer n page) pages
 abbrev pub newestOf : List (List ℕ) → Newest
 newestOf pages = newestFrom (record { stamp = 0; window = [] }) pages
 
+-- "newest stamp the largest stored": the largest that a store has spent, of the metadata pages and of an SSD image
+abbrev pub spentIn : List (List ℕ) → ℕ
+spentIn pages = newestOf pages .stamp
+
+abbrev pub spentStamp : Label → List ℕ → ℕ
+spentStamp l ssd = spentIn (metasOf l ssd)
+
 -- every page keeps its own rule
 unfoldable pub eachLegal : Label → ℕ → List (List ℕ) → Bool
 eachLegal l p [] = true
@@ -115,23 +122,23 @@ pub record Recovered : Type 0 where
   pub table : List ℕ
   pub state : Record
 
--- the table from the pages; "Hand 0, settled, newest stamp the largest stored. The pending slots, in stored order, are the
+-- the table from the pages; "Hand 0, settled, newest stamp the largest stored" (`spent`). "The pending slots, in stored order, are the
 -- record's window" (by 5 each slot of the newest window has a valid, writing entry)
-unfoldable pub recover : Label → List (List ℕ) → Recovered
-recover l pages =
+unfoldable pub recover : Label → List (List ℕ) → ℕ → Recovered
+recover l pages spent =
     let n = newestOf pages in
     record {
       table = rowsFrom (l .slots) (λ s. recovered (n .window) (record { 0 = s }) (entryIn pages (record { 0 = s })));
-      state = recordOf l (record { 0 = 0 }) (n .stamp) (phaseOf (n .window)) false (n .window);
+      state = recordOf l (record { 0 = 0 }) spent (phaseOf (n .window)) false (n .window);
     }
 
 -- a reopening after 2 and 4: nothing where the pages break a rule
-abbrev pub recoverIf : Bool → Label → List (List ℕ) → Option Recovered
-recoverIf true l pages = some (recover l pages)
-recoverIf false l pages = none
+abbrev pub recoverIf : Bool → Label → List (List ℕ) → ℕ → Option Recovered
+recoverIf true l pages spent = some (recover l pages spent)
+recoverIf false l pages spent = none
 
-unfoldable pub recoverFrom : Label → List (List ℕ) → Option Recovered
-recoverFrom l pages = recoverIf (pagesTest l pages) l pages
+unfoldable pub recoverFrom : Label → List (List ℕ) → ℕ → Option Recovered
+recoverFrom l pages spent = recoverIf (pagesTest l pages) l pages spent
 
 -- the pending slots of other pages than p
 unfoldable pub offPage : ℕ → List Slot → List Slot

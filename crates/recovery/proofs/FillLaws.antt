@@ -157,14 +157,14 @@ unfolding rowsFrom
 rows-none f = refl
 
 -- table and record
-pub recovered-is : (l : Label) (pages : List (List ℕ)) (n : Newest) (stamp : ℕ) (left : Window) (table : List ℕ) (phase : Phase)
+pub recovered-is : (l : Label) (pages : List (List ℕ)) (n : Newest) (spent : ℕ) (left : Window) (table : List ℕ) (phase : Phase)
     (state : Record)
-    → n ≡ newestOf pages → stamp ≡ newestOf pages .stamp → left ≡ windowFrom (n .window) → inRange l (n .window) ≡ true
+    → n ≡ newestOf pages → left ≡ windowFrom (n .window) → inRange l (n .window) ≡ true
     → allOpenIn pages (n .window) ≡ true
     → table ≡ freed (slotsIn left) (rowsFrom (l .slots) (λ s. keptEntry (entryIn pages (record { 0 = s }))))
-    → phase ≡ phaseAt (left .count) → state ≡ recordWith l (record { 0 = 0 }) stamp phase false left
-    → record { table = table; state = state } ≡ recover l pages
+    → phase ≡ phaseAt (left .count) → state ≡ recordWith l (record { 0 = 0 }) spent phase false left
+    → record { table = table; state = state } ≡ recover l pages spent
 unfolding recover
-recovered-is l pages n stamp left table phase state N S L r o T P R =
+recovered-is l pages n spent left table phase state N L r o T P R =
     let t : slotsIn left ≡ n .window = ap slotsIn L ∙ take-array (n .window) in
-    rw (R, P, T, t, table-recovered l pages (n .window) r o, L, S, phase-at (n .window), N)
+    rw (R, P, T, t, table-recovered l pages (n .window) r o, L, phase-at (n .window), N)

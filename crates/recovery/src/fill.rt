@@ -16,7 +16,7 @@ ghost use Rattle.layout.specs.Places.{Limits, ssdLength, tableLength};
 ghost use Rattle.layout.specs.MetaPage.{rowsFrom};
 ghost use Rattle.layout.specs.PageRule.{inRange};
 ghost use Rattle.layout.specs.Window.{windowMost, slotsIn};
-ghost use Rattle.protocol.specs.Recovery.{metasOf, entryIn, pagesTest, recover};
+ghost use Rattle.protocol.specs.Recovery.{metasOf, spentStamp, entryIn, pagesTest, recover};
 ghost use Rattle.recovery.specs.Fill.{keptEntry, freed};
 
 // An entry as it is kept: without the writing flag.
@@ -80,11 +80,12 @@ pub fn recover(ssd: &[u8], table: &mut [u32], l: Label) -> Record
     requires { ⌜ length (now table) ≡ tableLength l ⌝ }
     requires { ⌜ Limits l ⌝ }
     requires { ⌜ pagesTest l (metasOf l (now ssd)) ≡ true ⌝ }
-    ensures { λ r. ⌜ record { table = now (table .exit); state = r } ≡ recover l (metasOf l (now (ssd .entry))) ⌝ }
+    ensures { λ r. ⌜ record { table = now (table .exit); state = r } ≡ recover l (metasOf l (now (ssd .entry))) (spentStamp l (now (ssd .entry))) ⌝ }
 {
     fill(ssd, table, l);
     let found = image::newest(ssd, l);
     let pending = image::pending(ssd, l, found.at);
     free_rows(table, l, pending);
-    state::fresh(l, found.stamp, step::phase_of(pending.count), pending)
+    let spent = image::spent_stamp(ssd, l);
+    state::fresh(l, spent, step::phase_of(pending.count), pending)
 }

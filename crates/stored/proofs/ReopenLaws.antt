@@ -15,7 +15,7 @@ use Rattle.record.specs.declared.Record.{Record}
 use Rattle.protocol.specs.declared.Stored.the-variants.{Nothing}
 use Rattle.protocol.specs.Reply.{done}
 use Rattle.protocol.specs.Box.{Box, Result, refusing, left}
-use Rattle.protocol.specs.Recovery.{labelRead, labelAt, metasOf, pagesTest, Recovered, recover}
+use Rattle.protocol.specs.Recovery.{labelRead, labelAt, metasOf, spentStamp, pagesTest, Recovered, recover}
 use Rattle.protocol.specs.Plan.{reopen, recovers, plan}
 use Rattle.protocol.specs.Perform.{perform}
 use Rattle.protocol.specs.Judge.{lengthsTest, noLabel, wrongLength, badRows, isLabel, lengthTest, test, firstOf, judged}
@@ -76,8 +76,9 @@ module _ (ssd hdd t : List ℕ) (r : Record) where
       abbrev reopenedTo : Recovered → Result
       reopenedTo v = record { said = done; stored = Nothing; state = v .state; table = v .table; ssd = ssd; hdd = hdd }
 
-      pub taken : (v : Recovered) → pagesTest l (metasOf l ssd) ≡ true → v ≡ recover l (metasOf l ssd) → reopenedTo v ≡ reopenOf ssd hdd t r
+      pub taken : (v : Recovered) → pagesTest l (metasOf l ssd) ≡ true → v ≡ recover l (metasOf l ssd) (spentStamp l ssd)
+          → reopenedTo v ≡ reopenOf ssd hdd t r
       unfolding plan perform
       taken v q f =
-          ap reopenedTo (f ∙ ap (λ (a : Label). recover a (metasOf a ssd)) (sym label-is))
+          ap reopenedTo (f ∙ ap (λ (a : Label). recover a (metasOf a ssd) (spentStamp a ssd)) (sym label-is))
           ∙ performs reopen x recovers (none-left q) refl

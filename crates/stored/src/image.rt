@@ -17,7 +17,7 @@ ghost use lib.ListN.{length, getD};
 ghost use Rattle.pages.specs.Parts.{part, pagePart};
 ghost use Rattle.layout.specs.Places.{Limits, metaPages, metaPlace, ssdLength};
 ghost use Rattle.layout.specs.MetaPage.{stampOf, countOf, windowOf};
-ghost use Rattle.protocol.specs.Recovery.{metasOf, entryIn, eachLegal};
+ghost use Rattle.protocol.specs.Recovery.{metasOf, spentStamp, entryIn, eachLegal};
 ghost use Rattle.stored.specs.Stored.{labelIf, newestAt, newerAt, numberedOf};
 ghost use Rattle.layout.specs.Window.{windowMost, windowFrom};
 
@@ -83,6 +83,16 @@ pub fn newest(ssd: &[u8], l: Label) -> Newest
         p += 1;
     }
     n
+}
+
+// The largest stamp that a store has spent.
+pub fn spent_stamp(ssd: &[u8], l: Label) -> u32
+    requires { ⌜ length (now ssd) ≡ ssdLength l ⌝ }
+    requires { ⌜ Limits l ⌝ }
+    ensures { λ r. ⌜ r ≡ spentStamp l (now (ssd .entry)) ⌝ }
+{
+    let found = newest(ssd, l);
+    found.stamp
 }
 
 // The window of a page.

@@ -7,14 +7,15 @@ use mathlib.Core.Option.{Option, some, none}
 use Rattle.layout.specs.declared.Label.{Label}
 use Rattle.protocol.specs.Box.{Box}
 use Rattle.protocol.specs.Plan.{reopen, plan}
-use Rattle.protocol.specs.Recovery.{labelAt, metasOf, pagesTest, recoverIf, recoverFrom}
+use Rattle.protocol.specs.Recovery.{labelAt, metasOf, spentStamp, pagesTest, recoverIf, recoverFrom}
 use Rattle.protocol.specs.Perform.{perform}
 use Rattle.protocol.specs.Judge.{Reason, noLabel, wrongLength, badRows, test, firstOf, judged}
 use Rattle.protocol.specs.Calls.{decided, effectOf}
 use Rattle.protocol.specs.Beside.{recoveredTo, ReopensFrom}
 
 decided-from : (x : Box) (l : Label) (pages : List (List ℕ)) → l ≡ labelAt (x .images .ssd) → pages ≡ metasOf l (x .images .ssd) → (t : Bool)
-    → decided (elim (not t) [ true ↦ some badRows | false ↦ none ]) reopen x ≡ recoveredTo x (recoverIf t l pages)
+    → decided (elim (not t) [ true ↦ some badRows | false ↦ none ]) reopen x
+    ≡ recoveredTo x (recoverIf t l pages (spentStamp l (x .images .ssd)))
 unfolding plan perform
 decided-from x l pages e f true = rw (f, e) refl
 decided-from x l pages e f false = refl

@@ -75,6 +75,7 @@ pub record Model : Type 0 where
   pub window : List ℕ
   pub storedWindow : List ℕ
   pub newest : ℕ
+  -- the largest stamp that a store has spent, whatever page has the newest window
   pub stamp : ℕ
   pub unconfirmed : Bool
   pub recovering : Bool

@@ -18,7 +18,7 @@ use Rattle.record.specs.declared.Phase.the-variants.{Recovering, Ready}
 use Rattle.record.specs.Callers.{openBy, namedPlaces, callersTest}
 use Rattle.record.specs.Record.{recordOf, putCallers}
 use Rattle.protocol.specs.Box.{Box}
-use Rattle.protocol.specs.Recovery.{metasOf, entryIn, newestOf}
+use Rattle.protocol.specs.Recovery.{metasOf, entryIn, newestOf, spentStamp}
 use Rattle.protocol.specs.ReferenceDisk.{Disk}
 use Rattle.protocol.specs.Events.{World}
 use Rattle.laws.proofs.model.Model as model
@@ -67,7 +67,7 @@ abs l k = record {
   window = nums (k .window);
   storedWindow = nums (newestOf (metasOf l (k .ssd)) .window);
   newest = k .newest;
-  stamp = newestOf (metasOf l (k .ssd)) .stamp;
+  stamp = spentStamp l (k .ssd);
   unconfirmed = k .unconfirmed;
   recovering = k .recovering;
 }

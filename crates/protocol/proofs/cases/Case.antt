@@ -16,7 +16,7 @@ use Rattle.protocol.specs.declared.Stored.{Stored}
 use Rattle.protocol.specs.Box.{Box, Effect, Image, Store, left}
 use Rattle.protocol.specs.Condition.{wordsOf}
 use Rattle.protocol.specs.Plan.{Call, plan}
-use Rattle.protocol.specs.Recovery.{Recovered, recoverFrom}
+use Rattle.protocol.specs.Recovery.{spentIn, Recovered, recoverFrom}
 use Rattle.protocol.specs.Perform.{perform}
 use Rattle.protocol.specs.Judge.{Reason, test}
 use Rattle.protocol.specs.Calls.{effectOf}
@@ -55,7 +55,7 @@ pub data Case : Type 0 where
 abbrev pub Holds : Case → Type 0
 Holds (script p) = report (p .sizes) (p .events) (p .asked) (p .world) ≡ p .wanted
 Holds (bytes w es wanted) = length (run es w .box .images .ssd) ≡ wanted
-Holds (recovery l metas wanted) = recoverFrom l metas ≡ wanted
+Holds (recovery l metas wanted) = recoverFrom l metas (spentIn metas) ≡ wanted
 Holds (effect c x wanted) = effectOf c x ≡ wanted
 Holds (move c x wanted) = perform (plan c x) x ≡ wanted
 Holds (names c x wanted) = left (perform (plan c x) x) (x .images) .stored ≡ wanted

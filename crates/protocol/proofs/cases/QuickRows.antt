@@ -13,7 +13,7 @@ use Rattle.layout.specs.declared.Label.{Label}
 use Rattle.layout.specs.declared.Entry.{Entry}
 use Rattle.layout.specs.Places.{labelOf}
 use Rattle.layout.specs.MetaPage.{decodeEntry, entryPart, rowsFrom}
-use Rattle.protocol.specs.Recovery.{entryIn, Newest, newestOf, eachLegal, stampsDiffer, noneTwice, allOpenIn, pagesTest, recovered, Recovered, recover, recoverIf, recoverFrom}
+use Rattle.protocol.specs.Recovery.{entryIn, Newest, newestOf, spentIn, eachLegal, stampsDiffer, noneTwice, allOpenIn, pagesTest, recovered, Recovered, recover, recoverIf, recoverFrom}
 
 -- the rows of n entries from slot s on, each in its own 8 of the bytes, after a function of slot and entry
 unfoldable pub walked : (Slot → Entry → Entry) → ℕ → ℕ → List ℕ → List ℕ
@@ -102,24 +102,24 @@ quickRecover l page₀ page₁ =
     let pages = page₀ ∷ page₁ ∷ [] in
     pick (quickTest l page₀ page₁) (record {
       table = bothWalked (recovered (newestOf pages .window)) page₀ page₁;
-      state = recover l pages .state;
+      state = recover l pages (spentIn pages) .state;
     })
 
-picked : (b : Bool) (l : Label) (pages : List (List ℕ)) → recoverIf b l pages ≡ pick b (recover l pages)
-picked true l pages = refl
-picked false l pages = refl
+picked : (b : Bool) (l : Label) (pages : List (List ℕ)) (spent : ℕ) → recoverIf b l pages spent ≡ pick b (recover l pages spent)
+picked true l pages spent = refl
+picked false l pages spent = refl
 
 pub quick-recover : (blocks : ℕ) (page₀ page₁ : List ℕ)
-    → recoverFrom (labelOf 241 blocks) (page₀ ∷ page₁ ∷ []) ≡ quickRecover (labelOf 241 blocks) page₀ page₁
+    → recoverFrom (labelOf 241 blocks) (page₀ ∷ page₁ ∷ []) (spentIn (page₀ ∷ page₁ ∷ [])) ≡ quickRecover (labelOf 241 blocks) page₀ page₁
 unfolding recoverFrom pagesTest recover quickTest quickRecover
 quick-recover blocks page₀ page₁ =
     let l : Label = labelOf 241 blocks in
     let pages : List (List ℕ) = page₀ ∷ page₁ ∷ [] in
     let n : Newest = newestOf pages in
-    picked (pagesTest l pages) l pages
+    picked (pagesTest l pages) l pages (spentIn pages)
     ∙ ap (λ (rows : List ℕ).
-    pick (eachLegal l 0 pages && (stampsDiffer pages && (noneTwice rows && allOpenIn pages (n .window)))) (recover l pages))
+    pick (eachLegal l 0 pages && (stampsDiffer pages && (noneTwice rows && allOpenIn pages (n .window)))) (recover l pages (spentIn pages)))
     (both-rows (λ s e. e) page₀ page₁)
     ∙ ap (λ (rows : List ℕ).
-    pick (quickTest l page₀ page₁) (record { table = rows; state = recover l pages .state }))
+    pick (quickTest l page₀ page₁) (record { table = rows; state = recover l pages (spentIn pages) .state }))
     (both-rows (recovered (n .window)) page₀ page₁)

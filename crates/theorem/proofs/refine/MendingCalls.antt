@@ -13,7 +13,7 @@ use Rattle.layout.specs.declared.Label.{Label}
 use Rattle.layout.specs.Places.{metaPages, tableLength, metaOf}
 use Rattle.layout.specs.PageRule.{listed}
 use Rattle.protocol.specs.Box.{Box, left, boxAfter}
-use Rattle.protocol.specs.Recovery.{metasOf, newestOf, offPage}
+use Rattle.protocol.specs.Recovery.{spentStamp, offPage}
 use Rattle.protocol.specs.Plan.{step, reopen, Move, mends, recovers, lowestFrom, lowestPage, plan}
 use Rattle.protocol.specs.Perform.{confirmed, perform}
 use Rattle.protocol.specs.Judge.{Reason, isEmpty, isReady}
@@ -152,7 +152,7 @@ module _ (l : Label) (k : Core) (S : Shape l k) (p : Plain) (M : Mending (abs l 
   on-page : lowestPage (k .window) < metaPages l
   on-page = rw (← pend .onto) (meta-of-low l (pend .slot) slot-low)
 
-  newest-is : newestOf (metasOf l (k .ssd)) .stamp ≡ k .newest
+  newest-is : spentStamp l (k .ssd) ≡ k .newest
   newest-is = unfold abs in M .stamps
 
   pub mended-here : Mending (mended (lowestPage (k .window)) (abs l k)) p

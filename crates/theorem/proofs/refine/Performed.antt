@@ -24,7 +24,7 @@ use Rattle.record.specs.Callers.{callerArray}
 use Rattle.record.specs.Record.{windowIn, callersIn, recordOf, putCallers, largestStamp}
 use Rattle.record.specs.Window.{without, beside}
 use Rattle.protocol.specs.Box.{Box, left, boxAfter}
-use Rattle.protocol.specs.Recovery.{metasOf, Newest, newestOf, phaseOf, offPage}
+use Rattle.protocol.specs.Recovery.{metasOf, Newest, newestOf, spentStamp, phaseOf, offPage}
 use Rattle.protocol.specs.Plan.{Move, uses, usesAll, announces, lands, copies, confirms, mends}
 use Rattle.protocol.specs.Perform.{confirmed, landedFlags, landedState, usedAll, perform}
 use Rattle.protocol.specs.Judge.{isEmpty}
@@ -113,7 +113,7 @@ module _
     (l : Label)
     (k : Core)
     (S : Shape l k)
-    (stamps : newestOf (metasOf l (k .ssd)) .stamp ≡ k .newest)
+    (stamps : spentStamp l (k .ssd) ≡ k .newest)
     (left-over : k .newest < largestStamp)
     (v : List ℕ)
     (size : length v ≡ tableLength l)

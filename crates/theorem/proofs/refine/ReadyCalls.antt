@@ -18,7 +18,7 @@ use Rattle.layout.specs.Places.{metaPages}
 use Rattle.protocol.specs.Reply.{Reply, refused}
 use Rattle.protocol.specs.Rows.{rowFlags, valid, dirty, writing}
 use Rattle.protocol.specs.Box.{Effect, left, boxAfter}
-use Rattle.protocol.specs.Recovery.{metasOf, newestOf}
+use Rattle.protocol.specs.Recovery.{spentStamp}
 use Rattle.protocol.specs.Plan.{Call, Move, stay, uses, usesAll, announces, lands, copies, confirms}
 use Rattle.protocol.specs.Kinds.{Aim, aService, kind}
 use Rattle.protocol.specs.Perform.{confirmed, usedAll, perform}
@@ -72,7 +72,7 @@ worldOf l k d = record { box = boxOfCore l k; disk = d }
 
 -- what a ready box says
 module _ (l : Label) (k : Core) (S : Shape l k) (p : Plain) (R : model.Ready (abs l k) p) where
-  newest-is : newestOf (metasOf l (k .ssd)) .stamp ≡ k .newest
+  newest-is : spentStamp l (k .ssd) ≡ k .newest
   newest-is = unfold abs in R .stamps
 
 module _ (l : Label) (k : Core) (S : Shape l k) (d : Disk) (p : Plain) (A : Agrees l d p) (R : model.Ready (abs l k) p) where

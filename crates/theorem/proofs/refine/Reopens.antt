@@ -24,7 +24,7 @@ use Rattle.record.specs.declared.Phase.{Phase}
 use Rattle.protocol.specs.Rows.{valid, dirty, writing}
 use Rattle.record.specs.Record.{recordOf}
 use Rattle.protocol.specs.Box.{Images, Box, left, boxAfter}
-use Rattle.protocol.specs.Recovery.{labelRead, labelAt, metasOf, entryIn, newestOf, storedRows, pagesTest, recovered, recover}
+use Rattle.protocol.specs.Recovery.{labelRead, labelAt, metasOf, entryIn, newestOf, spentStamp, storedRows, pagesTest, recovered, recover}
 use Rattle.protocol.specs.Plan.{reopen, recovers}
 use Rattle.protocol.specs.Perform.{perform}
 use Rattle.protocol.specs.Judge.{labelTest, lengthsTest, lengthTest, test, judged, isEmpty}
@@ -55,7 +55,7 @@ reopenedCore l k =
       hdd = k .hdd;
       table = rowsFrom (l .slots) (λ s. recovered (n .window) (record { 0 = s }) (entryIn (metasOf l (k .ssd)) (record { 0 = s })));
       hand = record { 0 = 0 };
-      newest = n .stamp;
+      newest = spentStamp l (k .ssd);
       recovering = not (isEmpty (n .window));
       unconfirmed = false;
       window = n .window;
@@ -203,13 +203,14 @@ module _ (l : Label) (k : Core) (p : Plain) (K : ImagesKept l (k .ssd) (k .hdd))
       ∙ ap (λ (q : Phase). phased q) (phase-empty (newestOf (metasOf l (k .ssd)) .window))
     where
       made : Images → Label → Box
-      made im a = record { images = im; table = recover a (metasOf a (im .ssd)) .table; state = recover a (metasOf a (im .ssd)) .state }
+      made im a = let r = recover a (metasOf a (im .ssd)) (spentStamp a (im .ssd)) in
+          record { images = im; table = r .table; state = r .state }
 
       phased : Phase → Box
       phased q = record {
         images = record { ssd = k .ssd; hdd = k .hdd };
         table = reopenedCore l k .table;
-        state = recordOf l (record { 0 = 0 }) (newestOf (metasOf l (k .ssd)) .stamp) q false (newestOf (metasOf l (k .ssd)) .window);
+        state = recordOf l (record { 0 = 0 }) (spentStamp l (k .ssd)) q false (newestOf (metasOf l (k .ssd)) .window);
       }
 
   recover-entry : ℕ → Entry

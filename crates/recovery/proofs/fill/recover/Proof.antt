@@ -33,6 +33,9 @@ free-rows-requires c κs =
     let z = pending-bounded (s .args .l) _ _ (c .before .pending .ensures) w in
     (ap length (c .before .before .before .before .before .fill .ensures) ∙ length-rows _ _, (z .0, z .1))
 
+spent-stamp-requires : tie.Need-spent-stamp-requires
+spent-stamp-requires c κs = search needs
+
 phase-of-requires : tie.Need-phase-of-requires
 phase-of-requires c κs = search needs
 
@@ -44,7 +47,8 @@ same-length c = search needs
 
 returns : tie.Need-returns
 returns c =
-    let f = c .before .before .before .before in
+    let t = c .before .before in
+    let f = t .before .before .before in
     let d = f .before .before in
     let n = d .before .newest in
     let s = d .before .before .before .before .before .before .before .before in
@@ -52,10 +56,11 @@ returns c =
     let k = passed (s .args .l) pages (s .pre .1 .1 .1) in
     let g = found pages (n .result) (n .ensures) in
     let w = newest-bounded (s .args .l) pages _ (k .legal) (g .on-page) in
-    recovered-is (s .args .l) pages (newestAt pages (n .result .at)) (n .result .stamp) (d .pending .result) _ _ _
-    (g .newest-is) (g .stamp-is) (d .pending .ensures) (w .ranged) (rw (g .newest-is) (k .opened))
+    rw (← t .spent-stamp .ensures)
+    (recovered-is (s .args .l) pages (newestAt pages (n .result .at)) (t .spent-stamp .result) (d .pending .result) _ _ _
+    (g .newest-is) (d .pending .ensures) (w .ranged) (rw (g .newest-is) (k .opened))
     (f .free-rows .ensures ∙ ap (freed _) (d .before .before .before .before .fill .ensures)) (c .before .phase-of .ensures)
-    (c .fresh .ensures)
+    (c .fresh .ensures))
 
 pub recover-spec : {M : Type 1} → statement M
 recover-spec =
@@ -65,6 +70,7 @@ recover-spec =
     newest-requires
     pending-requires
     free-rows-requires
+    spent-stamp-requires
     phase-of-requires
     fresh-requires
     same-length
