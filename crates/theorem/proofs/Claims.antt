@@ -1,4 +1,4 @@
--- What holds of every reachable world: reads, look-ups, flushes, reopenings and mending.
+-- What holds of every reachable world: reads, look-ups, flushes and mending; and of every held one: its reopening.
 use Prim.Native.Nat.{ℕ, zero, suc, _≤_, _<_}
 use mathlib.Core.Path.{_≡_, refl, sym, ap, subst, _∙_}
 use mathlib.Core.Bool.{Bool, true, false, not, _&&_}
@@ -20,7 +20,7 @@ use Rattle.protocol.specs.Perform.{confirmed, perform}
 use Rattle.protocol.specs.Judge.{Reason, wrongPhase, isReady, judged, test}
 use Rattle.protocol.specs.Calls.{decided, effectOf, resultOf, viewOf}
 use Rattle.protocol.specs.ReferenceDisk.{MayBe}
-use Rattle.protocol.specs.Events.{World, Memory, Event, call, reopens, cut, called, lent, readOf, mayFinish, finished, withMemory, takenIf, reopened, crashed, steps, apply, Fits}
+use Rattle.protocol.specs.Events.{World, Memory, Event, call, reopens, cut, called, lent, readOf, mayFinish, finished, withMemory, reopened, crashed, steps, apply, Fits}
 use Rattle.protocol.specs.Demand3.{Reopening, own, whole, broken, slotSaid, before, reopenedBox, finishes, Mends}
 use Rattle.layout.proofs.Booleans.{clash, and-parts}
 use Rattle.laws.proofs.model.Model as model
@@ -31,11 +31,11 @@ use Rattle.laws.proofs.Judged.{passed}
 use Rattle.laws.proofs.Sorted.{Sorted, is-format, is-reopen, is-step, is-service, sorted}
 use Rattle.theorem.proofs.refine.ReadyCalls.{worldOf}
 use Rattle.theorem.proofs.refine.Passes.{flush-judged, step-judged, some-pending, pending-rule}
-use Rattle.theorem.proofs.refine.Views.{view-number, read-view, look-page}
+use Rattle.theorem.proofs.refine.Views.{ready-legible, view-number, read-view, look-page}
 use Rattle.theorem.proofs.refine.Reopens.{reopenedCore, reopen-shape}
 use Rattle.theorem.proofs.refine.MendingCalls.{finishedWorld, finish-allowed, fewer, mendedCore, mended-here, mended-core-shape, mended-core-abs, step-plan, step-world, reopened-here, reopen-world}
-use Rattle.theorem.proofs.Reachable.{at-core, inv-stored, reopen-taken, crashed-inv, table-right}
-use Rattle.laws.proofs.refine.Abstract.{Core, phaseFor, boxOfCore, abs, Shape, Phased, is-ready, is-mending, Inv}
+use Rattle.theorem.proofs.Reachable.{at-core, inv-held, held-images, held-right, held-taken, reopened-taken, crashed-held}
+use Rattle.laws.proofs.refine.Abstract.{Core, phaseFor, boxOfCore, abs, Shape, Phased, is-ready, is-mending, Held, Inv}
 
 pub ready-off : (r : Bool) → isReady (phaseFor r) ≡ true → r ≡ false
 ready-off true e = sym e
@@ -63,13 +63,15 @@ module _ (l : Label) (w : World) (I : Inv l w) where
   views-of r b h =
       at-core (λ v. isReady (v .box .state .phase) ≡ true
       → viewOf (lent (v .box .images .ssd)) (lent (v .box .images .hdd)) (v .box .table) (v .box .state) b .number ≡ 0) I
-      (λ q. view-number l (I .core) (I .shape) (I .plain) (ready-of l (I .core) (I .plain) (I .phased) q) (b .0) h) r
+      (λ q. let R = ready-of l (I .core) (I .plain) (I .phased) q in
+      view-number l (I .core) (I .shape) (ready-legible l (I .core) (I .shape) (I .plain) R) (b .0) h) r
 
   pub reads-of : isReady (w .box .state .phase) ≡ true → (b : Block) → b .0 < l .blocks → readOf (w .box) b ≡ w .disk .page b
   reads-of r b h =
       at-core (λ v. isReady (v .box .state .phase) ≡ true → readOf (v .box) b ≡ w .disk .page b) I
       (λ q. let R = ready-of l (I .core) (I .plain) (I .phased) q in
-      read-view l (I .core) (I .shape) (I .plain) R (b .0) h ∙ seen.view-page (abs l (I .core)) (I .plain) R (b .0)
+      read-view l (I .core) (I .shape) (ready-legible l (I .core) (I .shape) (I .plain) R) (b .0) h
+      ∙ seen.view-page (abs l (I .core)) (I .plain) R (b .0)
       ∙ sym (I .agrees .page (b .0) h)) r
 
   pub looks-of : isReady (w .box .state .phase) ≡ true → (b : Block) → b .0 < l .blocks → (s : Slot)
@@ -78,7 +80,8 @@ module _ (l : Label) (w : World) (I : Inv l w) where
       at-core (λ v. isReady (v .box .state .phase) ≡ true → slotSaid (resultOf (lookUp b) (v .box) .said) ≡ some s
       → pageAt (v .box .images .ssd) (dataPlace l s) ≡ w .disk .page b) I
       (λ q e. let R = ready-of l (I .core) (I .plain) (I .phased) q in
-      sym (look-page l (I .core) (I .shape) (I .plain) R (b .0) h s e) ∙ seen.view-page (abs l (I .core)) (I .plain) R (b .0)
+      sym (look-page l (I .core) (I .shape) (ready-legible l (I .core) (I .shape) (I .plain) R) (b .0) h s e)
+      ∙ seen.view-page (abs l (I .core)) (I .plain) R (b .0)
       ∙ sym (I .agrees .page (b .0) h)) r
 
   -- flushes
@@ -164,55 +167,46 @@ mends-of l w I r = at-core (λ v. isReady (v .box .state .phase) ≡ false → M
         record { number = E .number; most = E .most; none-refused = E .none-refused; ends = E .ends }
 
 -- no reopening is refused
-unfoldable pub before-inv : (l : Label) (e : Event) (w : World) → Fits l e w → Inv l w → Inv l (before e w)
-before-inv l (call c) w f I = I
-before-inv l (reopens j) w f I = I
-before-inv l (cut c a j) w f I = crashed-inv l c a w (f .0) I
-
-pub memory-taken : (l : Label) (w : World) (I : Inv l w) (x : Box) → x .images ≡ w .box .images → length (x .table) ≡ tableLength l
-    → refused (resultOf reopen x .said) ≡ false
-memory-taken l w I x im h = reopen-taken l (I .core) (I .plain) (I .shape .images) (inv-stored I) x
-    (im ∙ ap (λ (y : Box). y .images) (I .is-core)) h
+unfoldable pub before-held : (l : Label) (e : Event) (w : World) → Fits l e w → Inv l w → Held l (before e w)
+before-held l (call c) w f I = inv-held I
+before-held l (reopens j) w f I = inv-held I
+before-held l (cut c a j) w f I = crashed-held l c a w (f .0) I
 
 pub own-size : (l : Label) (w : World) (I : Inv l w) → length (w .box .table) ≡ tableLength l
 own-size l w I = ap (λ (x : Box). length (x .table)) (I .is-core) ∙ I .shape .table-size
 
 pub taken-of : (l : Label) (w : World) → Inv l w → (e : Event) → Fits l e w → Reopening l e
     → refused (resultOf reopen (reopenedBox e w) .said) ≡ false
-taken-of l w I e f own = memory-taken l w I (w .box) refl (own-size l w I)
-taken-of l w I e f (whole j h) = memory-taken l w I (withMemory j (w .box)) refl h
-taken-of l w I e f (broken c a j h) = memory-taken l (crashed c a w) (crashed-inv l c a w (f .0) I) (withMemory j (crashed c a w .box)) refl h
+taken-of l w I e f own = held-taken l w (inv-held I) (w .box) refl (own-size l w I)
+taken-of l w I e f (whole j h) = held-taken l w (inv-held I) (withMemory j (w .box)) refl h
+taken-of l w I e f (broken c a j h) = held-taken l (crashed c a w) (crashed-held l c a w (f .0) I) (withMemory j (crashed c a w .box)) refl h
 
 -- a finished reopening: each block reads as one of its contents
 called-box : (c : Call) (w : World) → called c w .box ≡ boxAfter (resultOf c (w .box))
 unfolding called
 called-box c w = refl
 
-module _ (l : Label) (v : World) (I : Inv l v) (x : Box) (im : x .images ≡ v .box .images) where
-  images-are : x .images ≡ record { ssd = I .core .ssd; hdd = I .core .hdd }
-  images-are = im ∙ ap (λ (y : Box). y .images) (I .is-core)
-
+module _ (l : Label) (v : World) (H : Held l v) (x : Box) (im : x .images ≡ v .box .images) where
   after-reopen : length (x .table) ≡ tableLength l
-      → called reopen (record { box = x; disk = v .disk }) ≡ finishedWorld (boxOfCore l (reopenedCore l (I .core))) (v .disk)
-  after-reopen h = reopen-world l (I .core) (I .plain) (I .shape .images) (inv-stored I) x images-are h (v .disk)
+      → called reopen (record { box = x; disk = v .disk }) ≡ finishedWorld (boxOfCore l (reopenedCore l (H .core))) (v .disk)
+  after-reopen h = reopen-world l (H .core) (H .plain) (H .shape .images) (H .stored) x (held-images l v H x im) h (v .disk)
 
   pub reopen-allowed : finished reopen (resultOf reopen x) ≡ true → (b : Block) → b .0 < l .blocks
       → MayBe (v .disk) b (readOf (called reopen (record { box = x; disk = v .disk }) .box) b)
   reopen-allowed f b h =
       let r = refused (resultOf reopen x .said) in
       let q = isReady (resultOf reopen x .state .phase) in
-      let size = table-right l (I .core) (I .plain) (I .shape .images) (inv-stored I) x images-are
-      (not-true r (and-parts (not r) (true && q) f .0)) in
+      let size = held-right l v H x im (not-true r (and-parts (not r) (true && q) f .0)) in
       let e = after-reopen size in
-      let ph : q ≡ isReady (phaseFor (reopenedCore l (I .core) .recovering)) =
+      let ph : q ≡ isReady (phaseFor (reopenedCore l (H .core) .recovering)) =
       ap (λ (y : Box). isReady (y .state .phase)) (sym (called-box reopen (record { box = x; disk = v .disk })))
       ∙ ap (λ (z : World). isReady (z .box .state .phase)) e in
-      let done : reopenedCore l (I .core) .recovering ≡ false =
-      ready-off (reopenedCore l (I .core) .recovering) (sym ph ∙ and-parts (not r) (true && q) f .1) in
+      let done : reopenedCore l (H .core) .recovering ≡ false =
+      ready-off (reopenedCore l (H .core) .recovering) (sym ph ∙ and-parts (not r) (true && q) f .1) in
       rw e
-      (finish-allowed l (reopenedCore l (I .core)) (reopen-shape l (I .core) (I .plain) (I .shape .images) (inv-stored I)) (I .plain)
-      (v .disk) (I .agrees)
-      (reopened-here l (I .core) (I .plain) (I .shape .images) (inv-stored I) x images-are size) done (b .0) h)
+      (finish-allowed l (reopenedCore l (H .core)) (reopen-shape l (H .core) (H .plain) (H .shape .images) (H .stored)) (H .plain)
+      (v .disk) (H .agrees)
+      (reopened-here l (H .core) (H .plain) (H .shape .images) (H .stored) x (held-images l v H x im) size) done (b .0) h)
 
 -- a ready box makes no step
 wrong : (l : Label) (k : Core) → judged step (boxOfCore l k) ≡ none → not (not (isReady (phaseFor (k .recovering)))) ≡ false
@@ -261,18 +255,12 @@ step-allowed l w I f b h = at-core (λ v. finished step (resultOf step (v .box))
             (I .agrees)
             (rw (mended-core-abs l (I .core) (I .shape) (I .plain) M r) (mended-here l (I .core) (I .shape) (I .plain) M r)) done (b .0) h)
 
--- a reopening that is not refused
-pub reopened-taken : (j : Memory) (w : World) → refused (resultOf reopen (withMemory j (w .box)) .said) ≡ false
-    → reopened j w ≡ called reopen (record { box = withMemory j (w .box); disk = w .disk })
-unfolding reopened
-reopened-taken j w e = ap (λ (r : Bool). takenIf r w (called reopen (record { box = withMemory j (w .box); disk = w .disk }))) e
-
-memory-allowed : (l : Label) (j : Memory) (v : World) → Inv l v → finished reopen (resultOf reopen (withMemory j (v .box))) ≡ true → (b : Block)
+memory-allowed : (l : Label) (j : Memory) (v : World) → Held l v → finished reopen (resultOf reopen (withMemory j (v .box))) ≡ true → (b : Block)
     → b .0 < l .blocks → MayBe (v .disk) b (readOf (reopened j v .box) b)
-memory-allowed l j v I f b h =
+memory-allowed l j v H f b h =
     let r = refused (resultOf reopen (withMemory j (v .box)) .said) in
     let q = isReady (resultOf reopen (withMemory j (v .box)) .state .phase) in
-    rw (reopened-taken j v (not-true r (and-parts (not r) (true && q) f .0))) (reopen-allowed l v I (withMemory j (v .box)) refl f b h)
+    rw (reopened-taken j v (not-true r (and-parts (not r) (true && q) f .0))) (reopen-allowed l v H (withMemory j (v .box)) refl f b h)
 
 -- a call that is neither a step nor a reopening finishes none
 no-finish : {A : Type 0} (c : Call) (w : World) → mayFinish (kind c) ≡ false → finished c (resultOf c (w .box)) ≡ true → A
@@ -285,11 +273,11 @@ call-allowed : (l : Label) (w : World) → Inv l w → {c : Call} → Sorted c �
     → b .0 < l .blocks → MayBe (w .disk) b (readOf (called c w .box) b)
 call-allowed l w I (is-format slots blocks) g b h = no-finish (format slots blocks) w refl g
 call-allowed l w I is-step g b h = step-allowed l w I g b h
-call-allowed l w I is-reopen g b h = reopen-allowed l w I (w .box) refl g b h
+call-allowed l w I is-reopen g b h = reopen-allowed l w (inv-held I) (w .box) refl g b h
 call-allowed l w I (is-service {c} q _) g b h = no-finish c w (ap mayFinish q) g
 
 pub allowed-of : (l : Label) (w : World) → Inv l w → (e : Event) → Fits l e w → finishes e w ≡ true → (b : Block) → b .0 < l .blocks
     → MayBe (before e w .disk) b (readOf (apply e w .box) b)
 allowed-of l w I (call c) f g b h = call-allowed l w I (sorted c) g b h
-allowed-of l w I (reopens j) f g b h = memory-allowed l j w I g b h
-allowed-of l w I (cut c a j) f g b h = memory-allowed l j (crashed c a w) (crashed-inv l c a w (f .0) I) g b h
+allowed-of l w I (reopens j) f g b h = memory-allowed l j w (inv-held I) g b h
+allowed-of l w I (cut c a j) f g b h = memory-allowed l j (crashed c a w) (crashed-held l c a w (f .0) I) g b h

@@ -24,7 +24,7 @@ use Rattle.protocol.specs.Demand3.{Outside, Place, place, Reopening, own, whole
 use Rattle.layout.proofs.Booleans.{Told, told, told-true, told-false, clash}
 use Rattle.laws.proofs.model.Base.{has}
 use Rattle.laws.proofs.model.Model as model
-use Rattle.laws.proofs.model.Model.{Plain, Stored, Mending, dirtyRow, openRow, blockOf, shut, revived}
+use Rattle.laws.proofs.model.Model.{Plain, Stored, Revived, Mending, dirtyRow, openRow, blockOf, shut, revived}
 use Rattle.laws.proofs.model.Model as model
 use Rattle.laws.proofs.model.Rows.{shut-dirty}
 use Rattle.theorem.proofs.model.View as seen
@@ -38,10 +38,10 @@ use Rattle.theorem.proofs.refine.ReadyCalls.{refused-same, worldOf}
 use Rattle.theorem.proofs.refine.Reopens.{reopenedCore, reopen-shape, reopen-abs, dirty-entry}
 use Rattle.theorem.proofs.refine.Views.{asSlot}
 use Rattle.theorem.proofs.refine.MendingCalls.{mendedCore, mended-here, mended-core-shape, mended-core-abs, step-world, reopened-here, reopen-world}
-use Rattle.theorem.proofs.Reachable.{Mendable, steps, reopens-it, mendable, inv-stored, crashed-or, crashed-inv, table-right}
-use Rattle.theorem.proofs.Claims.{unready-on, reopened-taken, before-inv, memory-taken, own-size}
+use Rattle.theorem.proofs.Reachable.{Mendable, steps, reopens-it, mendable, inv-held, held-images, held-taken, reopened-taken, crashed-or, crashed-held, table-right, reopen-taken}
+use Rattle.theorem.proofs.Claims.{unready-on, before-held, own-size}
 use Rattle.theorem.proofs.PlaceOf.{modelPlace, model-outside, place-model}
-use Rattle.laws.proofs.refine.Abstract.{Core, boxOfCore, entryRow, abs, Shape, Phased, is-ready, is-mending, Inv}
+use Rattle.laws.proofs.refine.Abstract.{Core, boxOfCore, entryRow, abs, Shape, Phased, is-ready, is-mending, Tied, by-ready, by-mending, phased-tied, Held, Inv}
 
 -- a world since a reopening began: mending, or finished
 pub record Under (l : Label) (w : World) : Type 0 where
@@ -59,11 +59,14 @@ under-phased {l} U = go (U .core .recovering) refl
     go true e = (U .plain, is-mending (unfold abs in e) (U .mending))
     go false e = (fixed (abs l (U .core)), is-ready (over-ready (abs l (U .core)) (U .plain) (U .mending) (unfold abs in e)))
 
+pub under-tied : {l : Label} {w : World} (U : Under l w) → Tied (abs l (U .core))
+under-tied {l} U = let q = under-phased U in phased-tied (abs l (U .core)) (q .0) (q .1)
+
 pub under-place : {l : Label} {w : World} (U : Under l w) (b : ℕ) → b < l .blocks
     → place l (w .box) (record { 0 = b }) ≡ modelPlace l (U .core) b
 under-place {l} U b h =
-    let q = under-phased U in
-    ap (λ (x : Box). place l x (record { 0 = b })) (U .is-core) ∙ place-model l (U .core) (U .shape) (q .0) b h (q .1)
+    ap (λ (x : Box). place l x (record { 0 = b })) (U .is-core)
+    ∙ place-model l (U .core) (U .shape) (U .plain) (U .mending .images) b h (under-tied U)
 
 -- the same slot and page in the model are the same place
 same-place : (l : Label) (j k : Core) (b : ℕ) → Alike (abs l j) (abs l k) b → modelPlace l j b ≡ modelPlace l k b
@@ -128,8 +131,8 @@ record Goes (l : Label) (k : Core) (b : ℕ) (v : World) : Type 0 where
 goes-to : {l : Label} {k : Core} {b : ℕ} {v u : World} → v ≡ u → Goes l k b v → Goes l k b u
 goes-to {l} {k} {b} e G = subst (λ (z : World). Goes l k b z) e G
 
-goes-on : {l : Label} {k : Core} {b : ℕ} {v u : World} (G : Goes l k b v) → Goes l (G .under .core) b u → Goes l k b u
-goes-on G H = record { under = H .under; like = (H .like .0 ∙ G .like .0, H .like .1 ∙ G .like .1) }
+goes-on : {l : Label} {j k : Core} {b : ℕ} {u : World} → Alike (abs l j) (abs l k) b → Goes l j b u → Goes l k b u
+goes-on A H = record { under = H .under; like = (H .like .0 ∙ A .0, H .like .1 ∙ A .1) }
 
 goes-same : {l : Label} {w : World} (U : Under l w) (b : ℕ) → Goes l (U .core) b w
 goes-same U b = record { under = U; like = (refl, refl) }
@@ -181,7 +184,38 @@ core-call l k S p M on d b c f none e = go (mendable l k d on c f e)
   where
     go : {c : Call} → Mendable c → Goes l k b (called c (worldOf l k d))
     go steps = goes-step l k S p M on d b
-    go reopens-it = goes-reopen l k S p (M .images) b (again (abs l k) p M b) (boxOfCore l k) refl (S .table-size) d
+    go reopens-it = goes-reopen l k S p (M .images) b (again (abs l k) (M .rows) b) (boxOfCore l k) refl (S .table-size) d
+
+-- what a cut leaves of a world under a reopening, in which a block is where the core k has it: its rows are what the reopening made of
+-- the entries, and that is all that another reopening asks for
+record Down (l : Label) (k : Core) (b : ℕ) (w : World) : Type 0 where
+  core : Core
+  is-core : w .box ≡ boxOfCore l core
+  shape : Shape l core
+  plain : Plain
+  stored : Stored (abs l core) plain
+  rows : Revived (abs l core)
+  like : Alike (abs l core) (abs l k) b
+
+goes-down : {l : Label} {k : Core} {b : ℕ} {w : World} → Goes l k b w → Down l k b w
+goes-down G = record {
+  core = G .under .core;
+  is-core = G .under .is-core;
+  shape = G .under .shape;
+  plain = G .under .plain;
+  stored = G .under .mending .images;
+  rows = G .under .mending .rows;
+  like = G .like;
+}
+
+down-reopened : (l : Label) (k : Core) (b : ℕ) (w : World) → Down l k b w → (j : Memory) → length (j .table) ≡ tableLength l
+    → Goes l k b (reopened j w)
+down-reopened l k b w D j h =
+    let x = withMemory j (w .box) in
+    let im : x .images ≡ record { ssd = D .core .ssd; hdd = D .core .hdd } = ap (λ (y : Box). y .images) (D .is-core) in
+    goes-to (sym (reopened-taken j w (reopen-taken l (D .core) (D .plain) (D .shape .images) (D .stored) x im h)))
+    (goes-on (D .like)
+    (goes-reopen l (D .core) (D .shape) (D .plain) (D .stored) b (again (abs l (D .core)) (D .rows) b) x im h (w .disk)))
 
 -- the events of a world under a reopening that is not finished
 module _ (l : Label) (w : World) (U : Under l w) (b : ℕ) where
@@ -193,12 +227,12 @@ module _ (l : Label) (w : World) (U : Under l w) (b : ℕ) where
       (core-call l (U .core) (U .shape) (U .plain) (U .mending) (unready-on (U .core .recovering) q) (w .disk) b c g
       (judged c (boxOfCore l (U .core))) refl)
 
-  goes-crashed : isReady (w .box .state .phase) ≡ false → (c : Call) (a : Arrival) → CallFits c w → Goes l (U .core) b (crashed c a w)
+  goes-crashed : isReady (w .box .state .phase) ≡ false → (c : Call) (a : Arrival) → CallFits c w → Down l (U .core) b (crashed c a w)
   goes-crashed r c a f = go (crashed-or c a w)
     where
-      go : (crashed c a w ≡ called c w) ⊎ (crashed c a w ≡ w) → Goes l (U .core) b (crashed c a w)
-      go (inl e) = goes-to (sym e) (goes-call r c f)
-      go (inr e) = goes-to (sym e) (goes-same U b)
+      go : (crashed c a w ≡ called c w) ⊎ (crashed c a w ≡ w) → Down l (U .core) b (crashed c a w)
+      go (inl e) = goes-down (goes-to (sym e) (goes-call r c f))
+      go (inr e) = goes-down (goes-to (sym e) (goes-same U b))
 
   images-are : (j : Memory) → withMemory j (w .box) .images ≡ record { ssd = U .core .ssd; hdd = U .core .hdd }
   images-are j = ap (λ (x : Box). x .images) (U .is-core)
@@ -211,7 +245,7 @@ module _ (l : Label) (w : World) (U : Under l w) (b : ℕ) where
           → Goes l (U .core) b (takenIf r w (called reopen (record { box = withMemory j (w .box); disk = w .disk })))
       go true e = goes-same U b
       go false e =
-          goes-reopen l (U .core) (U .shape) (U .plain) (U .mending .images) b (again (abs l (U .core)) (U .plain) (U .mending) b)
+          goes-reopen l (U .core) (U .shape) (U .plain) (U .mending .images) b (again (abs l (U .core)) (U .mending .rows) b)
           (withMemory j (w .box)) (images-are j)
           (table-right l (U .core) (U .plain) (U .shape .images) (U .mending .images) (withMemory j (w .box)) (images-are j) e) (w .disk)
 
@@ -219,13 +253,13 @@ goes-event : (l : Label) (w : World) (U : Under l w) (b : ℕ) → isReady (w .b
     → Goes l (U .core) b (apply e w)
 goes-event l w U b r (call c) f = goes-call l w U b r c f
 goes-event l w U b r (reopens j) f = goes-memory l w U b j
-goes-event l w U b r (cut c a j) f = let G = goes-crashed l w U b r c a (f .0) in goes-on G (goes-memory l (crashed c a w) (G .under) b j)
+goes-event l w U b r (cut c a j) f = down-reopened l (U .core) b (crashed c a w) (goes-crashed l w U b r c a (f .0)) j (f .1)
 
 goes-run : (l : Label) (es : List Event) (w : World) (U : Under l w) (b : ℕ) → AllFit l es w → NotYet es w → Goes l (U .core) b (run es w)
 unfolding run
 goes-run l [] w U b f n = goes-same U b
 goes-run l (e ∷ es) w U b f n = let G = goes-event l w U b (n .0) e (f .0) in
-    goes-on G (goes-run l es (apply e w) (G .under) b (f .1) (n .1))
+    goes-on (G .like) (goes-run l es (apply e w) (G .under) b (f .1) (n .1))
 
 -- the row is back in every such world
 under-back : (l : Label) (w : World) (U : Under l w) (b s : ℕ) → places.slotOf (abs l (U .core)) b ≡ some s
@@ -242,35 +276,34 @@ all-back l (g ∷ es) w U b s e f n =
     ((λ _. under-back l (apply g w) (G .under) b s q), all-back l es (apply g w) (G .under) b s q (f .1) (n .1))
 
 -- the first reopening, of a block outside the newest stored window
-module _ (l : Label) (v : World) (I : Inv l v) (b : ℕ) (out : Outside l (v .box .images) (record { 0 = b })) where
-  out-core : Outside l (record { ssd = I .core .ssd; hdd = I .core .hdd }) (record { 0 = b })
-  out-core = subst (λ (x : Box). Outside l (x .images) (record { 0 = b })) (I .is-core) out
+module _ (l : Label) (v : World) (H : Held l v) (b : ℕ) (out : Outside l (v .box .images) (record { 0 = b })) where
+  out-core : Outside l (record { ssd = H .core .ssd; hdd = H .core .hdd }) (record { 0 = b })
+  out-core = subst (λ (x : Box). Outside l (x .images) (record { 0 = b })) (H .is-core) out
 
-  first-like : Alike (model.reopened (abs l (I .core))) (abs l (I .core)) b
-  first-like = go (I .phased)
+  first-like : Alike (model.reopened (abs l (H .core))) (abs l (H .core)) b
+  first-like = go (H .tied)
     where
-      go : Phased (abs l (I .core)) (I .plain) → Alike (model.reopened (abs l (I .core))) (abs l (I .core)) b
-      go (is-ready R) = first (abs l (I .core)) (I .plain) R b (model-outside l (I .core) (I .shape) (I .plain) (inv-stored I) b out-core)
-      go (is-mending on M) = again (abs l (I .core)) (I .plain) M b
+      go : Tied (abs l (H .core)) → Alike (model.reopened (abs l (H .core))) (abs l (H .core)) b
+      go (by-ready on W L) = first (abs l (H .core)) L b (model-outside l (H .core) (H .shape) (H .plain) (H .stored) b out-core)
+      go (by-mending on rows) = again (abs l (H .core)) rows b
 
   first-goes : (x : Box) → x .images ≡ v .box .images → length (x .table) ≡ tableLength l → (d : Disk)
-      → Goes l (I .core) b (called reopen (record { box = x; disk = d }))
+      → Goes l (H .core) b (called reopen (record { box = x; disk = d }))
   first-goes x im size d =
-      goes-reopen l (I .core) (I .shape) (I .plain) (inv-stored I) b first-like x (im ∙ ap (λ (y : Box). y .images) (I .is-core)) size d
+      goes-reopen l (H .core) (H .shape) (H .plain) (H .stored) b first-like x (held-images l v H x im) size d
+
+  first-memory : (j : Memory) → length (j .table) ≡ tableLength l → Goes l (H .core) b (reopened j v)
+  first-memory j h =
+      let x = withMemory j (v .box) in
+      goes-to (sym (reopened-taken j v (held-taken l v H x refl h))) (first-goes x refl h (v .disk))
 
 -- the event that reopens
 first-event : (l : Label) (w : World) (I : Inv l w) (e : Event) (f : Fits l e w) → Reopening l e → (b : ℕ)
-    → Outside l (before e w .box .images) (record { 0 = b }) → Goes l (before-inv l e w f I .core) b (apply e w)
-unfolding before-inv
-first-event l w I e f own b out = first-goes l w I b out (w .box) refl (own-size l w I) (w .disk)
-first-event l w I e f (whole j h) b out =
-    goes-to (sym (reopened-taken j w (memory-taken l w I (withMemory j (w .box)) refl h)))
-    (first-goes l w I b out (withMemory j (w .box)) refl h (w .disk))
-first-event l w I e f (broken c a j h) b out =
-    let J = crashed-inv l c a w (f .0) I in
-    let v = crashed c a w in
-    goes-to (sym (reopened-taken j v (memory-taken l v J (withMemory j (v .box)) refl h)))
-    (first-goes l v J b out (withMemory j (v .box)) refl h (v .disk))
+    → Outside l (before e w .box .images) (record { 0 = b }) → Goes l (before-held l e w f I .core) b (apply e w)
+unfolding before-held
+first-event l w I e f own b out = first-goes l w (inv-held I) b out (w .box) refl (own-size l w I) (w .disk)
+first-event l w I e f (whole j h) b out = first-memory l w (inv-held I) b out j h
+first-event l w I e f (broken c a j h) b out = first-memory l (crashed c a w) (crashed-held l c a w (f .0) I) b out j h
 
 -- a slot of the model
 slot-of : (o : Option ℕ) (s : Slot) → asSlot o ≡ some s → o ≡ some (s .0)
@@ -291,17 +324,17 @@ keeps-of l w I e f r b h out es g n =
           (under-back l (apply e w) (G .under) (b .0) (s .0) z, all-back l es (apply e w) (G .under) (b .0) (s .0) z g n);
     }
   where
-    J : Inv l (before e w)
-    J = before-inv l e w f I
+    J : Held l (before e w)
+    J = before-held l e w f I
 
-    G : Goes l (before-inv l e w f I .core) (b .0) (apply e w)
+    G : Goes l (before-held l e w f I .core) (b .0) (apply e w)
     G = first-event l w I e f r (b .0) out
 
     H : Goes l (G .under .core) (b .0) (run es (apply e w))
     H = goes-run l es (apply e w) (G .under) (b .0) g n
 
     at-first : place l (before e w .box) b ≡ modelPlace l (J .core) (b .0)
-    at-first = ap (λ (x : Box). place l x b) (J .is-core) ∙ place-model l (J .core) (J .shape) (J .plain) (b .0) h (J .phased)
+    at-first = ap (λ (x : Box). place l x b) (J .is-core) ∙ place-model l (J .core) (J .shape) (J .plain) (J .stored) (b .0) h (J .tied)
 
     kept : place l (run es (apply e w) .box) b ≡ place l (before e w .box) b
     kept = under-place (H .under) (b .0) h ∙ same-place l (H .under .core) (G .under .core) (b .0) (H .like)

@@ -24,20 +24,19 @@ use Rattle.protocol.specs.Demand3.{Outside, inWindow, Place, entryPlace, stored
 use Rattle.layout.proofs.Booleans.{Told, told, told-true, told-false, clash}
 use Rattle.laws.proofs.model.Base.{has, eqb-same}
 use Rattle.laws.proofs.model.Model as model
-use Rattle.laws.proofs.model.Model.{Plain, Stored, Mending, blockOf}
+use Rattle.laws.proofs.model.Model.{Plain, Stored, Revived, blockOf}
 use Rattle.theorem.proofs.model.View as seen
 use Rattle.theorem.proofs.model.View.{Found, found, viewAt}
 use Rattle.theorem.proofs.model.Places as places
-use Rattle.theorem.proofs.model.Places.{shutAt, down-outside, down-inside}
+use Rattle.theorem.proofs.model.Places.{shutAt, row-shut, down-outside, down-inside}
 use Rattle.laws.proofs.refine.Windows.{has-nums}
 use Rattle.laws.proofs.refine.Tables.{rowAt}
 use Rattle.laws.proofs.refine.Conditions.{Located, located}
 use Rattle.laws.proofs.refine.Entries.{length-rows, rows-block, rows-flags}
 use Rattle.theorem.proofs.refine.Reopens.{valid-entry, block-entry, window-block}
-use Rattle.theorem.proofs.refine.Passes.{shut-row}
-use Rattle.theorem.proofs.refine.Views.{asSlot, read-view, look-slot}
-use Rattle.theorem.proofs.Claims.{ready-of, mending-of, unready-on}
-use Rattle.laws.proofs.refine.Abstract.{Core, phaseFor, boxOfCore, entryRow, abs, Shape, Phased}
+use Rattle.theorem.proofs.refine.Views.{asSlot, Legible, linked-legible, read-view, look-slot}
+use Rattle.theorem.proofs.Claims.{ready-off, unready-on}
+use Rattle.laws.proofs.refine.Abstract.{Core, phaseFor, boxOfCore, entryRow, abs, Shape, Tied, by-ready, by-mending}
 
 -- the model's
 abbrev pub modelPlace : Label → Core → ℕ → Place
@@ -120,17 +119,17 @@ module _ (l : Label) (k : Core) (S : Shape l k) (p : Plain) (St : Stored (abs l 
       out (record { 0 = s }) q (sym (window-block l k p (S .images) St s q) ∙ e)
 
 -- the place of a block
-module _ (l : Label) (k : Core) (S : Shape l k) (p : Plain) (b : ℕ) (b-low : b < l .blocks) where
-  ready-place : model.Ready (abs l k) p → placeIf true l (boxOfCore l k) (record { 0 = b }) ≡ modelPlace l k b
-  ready-place R = λ i. record { slot = look-slot l k S p R b b-low i; page = read-view l k S p R b b-low i }
+module _ (l : Label) (k : Core) (S : Shape l k) (p : Plain) (St : Stored (abs l k) p) (b : ℕ) (b-low : b < l .blocks) where
+  ready-place : Legible l k → placeIf true l (boxOfCore l k) (record { 0 = b }) ≡ modelPlace l k b
+  ready-place R = λ i. record { slot = look-slot l k S R b b-low i; page = read-view l k S R b b-low i }
 
-  module _ (M : Mending (abs l k) p) (on : k .recovering ≡ true) where
+  module _ (rows : Revived (abs l k)) where
     -- no row is open
     shut-all : (o : Option ℕ) → (shutAt (abs l k) o ≡ o) ×
         (entryPlace l (record { ssd = k .ssd; hdd = k .hdd }) (record { 0 = b }) (asSlot o) .page ≡ viewAt (abs l k) b o)
     unfolding abs
     shut-all none = (refl, refl)
-    shut-all (some s) = rw (shut-row l k S p M on s) (refl, refl)
+    shut-all (some s) = rw (row-shut (abs l k) p St rows b s) (refl, refl)
 
     slot-of-entry : (o : Option Slot) → entryPlace l (record { ssd = k .ssd; hdd = k .hdd }) (record { 0 = b }) o .slot ≡ o
     slot-of-entry none = refl
@@ -146,7 +145,7 @@ module _ (l : Label) (k : Core) (S : Shape l k) (p : Plain) (b : ℕ) (b-low : b
     unfolding seen.view places.slotOf abs
     found-is e =
         let o : Option ℕ = seen.find (rowAt (k .table)) (l .slots) b in
-        let same : slotFrom 0 (storedRows l (metasOf l (k .ssd))) (record { 0 = b }) ≡ asSlot o = stored-find l k S p (M .images) b
+        let same : slotFrom 0 (storedRows l (metasOf l (k .ssd))) (record { 0 = b }) ≡ asSlot o = stored-find l k S p St b
         ∙ ap asSlot (sym e ∙ shut-all o .0) in
         rw same (λ i. record { slot = (slot-of-entry (asSlot o) ∙ ap asSlot (sym (shut-all o .0))) i; page = shut-all o .1 i })
 
@@ -161,18 +160,20 @@ module _ (l : Label) (k : Core) (S : Shape l k) (p : Plain) (b : ℕ) (b-low : b
             (storedSlot r l (record { ssd = k .ssd; hdd = k .hdd }) (record { 0 = b })) ≡ modelPlace l k b
         go (inside s h e) =
             let in-stored-window : has (abs l k .storedWindow) (s .0) ≡ true = unfold abs in (has-nums (newestOf (metasOf l (k .ssd)) .window) (s .0) ∙ h) in
-            let blocked : blockOf (abs l k .entry (s .0)) ≡ b = unfold abs in (window-block l k p (S .images) (M .images) (s .0) h ∙ e) in
-            let d = down-inside (abs l k) p M b (s .0) in-stored-window blocked in
+            let blocked : blockOf (abs l k .entry (s .0)) ≡ b = unfold abs in (window-block l k p (S .images) St (s .0) h ∙ e) in
+            let d = down-inside (abs l k) p St rows b (s .0) in-stored-window blocked in
             none-is (d .0) (d .1 ∙ hdd-is)
         go (outside h) =
             let d : places.slotOf (abs l k) b ≡ seen.find (abs l k .entry) (abs l k .slots) b =
-            down-outside (abs l k) p M b (model-outside l k S p (M .images) b h) in
+            down-outside (abs l k) p St rows b (model-outside l k S p St b h) in
             found-is d
 
-  pub place-model : Phased (abs l k) p → place l (boxOfCore l k) (record { 0 = b }) ≡ modelPlace l k b
+  pub place-model : Tied (abs l k) → place l (boxOfCore l k) (record { 0 = b }) ≡ modelPlace l k b
   unfolding place
-  place-model P = go (isReady (phaseFor (k .recovering))) refl
+  place-model T = go (isReady (phaseFor (k .recovering))) refl T
     where
-      go : (r : Bool) → isReady (phaseFor (k .recovering)) ≡ r → placeIf r l (boxOfCore l k) (record { 0 = b }) ≡ modelPlace l k b
-      go true e = ready-place (ready-of l k p P e)
-      go false e = mending-place (mending-of l k p P e) (unready-on (k .recovering) e)
+      go : (r : Bool) → isReady (phaseFor (k .recovering)) ≡ r → Tied (abs l k) → placeIf r l (boxOfCore l k) (record { 0 = b }) ≡ modelPlace l k b
+      go true e (by-ready on W L) = ready-place (linked-legible l k S p St (ready-off (k .recovering) e) W L)
+      go true e (by-mending on rows) = clash {b = k .recovering} (unfold abs in on) (ready-off (k .recovering) e)
+      go false e (by-ready on W L) = clash {b = k .recovering} (unready-on (k .recovering) e) (unfold abs in on)
+      go false e (by-mending on rows) = mending-place rows

@@ -1,4 +1,4 @@
--- Every event keeps the invariant.
+-- Every event keeps the invariant; what a cut leaves is held, which is all that the reopening after it asks for.
 use Prim.Native.Nat.{ℕ}
 use mathlib.Core.Path.{_≡_, refl, sym, ap, subst, _∙_}
 use mathlib.Core.Bool.{Bool, true, false, _&&_}
@@ -28,7 +28,7 @@ use Rattle.laws.proofs.Sorted.{Sorted, is-format, is-reopen, is-step, is-servic
 use Rattle.theorem.proofs.refine.ReadyCalls.{calledAs, called-as, refused-same, worldOf, service-next}
 use Rattle.theorem.proofs.refine.Reopens.{label-is, reopen-judged}
 use Rattle.theorem.proofs.refine.MendingCalls.{phased-stored, step-inv, reopen-inv}
-use Rattle.laws.proofs.refine.Abstract.{Core, boxOfCore, abs, ImagesKept, Shape, Agrees, Phased, is-ready, is-mending, Inv}
+use Rattle.laws.proofs.refine.Abstract.{Core, boxOfCore, abs, ImagesKept, Shape, Agrees, Phased, is-ready, is-mending, phased-tied, Held, Inv}
 
 -- a call that no reason refuses answers what its plan says
 pub said-of : (c : Call) (x : Box) → judged c x ≡ none → refused (resultOf c x .said) ≡ refused (perform (plan c x) x .said)
@@ -142,20 +142,45 @@ module _ (l : Label) (k : Core) (p : Plain) (K : ImagesKept l (k .ssd) (k .hdd))
   reopen-taken h = ap (λ (o : Option Reason). refused (decided o reopen x .said)) (reopen-judged l k p K St x im h)
       ∙ (unfold perform in refl)
 
--- the box of a reachable world with another table and record
-pub memory-images : {l : Label} {w : World} (I : Inv l w) (j : Memory)
-    → withMemory j (w .box) .images ≡ record { ssd = I .core .ssd; hdd = I .core .hdd }
-memory-images I j = ap (λ (x : Box). x .images) (I .is-core)
+-- a reachable world is held
+abbrev pub inv-held : {l : Label} {w : World} → Inv l w → Held l w
+inv-held {l} I = record {
+  core = I .core;
+  is-core = I .is-core;
+  shape = I .shape;
+  plain = I .plain;
+  agrees = I .agrees;
+  stored = phased-stored (abs l (I .core)) (I .plain) (I .phased);
+  tied = phased-tied (abs l (I .core)) (I .plain) (I .phased);
+}
 
-pub inv-stored : {l : Label} {w : World} (I : Inv l w) → Stored (abs l (I .core)) (I .plain)
-inv-stored {l} I = phased-stored (abs l (I .core)) (I .plain) (I .phased)
+-- a box with the images of a held world, and any table and record
+module _ (l : Label) (w : World) (H : Held l w) (x : Box) (im : x .images ≡ w .box .images) where
+  pub held-images : x .images ≡ record { ssd = H .core .ssd; hdd = H .core .hdd }
+  held-images = im ∙ ap (λ (y : Box). y .images) (H .is-core)
 
--- a reopening with any table and record
-pub taken-inv : (l : Label) (j : Memory) (w : World) (I : Inv l w) → length (j .table) ≡ tableLength l
-    → Inv l (called reopen (record { box = withMemory j (w .box); disk = w .disk }))
-taken-inv l j w I h = reopen-inv l (I .core) (I .plain) (I .shape .images) (inv-stored I) (withMemory j (w .box)) (memory-images I j) h
-    (w .disk) (I .agrees)
+  pub held-right : refused (resultOf reopen x .said) ≡ false → length (x .table) ≡ tableLength l
+  held-right f = table-right l (H .core) (H .plain) (H .shape .images) (H .stored) x held-images f
 
+  pub held-taken : length (x .table) ≡ tableLength l → refused (resultOf reopen x .said) ≡ false
+  held-taken h = reopen-taken l (H .core) (H .plain) (H .shape .images) (H .stored) x held-images h
+
+  -- its reopening leads to a reachable world
+  pub taken-inv : length (x .table) ≡ tableLength l → Inv l (called reopen (record { box = x; disk = w .disk }))
+  taken-inv h = reopen-inv l (H .core) (H .plain) (H .shape .images) (H .stored) x held-images h (w .disk) (H .agrees)
+
+-- a reopening that is not refused
+pub reopened-taken : (j : Memory) (w : World) → refused (resultOf reopen (withMemory j (w .box)) .said) ≡ false
+    → reopened j w ≡ called reopen (record { box = withMemory j (w .box); disk = w .disk })
+unfolding reopened
+reopened-taken j w e = ap (λ (r : Bool). takenIf r w (called reopen (record { box = withMemory j (w .box); disk = w .disk }))) e
+
+-- a reopening with any record, and any table of the right length, of a held world
+pub held-reopened : (l : Label) (j : Memory) (w : World) → Held l w → length (j .table) ≡ tableLength l → Inv l (reopened j w)
+held-reopened l j w H h = let x = withMemory j (w .box) in
+    rw (reopened-taken j w (held-taken l w H x refl h)) (taken-inv l w H x refl h)
+
+-- with any table and record, of a reachable one
 pub reopened-inv : (l : Label) (j : Memory) (w : World) → Inv l w → Inv l (reopened j w)
 unfolding reopened
 reopened-inv l j w I = go (refused (resultOf reopen (withMemory j (w .box)) .said)) refl
@@ -163,8 +188,7 @@ reopened-inv l j w I = go (refused (resultOf reopen (withMemory j (w .box)) .sai
     go : (r : Bool) → refused (resultOf reopen (withMemory j (w .box)) .said) ≡ r
         → Inv l (takenIf r w (called reopen (record { box = withMemory j (w .box); disk = w .disk })))
     go true e = I
-    go false e = taken-inv l j w I (table-right l (I .core) (I .plain) (I .shape .images) (inv-stored I) (withMemory j (w .box))
-        (memory-images I j) e)
+    go false e = let x = withMemory j (w .box) in taken-inv l w (inv-held I) x refl (held-right l w (inv-held I) x refl e)
 
 -- what a cut with the page new leaves, by the call's store
 abbrev cutAt : Call → World → Option Store → World
@@ -198,17 +222,17 @@ crashed-or c new w = go (effectOf c (w .box) .store) refl
     go none e = inr (ap (cutAt c w) e)
     go (some s) e = inl (crashed-made c w s e)
 
-pub crashed-inv : (l : Label) (c : Call) (a : Arrival) (w : World) → CallFits c w → Inv l w → Inv l (crashed c a w)
-crashed-inv l c a w f I = go (crashed-or c a w)
+pub crashed-held : (l : Label) (c : Call) (a : Arrival) (w : World) → CallFits c w → Inv l w → Held l (crashed c a w)
+crashed-held l c a w f I = go (crashed-or c a w)
   where
-    go : (crashed c a w ≡ called c w) ⊎ (crashed c a w ≡ w) → Inv l (crashed c a w)
-    go (inl e) = rw e (call-inv l c w f I)
-    go (inr e) = rw e I
+    go : (crashed c a w ≡ called c w) ⊎ (crashed c a w ≡ w) → Held l (crashed c a w)
+    go (inl e) = rw e (inv-held (call-inv l c w f I))
+    go (inr e) = rw e (inv-held I)
 
 pub apply-inv : (l : Label) (e : Event) (w : World) → Fits l e w → Inv l w → Inv l (apply e w)
 apply-inv l (call c) w f I = call-inv l c w f I
 apply-inv l (reopens j) w f I = reopened-inv l j w I
-apply-inv l (cut c a j) w f I = reopened-inv l j (crashed c a w) (crashed-inv l c a w (f .0) I)
+apply-inv l (cut c a j) w f I = held-reopened l j (crashed c a w) (crashed-held l c a w (f .0) I) (f .1)
 
 pub run-inv : (l : Label) (es : List Event) (w : World) → AllFit l es w → Inv l w → Inv l (run es w)
 unfolding run

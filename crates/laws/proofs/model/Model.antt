@@ -215,6 +215,21 @@ pub record Ready (x : Model) (p : Plain) : Type 0 where
   pub short : length (x .window) + count (x .unconfirmed) ≤ length (x .storedWindow)
   pub budget : x .newest + length (x .storedWindow) ≤ largestStamp
 
+-- what links the rows and the window of a ready box to the stored entries: all that finding a block after a cut asks of them
+pub record Linked (x : Model) : Type 0 where
+  pub same-valid : (s : ℕ) → valid (x .entry s) ≡ valid (x .row s)
+  pub same-block : (s : ℕ) → blockOf (x .entry s) ≡ blockOf (x .row s)
+  pub open-row : (s : ℕ) → openRow (x .row s) ≡ has (x .window) s
+  pub window-stored : (s : ℕ) → has (x .window) s ≡ true → has (x .storedWindow) s ≡ true
+
+pub ready-linked : (x : Model) (p : Plain) → Ready x p → Linked x
+ready-linked x p R = record {
+  same-valid = R .same-valid;
+  same-block = R .same-block;
+  open-row = R .open-row;
+  window-stored = R .window-stored;
+}
+
 -- what holds of the images alone, whatever record and table there are
 pub record Stored (x : Model) (p : Plain) : Type 0 where
   pub in-range : (s : ℕ) → valid (x .entry s) ≡ true → s < x .slots
@@ -228,10 +243,14 @@ pub record Stored (x : Model) (p : Plain) : Type 0 where
   pub may-page : (b : ℕ) → List·Memᴰ (p .page b) (p .may b)
   pub budget : x .stamp + length (x .storedWindow) ≤ largestStamp
 
+-- the rows are what a reopening makes of the entries
+abbrev pub Revived : Model → Type 0
+Revived x = (s : ℕ) → x .row s ≡ revived (has (x .storedWindow) s) (x .entry s)
+
 -- a box that is mending: its table is what the reopening made of the entries, its window the pending slots
 pub record Mending (x : Model) (p : Plain) : Type 0 where
   pub images : Stored x p
-  pub rows : (s : ℕ) → x .row s ≡ revived (has (x .storedWindow) s) (x .entry s)
+  pub rows : Revived x
   pub window : x .window ≡ x .storedWindow
   pub stamps : x .stamp ≡ x .newest
   pub settled : x .unconfirmed ≡ false

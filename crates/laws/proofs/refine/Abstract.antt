@@ -22,7 +22,8 @@ use Rattle.protocol.specs.Recovery.{metasOf, entryIn, newestOf, spentStamp}
 use Rattle.protocol.specs.ReferenceDisk.{Disk}
 use Rattle.protocol.specs.Events.{World}
 use Rattle.laws.proofs.model.Model as model
-use Rattle.laws.proofs.model.Model.{Row, Model, Plain, Mending}
+use Rattle.laws.proofs.model.Base.{Window}
+use Rattle.laws.proofs.model.Model.{Row, Model, Plain, Linked, ready-linked, Stored, Revived, Mending}
 use Rattle.laws.proofs.refine.Windows.{nums}
 use Rattle.laws.proofs.refine.Flags.{rowOf}
 use Rattle.laws.proofs.refine.Tables.{rowAt, Rows}
@@ -113,6 +114,27 @@ pub data Phased (x : Model) (p : Plain) : Type 0 where
   is-ready : model.Ready x p → Phased x p
   is-mending : x .recovering ≡ true → Mending x p → Phased x p
 
+-- how table and record stand to the stored entries before every reopening: those of a ready box, or what a reopening made of them
+pub data Tied (x : Model) : Type 0 where
+  by-ready : x .recovering ≡ false → Window (x .slots) (x .window) → Linked x → Tied x
+  by-mending : x .recovering ≡ true → Revived x → Tied x
+
+pub phased-tied : (x : Model) (p : Plain) → Phased x p → Tied x
+phased-tied x p (is-ready R) = by-ready (R .phase) (R .window-rule) (ready-linked x p R)
+phased-tied x p (is-mending on M) = by-mending on (M .rows)
+
+-- A world that may be reopened: what a cut leaves. Images and plain disk keep what a reopening needs (`images` of the shape, `stored`,
+-- `agrees`), and blocks are found before it as after it (`tied`). Whether the box could serve, or go on mending, it does not say.
+pub record Held (l : Label) (w : World) : Type 0 where
+  pub core : Core
+  pub is-core : w .box ≡ boxOfCore l core
+  pub shape : Shape l core
+  pub plain : Plain
+  pub agrees : Agrees l (w .disk) plain
+  pub stored : Stored (abs l core) plain
+  pub tied : Tied (abs l core)
+
+-- A world that a list of events reaches: ready, or mending.
 pub record Inv (l : Label) (w : World) : Type 0 where
   pub core : Core
   pub is-core : w .box ≡ boxOfCore l core

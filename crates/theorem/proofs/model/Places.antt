@@ -6,7 +6,7 @@ use mathlib.Core.Bool.{Bool, true, false, cond}
 use mathlib.Core.Option.{Option, some, none}
 use Rattle.layout.proofs.Booleans.{Told, told, told-true, told-false, clash}
 use Rattle.laws.proofs.model.Base.{has}
-use Rattle.laws.proofs.model.Model.{Row, valid, openRow, blockOf, shut, revived, Model, Plain, Ready, Mending, reopened, mended}
+use Rattle.laws.proofs.model.Model.{Row, valid, openRow, blockOf, shut, revived, Model, Plain, Linked, Stored, Revived, reopened, mended}
 use Rattle.laws.proofs.model.Rows.{open-valid, shut-valid, shut-block, shut-open}
 use Rattle.theorem.proofs.model.View.{holds, holds-is, find, Found, found, at, nowhere, view, viewAt}
 
@@ -50,15 +50,15 @@ module _
         go (at s l v e) = (rw (open-same s v e), rw (open-same s v e, hdd-same, page-same s))
 
 -- a box whose table is what a reopening makes of its entries finds every block as that reopening will
-pub again : (x : Model) (p : Plain) → Mending x p → (b : ℕ) → (slotOf (reopened x) b ≡ slotOf x b) × (view (reopened x) b ≡ view x b)
+pub again : (x : Model) → Revived x → (b : ℕ) → (slotOf (reopened x) b ≡ slotOf x b) × (view (reopened x) b ≡ view x b)
 unfolding reopened
-again x p M b = like x (reopened x) b refl (λ s. ap (λ r. holds r b) (sym (M .rows s))) (λ s _ _. ap openRow (sym (M .rows s))) refl (λ s. refl)
+again x rows b = like x (reopened x) b refl (λ s. ap (λ r. holds r b) (sym (rows s))) (λ s _ _. ap openRow (sym (rows s))) refl (λ s. refl)
 
--- a ready box, at a block outside the newest stored window
-pub first : (x : Model) (p : Plain) → Ready x p → (b : ℕ) → Outside x b
+-- a box whose rows are linked to the entries, at a block outside the newest stored window
+pub first : (x : Model) → Linked x → (b : ℕ) → Outside x b
     → (slotOf (reopened x) b ≡ slotOf x b) × (view (reopened x) b ≡ view x b)
 unfolding reopened
-first x p R b out = like x (reopened x) b refl (λ s. holds-same s (told (has (x .storedWindow) s)))
+first x R b out = like x (reopened x) b refl (λ s. holds-same s (told (has (x .storedWindow) s)))
     (λ s v e. open-same s v e (told (has (x .storedWindow) s))) refl (λ s. refl)
   where
     not-held : (s : ℕ) → has (x .storedWindow) s ≡ true → Told (holds (x .row s) b) → holds (x .row s) b ≡ false
@@ -88,19 +88,19 @@ Alike y x b = (slotOf y b ≡ slotOf x b) × (view y b ≡ view x b)
 
 -- While a box is mending: a block outside the newest stored window is where its valid entry says, and any other block has
 -- no slot and reads as its HDD page.
-module _ (x : Model) (p : Plain) (M : Mending x p) (b : ℕ) where
+module _ (x : Model) (p : Plain) (S : Stored x p) (rows : Revived x) (b : ℕ) where
   -- a row is that of a kept entry
   row-kept : (s : ℕ) → valid (x .row s) ≡ true → (valid (x .entry s) ≡ true) × (blockOf (x .row s) ≡ blockOf (x .entry s)) × (has (x .storedWindow) s ≡ false)
   row-kept s v = go (told (has (x .storedWindow) s))
     where
       go : Told (has (x .storedWindow) s) → (valid (x .entry s) ≡ true) × (blockOf (x .row s) ≡ blockOf (x .entry s)) × (has (x .storedWindow) s ≡ false)
-      go (told-true h) = let e : x .row s ≡ Row.free = M .rows s ∙ rw h in clash v (ap valid e)
+      go (told-true h) = let e : x .row s ≡ Row.free = rows s ∙ rw h in clash v (ap valid e)
       go (told-false h) =
-          let e : x .row s ≡ shut (x .entry s) = M .rows s ∙ rw h in
+          let e : x .row s ≡ shut (x .entry s) = rows s ∙ rw h in
           (sym (shut-valid (x .entry s)) ∙ (rw e at v), ap blockOf e ∙ shut-block (x .entry s), h)
 
-  row-shut : (s : ℕ) → openRow (x .row s) ≡ false
-  row-shut s = ap openRow (M .rows s) ∙ go (has (x .storedWindow) s)
+  pub row-shut : (s : ℕ) → openRow (x .row s) ≡ false
+  row-shut s = ap openRow (rows s) ∙ go (has (x .storedWindow) s)
     where
       go : (h : Bool) → openRow (revived h (x .entry s)) ≡ false
       go true = refl
@@ -118,12 +118,12 @@ module _ (x : Model) (p : Plain) (M : Mending x p) (b : ℕ) where
       same s = by (told (has (x .storedWindow) s))
         where
           by : Told (has (x .storedWindow) s) → holds (x .entry s) b ≡ holds (x .row s) b
-          by (told-true h) = rw (M .rows s, h) (no-entry (told (holds (x .entry s) b)))
+          by (told-true h) = rw (rows s, h) (no-entry (told (holds (x .entry s) b)))
             where
               no-entry : Told (holds (x .entry s) b) → holds (x .entry s) b ≡ false
               no-entry (told-true t) = absurd (out s h (holds-is (x .entry s) b t .1))
               no-entry (told-false t) = t
-          by (told-false h) = rw (M .rows s, h, shut-valid (x .entry s), shut-block (x .entry s))
+          by (told-false h) = rw (rows s, h, shut-valid (x .entry s), shut-block (x .entry s))
 
   pub down-inside : (t : ℕ) → has (x .storedWindow) t ≡ true → blockOf (x .entry t) ≡ b → (slotOf x b ≡ none) × (view x b ≡ x .hdd b)
   unfolding slotOf view
@@ -133,5 +133,5 @@ module _ (x : Model) (p : Plain) (M : Mending x p) (b : ℕ) where
       go (nowhere k) = (refl, refl)
       go (at s l v f) =
           let k = row-kept s v in
-          clash {b = has (x .storedWindow) s} (rw (M .images .once s t (k .0) (open-valid (x .entry t) (M .images .stored-open t h))
+          clash {b = has (x .storedWindow) s} (rw (S .once s t (k .0) (open-valid (x .entry t) (S .stored-open t h))
           (sym (k .1) ∙ f ∙ sym e)) h) (k .2)

@@ -35,7 +35,7 @@ use Rattle.record.proofs.RecordLaws.{window-in}
 use Rattle.theorem.proofs.refine.ReadyCalls.{calledAs, called-as, worldOf}
 use Rattle.theorem.proofs.refine.Reopens.{reopenedCore, reopen-judged, reopen-box, reopen-shape, reopen-abs}
 use Rattle.theorem.proofs.refine.Passes.{mending-left, step-judged, pending-rule, some-pending}
-use Rattle.theorem.proofs.refine.Views.{read-view}
+use Rattle.theorem.proofs.refine.Views.{ready-legible, read-view}
 use Rattle.laws.proofs.refine.Callers.{mended-kept}
 use Rattle.laws.proofs.refine.Abstract.{Core, phaseFor, boxOfCore, abs, ImagesKept, Shape, Agrees, Phased, is-ready, is-mending, Inv}
 
@@ -64,7 +64,7 @@ module _ (l : Label) (k : Core) (S : Shape l k) (p : Plain) (d : Disk) (A : Agre
       over e =
           let R = over-ready (abs l k) p M (unfold abs in e) in
           subst (λ (z : Bool). Agrees l (fed step false (readsIf z (boxOfCore l k)) d) (fixed (abs l k)))
-          (sym (ap (λ (r : Bool). isReady (phaseFor r)) e)) (settled-agrees (λ b h. read-view l k S (fixed (abs l k)) R b h))
+          (sym (ap (λ (r : Bool). isReady (phaseFor r)) e)) (settled-agrees (λ b h. read-view l k S (ready-legible l k S (fixed (abs l k)) R) b h))
         where
           settled-agrees : ((b : ℕ) → b < l .blocks → readOf (boxOfCore l k) (record { 0 = b }) ≡ seen.view (abs l k) b)
               → Agrees l (durable (readOf (boxOfCore l k))) (fixed (abs l k))
@@ -87,7 +87,7 @@ module _ (l : Label) (k : Core) (S : Shape l k) (p : Plain) (d : Disk) (A : Agre
       → List·Memᴰ (readOf (boxOfCore l k) (record { 0 = b })) (d .contents (record { 0 = b }))
   finish-allowed e b h =
       let R = over-ready (abs l k) p M (unfold abs in e) in
-      rw (read-view l k S (fixed (abs l k)) R b h, A .contents b h) (over-allowed (abs l k) p M (unfold abs in e) b)
+      rw (read-view l k S (ready-legible l k S (fixed (abs l k)) R) b h, A .contents b h) (over-allowed (abs l k) p M (unfold abs in e) b)
 
 -- the page of a mending step has a pending slot
 pub record Pending (w : List Slot) (q : ℕ) : Type 0 where

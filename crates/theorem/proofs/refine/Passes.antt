@@ -82,14 +82,8 @@ module _ (l : Label) (k : Core) (S : Shape l k) (W : Window (l .slots) (nums (k 
     agree = rw window-is a;
   }
 
--- a ready box
-module _ (l : Label) (k : Core) (S : Shape l k) (p : Plain) (R : model.Ready (abs l k) p) where
-  on : k .recovering ≡ false
-  on = unfold abs in R .phase
-
-  T : Sound l (k .table) (k .window)
-  T = ready-sound l k S p R
-
+-- a ready box with a sound table and window
+module _ (l : Label) (k : Core) (S : Shape l k) (T : Sound l (k .table) (k .window)) (on : k .recovering ≡ false) where
   agree-ready : agreeTest (phaseFor (k .recovering)) (k .table) (k .window) ≡ true
   agree-ready = rw on (agree-same Ready (k .table) (k .window) .1 (sound-agree T))
 
@@ -104,6 +98,8 @@ module _ (l : Label) (k : Core) (S : Shape l k) (p : Plain) (R : model.Ready (ab
   pub look-judged : (b : Block) → b .0 < l .blocks → judged (lookUp b) (boxOfCore l k) ≡ none
   look-judged b h = accepted (lookUp b) (boxOfCore l k) (ready-first (lookUp b) refl refl) (unfold test in (lt-leb _ _ h, tt))
 
+-- and its stamps
+module _ (l : Label) (k : Core) (S : Shape l k) (p : Plain) (R : model.Ready (abs l k) p) where
   -- a flush has a stamp left
   flush-left : k .unconfirmed ≡ true → k .newest < largestStamp
   unfolding abs
@@ -111,7 +107,8 @@ module _ (l : Label) (k : Core) (S : Shape l k) (p : Plain) (R : model.Ready (ab
 
   pub flush-judged : judged flush (boxOfCore l k) ≡ none
   unfolding test plan
-  flush-judged = accepted flush (boxOfCore l k) (ready-first flush refl refl) (go (told (k .unconfirmed)), tt)
+  flush-judged = accepted flush (boxOfCore l k)
+      (ready-first l k S (ready-sound l k S p R) (unfold abs in R .phase) flush refl refl) (go (told (k .unconfirmed)), tt)
     where
       go : Told (k .unconfirmed) → (storesMeta (flushing (k .unconfirmed)) && leb largestStamp (k .newest)) ≡ false
       go (told-true u) = rw (u, lt-leb _ _ (flush-left u))

@@ -2,7 +2,7 @@
 use Prim.Native.Nat.{ℕ, _+_, _*_, _<_}
 use mathlib.Core.Path.{_≡_, refl, sym, ap, _∙_}
 use mathlib.Core.Logic.{_≢_}
-use mathlib.Core.Bool.{true, cond}
+use mathlib.Core.Bool.{true, false, cond}
 use mathlib.Core.Option.{Option, some, none, Option·none-ne-some}
 use lib.ListN.{getD}
 use Rattle.pages.specs.Pages.{pageAt}
@@ -23,7 +23,8 @@ use Rattle.protocol.specs.Events.{lent, readOf}
 use Rattle.protocol.specs.Demand3.{slotSaid}
 use Rattle.layout.proofs.Booleans.{Told, told, told-true, told-false}
 use Rattle.laws.proofs.model.Model as model
-use Rattle.laws.proofs.model.Model.{Plain, openRow, blockOf}
+use Rattle.laws.proofs.model.Base.{Window}
+use Rattle.laws.proofs.model.Model.{Plain, Linked, Stored, openRow, blockOf}
 use Rattle.theorem.proofs.model.View as seen
 use Rattle.theorem.proofs.model.View.{Found, found, viewAt}
 use Rattle.theorem.proofs.model.Places.{shutAt}
@@ -31,7 +32,8 @@ use Rattle.theorem.proofs.model.Places as places
 use Rattle.laws.proofs.refine.Tables.{rowAt, at-open, at-block, at-valid}
 use Rattle.laws.proofs.refine.Conditions.{Held, Stands, absent, is-clean, is-dirty, is-writing, is-fetching, stands}
 use Rattle.theorem.proofs.refine.Passes.{view-judged, look-judged}
-use Rattle.laws.proofs.refine.Abstract.{Core, boxOfCore, abs, Shape}
+use Rattle.laws.proofs.Sound.{Sound}
+use Rattle.laws.proofs.refine.Abstract.{Core, boxOfCore, abs, Shape, ready-sound}
 
 -- the closed slot of a condition, and the page
 abbrev pub closedSlot : Condition → Option Slot
@@ -45,7 +47,28 @@ abbrev pub asSlot : Option ℕ → Option Slot
 asSlot none = none
 asSlot (some s) = some (record { 0 = s })
 
-module _ (l : Label) (k : Core) (S : Shape l k) (p : Plain) (R : model.Ready (abs l k) p) (b : ℕ) (b-low : b < l .blocks) where
+-- a ready box whose blocks can be found: table and window are sound, and no block is in two rows
+pub record Legible (l : Label) (k : Core) : Type 0 where
+  pub on : k .recovering ≡ false
+  pub sound : Sound l (k .table) (k .window)
+  pub once : (s t : ℕ) → model.valid (rowAt (k .table) s) ≡ true → model.valid (rowAt (k .table) t) ≡ true
+      → blockOf (rowAt (k .table) s) ≡ blockOf (rowAt (k .table) t) → s ≡ t
+
+pub ready-legible : (l : Label) (k : Core) → Shape l k → (p : Plain) → model.Ready (abs l k) p → Legible l k
+unfolding abs
+ready-legible l k S p R = record { on = R .phase; sound = ready-sound l k S p R; once = R .once }
+
+-- so it is where the rows are linked to stored entries
+pub linked-legible : (l : Label) (k : Core) → Shape l k → (p : Plain) → Stored (abs l k) p → k .recovering ≡ false
+    → Window (abs l k .slots) (abs l k .window) → Linked (abs l k) → Legible l k
+unfolding abs
+linked-legible l k S p St on W L = record {
+  on = on;
+  sound = record { size = S .table-size; legal = S .rows; rule = W; open-is = L .open-row };
+  once = λ s t v w e. St .once s t (L .same-valid s ∙ v) (L .same-valid t ∙ w) (L .same-block s ∙ e ∙ sym (L .same-block t));
+}
+
+module _ (l : Label) (k : Core) (S : Shape l k) (R : Legible l k) (b : ℕ) (b-low : b < l .blocks) where
   block : Block
   block = record { 0 = b }
 
@@ -61,7 +84,6 @@ module _ (l : Label) (k : Core) (S : Shape l k) (p : Plain) (R : model.Ready (ab
   }
 
   one : (s t : ℕ) → Both s → model.valid (rowAt (k .table) t) ≡ true → blockOf (rowAt (k .table) t) ≡ b → t ≡ s
-  unfolding abs
   one s t B v e = R .once t s v (B .held) (e ∙ sym (B .blocked))
 
   -- what the model finds where the table finds slot s
@@ -108,13 +130,13 @@ module _ (l : Label) (k : Core) (S : Shape l k) (p : Plain) (R : model.Ready (ab
   -- a view is not refused, and reads as the model says
   pub view-number : viewOf (lent (k .ssd)) (lent (k .hdd)) (k .table) (boxOfCore l k .state) (record { 0 = b }) .number ≡ 0
   unfolding viewOf
-  view-number = rw (view-judged l k S p R (record { 0 = b }) b-low)
+  view-number = rw (view-judged l k S (R .sound) (R .on) (record { 0 = b }) b-low)
 
   pub read-view : readOf (boxOfCore l k) (record { 0 = b }) ≡ seen.view (abs l k) b
   unfolding readOf viewOf seen.view block abs
   read-view =
       ap (λ (o : Option Reason). viewed o (lent (k .ssd)) (lent (k .hdd)) l (record { 0 = b })
-      (conditionOf (k .table) (record { 0 = b })) .handed .bytes) (view-judged l k S p R (record { 0 = b }) b-low)
+      (conditionOf (k .table) (record { 0 = b })) .handed .bytes) (view-judged l k S (R .sound) (R .on) (record { 0 = b }) b-low)
       ∙ by-condition here .0
 
   -- the closed slot that a look-up names
@@ -128,7 +150,7 @@ module _ (l : Label) (k : Core) (S : Shape l k) (p : Plain) (R : model.Ready (ab
 
   pub look-slot : slotSaid (resultOf (lookUp (record { 0 = b })) (boxOfCore l k) .said) ≡ asSlot (places.slotOf (abs l k) b)
   unfolding effectOf plan places.slotOf block abs
-  look-slot = rw (look-judged l k S p R (record { 0 = b }) b-low)
+  look-slot = rw (look-judged l k S (R .sound) (R .on) (record { 0 = b }) b-low)
       (said-slot (conditionOf (k .table) (record { 0 = b })) ∙ by-condition here .1)
 
   -- the slot that a look-up names holds the page
