@@ -13,9 +13,10 @@ use lib.Dec.{eqb}
 use borrow.Author.Tests.{le-leb, lt-leb, eqb-true}
 use Rattle.pages.specs.Pages.{putPage}
 use Rattle.layout.specs.declared.Label.{Label}
-use Rattle.layout.specs.Places.{labelOf, withinLimits, metaPages, metaSpan, metaPlace, ssdLength, hddLength, tableLength}
+use Rattle.layout.specs.Places.{labelOf, withinLimits, metaPages, metaSpan, ssdLength, hddLength, tableLength}
 use Rattle.layout.specs.LabelPage.{encodeLabel}
-use Rattle.layout.specs.MetaPage.{encodeMeta, rowsOn}
+use Rattle.layout.specs.MetaPage.{rowsOn}
+use Rattle.protocol.specs.Metadata.{storePlace, metaBytes}
 use Rattle.record.specs.declared.Record.{Record}
 use Rattle.record.specs.declared.Phase.the-variants.{Formatting}
 use Rattle.protocol.specs.declared.Stored.{Stored}
@@ -60,9 +61,10 @@ place-page l p h = h
 
 -- a metadata page is the store of a step before it
 pub meta-step-stored : (ssd table after : List ℕ) (stored : Stored) (state : Record) (d : ℕ) → d ≢ 0 → d - 1 < metaSpan (labelIn state)
-    → stored ≡ Ssd (metaPlace (labelIn state) (d - 1))
-    → after ≡ putPage ssd (metaPlace (labelIn state) (d - 1)) (encodeMeta 0 (windowIn state) (rowsOn (d - 1) table))
+    → stored ≡ Ssd (storePlace (labelIn state) ssd (d - 1))
+    → after ≡ putPage ssd (storePlace (labelIn state) ssd (d - 1)) (metaBytes (labelIn state) 0 (windowIn state) (rowsOn (d - 1) table))
     → let f = formatStore (labelIn state) table (windowIn state) d in (stored ≡ Ssd (f .place)) × (after ≡ putPage ssd (f .place) (f .bytes))
+unfolding storePlace
 meta-step-stored ssd table after stored state zero n h t k = absurd (n refl)
 meta-step-stored ssd table after stored state (suc p) n h t k =
     let q : suc p - 1 ≡ p = omega arith in

@@ -16,6 +16,7 @@ use Rattle.layout.specs.declared.Label.{Label}
 use Rattle.layout.specs.Places.{metaPages, metaPlace, dataPlace, blockPlace, ssdLength, hddLength}
 use Rattle.layout.proofs.PlaceLaws.{page-place, meta-within, data-within, meta-few, data-few}
 use Rattle.layout.specs.MetaPage.{encodeMeta, rowsOn}
+use Rattle.protocol.specs.Metadata.{storePlace, metaBytes}
 use Rattle.record.specs.declared.Record.{Record}
 use Rattle.record.specs.Record.{labelIn, windowIn}
 use Rattle.protocol.specs.Rows.{setRow}
@@ -44,7 +45,8 @@ pub meta-stored : (ssd table after page : List ℕ) (state : Record) (stamp p pl
     → end ≡ rowsEnd (length table) (480 * p) → place ≡ metaPlace (labelIn state) p
     → page ≡ encodeMeta stamp (take (state .count) (state .window)) (take (end - 480 * p) (drop (480 * p) table))
     → after ≡ putPage ssd place page
-    → after ≡ putPage ssd (metaPlace (labelIn state) p) (encodeMeta stamp (windowIn state) (rowsOn p table))
+    → after ≡ putPage ssd (storePlace (labelIn state) ssd p) (metaBytes (labelIn state) stamp (windowIn state) (rowsOn p table))
+unfolding storePlace metaBytes
 meta-stored ssd table after page state stamp p place end h e f g k =
     rw (k, g, f, e, rows-part table (480 * p) h, window-is state)
 

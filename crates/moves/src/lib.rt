@@ -15,8 +15,9 @@ ghost use mathlib.Core.Bool.{true};
 ghost use Prim.Native.Nat.{_+_, _-_, _*_, _%_, _≤_, _<_};
 ghost use lib.ListN.{length};
 ghost use Rattle.pages.specs.Pages.{pageAt, putPage};
-ghost use Rattle.layout.specs.Places.{metaPages, metaPlace, dataPlace, blockPlace, metaOf, hddLength, ssdLength};
-ghost use Rattle.layout.specs.MetaPage.{encodeMeta, rowsOn};
+ghost use Rattle.layout.specs.Places.{metaPages, dataPlace, blockPlace, metaOf, hddLength, ssdLength};
+ghost use Rattle.layout.specs.MetaPage.{rowsOn};
+ghost use Rattle.protocol.specs.Metadata.{storePlace, metaBytes};
 ghost use Rattle.layout.specs.PageRule.{listed};
 ghost use Rattle.protocol.specs.Rows.{rowBlock, rowFlags, setFlags, setRow, dirty, withUsed, withoutWriting, withoutDirty};
 ghost use Rattle.layout.specs.Window.{windowMost};
@@ -44,7 +45,7 @@ fn rows_end(len: usize, start: usize) -> usize
 pub fn store_meta(ssd: &mut [u8], table: &[u32], state: Record, stamp: u32, p: u32) -> Stored
     requires { ⌜ FitsRecord (length (now ssd)) (length (now table)) state ⌝ }
     requires { ⌜ p < metaPages (labelIn state) ⌝ }
-    ensures { λ r. ⌜ (r ≡ Ssd (metaPlace (labelIn state) p)) × (now (ssd .exit) ≡ putPage (now (ssd .entry)) (metaPlace (labelIn state) p) (encodeMeta stamp (windowIn state) (rowsOn p (now (table .entry))))) ⌝ }
+    ensures { λ r. ⌜ (r ≡ Ssd (storePlace (labelIn state) (now (ssd .entry)) p)) × (now (ssd .exit) ≡ putPage (now (ssd .entry)) (storePlace (labelIn state) (now (ssd .entry)) p) (metaBytes (labelIn state) stamp (windowIn state) (rowsOn p (now (table .entry))))) ⌝ }
 {
     let l = state.label;
     let start = 480 * (p as usize);
@@ -61,7 +62,7 @@ pub fn confirm(ssd: &mut [u8], table: &[u32], state: Record, p: u32, answer: Ans
     requires { ⌜ FitsRecord (length (now ssd)) (length (now table)) state ⌝ }
     requires { ⌜ p < metaPages (labelIn state) ⌝ }
     requires { ⌜ state .newest < largestStamp ⌝ }
-    ensures { λ q. ⌜ (q ≡ record { answer = answer; state = withStamp state (state .newest + 1); stored = Ssd (metaPlace (labelIn state) p) }) × (now (ssd .exit) ≡ putPage (now (ssd .entry)) (metaPlace (labelIn state) p) (encodeMeta (state .newest + 1) (windowIn state) (rowsOn p (now (table .entry))))) ⌝ }
+    ensures { λ q. ⌜ (q ≡ record { answer = answer; state = withStamp state (state .newest + 1); stored = Ssd (storePlace (labelIn state) (now (ssd .entry)) p) }) × (now (ssd .exit) ≡ putPage (now (ssd .entry)) (storePlace (labelIn state) (now (ssd .entry)) p) (metaBytes (labelIn state) (state .newest + 1) (windowIn state) (rowsOn p (now (table .entry))))) ⌝ }
 {
     let stamp = state.newest + 1;
     let stored = store_meta(ssd, table, state, stamp, p);
@@ -95,7 +96,7 @@ pub fn open_slot(
     requires { ⌜ state .count < windowMost ⌝ }
     requires { ⌜ state .newest < largestStamp ⌝ }
     requires { ⌜ s .0 < state .label .slots ⌝ }
-    ensures { λ q. ⌜ (q ≡ record { answer = Announced s; state = withStamp (joined s caller hand state) (state .newest + 1); stored = Ssd (metaPlace (labelIn state) (metaOf s)) }) × (now (table .exit) ≡ setRow (now (table .entry)) s b flags) × (now (ssd .exit) ≡ putPage (now (ssd .entry)) (metaPlace (labelIn state) (metaOf s)) (encodeMeta (state .newest + 1) (windowIn (joined s caller hand state)) (rowsOn (metaOf s) (setRow (now (table .entry)) s b flags)))) ⌝ }
+    ensures { λ q. ⌜ (q ≡ record { answer = Announced s; state = withStamp (joined s caller hand state) (state .newest + 1); stored = Ssd (storePlace (labelIn state) (now (ssd .entry)) (metaOf s)) }) × (now (table .exit) ≡ setRow (now (table .entry)) s b flags) × (now (ssd .exit) ≡ putPage (now (ssd .entry)) (storePlace (labelIn state) (now (ssd .entry)) (metaOf s)) (metaBytes (labelIn state) (state .newest + 1) (windowIn (joined s caller hand state)) (rowsOn (metaOf s) (setRow (now (table .entry)) s b flags)))) ⌝ }
 {
     set_row(table, s, b, flags);
     let next = state::joined(state, s, caller, hand);

@@ -13,6 +13,7 @@ use Rattle.layout.specs.declared.Slot.{Slot}
 use Rattle.layout.specs.declared.Block.{Block}
 use Rattle.layout.specs.declared.Label.{Label}
 use Rattle.layout.specs.Places.{Limits, labelOf, formatSteps, labelPlace, metaPages, metaPlace, metaOf, slotOn}
+use Rattle.protocol.specs.Metadata.{readMeta}
 use Rattle.layout.specs.MetaPage.{encodeMeta, rowsOn, stampOf, windowOf, entryAt, rowsFrom}
 use Rattle.layout.specs.PageRule.{PageRule, listed}
 use Rattle.record.specs.declared.Record.{Record}
@@ -90,9 +91,9 @@ ReadsBack = (l : Label) (p : ℕ) (page : List ℕ) → IsPage page → PageRule
 abbrev pub TableBack : Type 0
 TableBack =
     (l : Label) (ssd : List ℕ) (p : ℕ) → p < metaPages l
-    → IsPage (pageAt ssd (metaPlace l p)) → PageRule l p (pageAt ssd (metaPlace l p))
-    → encodeMeta (stampOf (pageAt ssd (metaPlace l p))) (windowOf (pageAt ssd (metaPlace l p))) (rowsOn p (storedRows l (metasOf l ssd)))
-    ≡ pageAt ssd (metaPlace l p)
+    → IsPage (readMeta l ssd p) → PageRule l p (readMeta l ssd p)
+    → encodeMeta (stampOf (readMeta l ssd p)) (windowOf (readMeta l ssd p)) (rowsOn p (storedRows l (metasOf l ssd)))
+    ≡ readMeta l ssd p
 
 -- a metadata page that an accepted call stores keeps the page's rule, and says the table's rows without used flags, the
 -- window and the stamp, as they are after the call; read and stored again, it is the same

@@ -5,6 +5,7 @@ pub mod Condition
 pub mod Sweep
 pub mod Plan
 pub mod Kinds
+pub mod Metadata
 pub mod Recovery
 pub mod Perform
 pub mod SlotMap

@@ -10,7 +10,7 @@ use Rattle.layout.specs.declared.Slot.{Slot}
 use Rattle.layout.specs.declared.Label.{Label}
 use Rattle.layout.specs.Places.{metaSpan, labelPlace, metaPlace, dataPlace, blockPlace, tableLength}
 use Rattle.layout.specs.LabelPage.{encodeLabel}
-use Rattle.layout.specs.MetaPage.{encodeMeta, rowsOn}
+use Rattle.layout.specs.MetaPage.{rowsOn}
 use Rattle.record.specs.declared.Record.{Record}
 use Rattle.record.specs.declared.Phase.the-variants.{Formatting, Ready}
 use Rattle.protocol.specs.Reply.{Reply, done}
@@ -19,20 +19,21 @@ use Rattle.record.specs.Record.{labelIn, windowIn, callersIn, recordOf, withHan
 use Rattle.record.specs.Window.{without, beside}
 use Rattle.protocol.specs.Box.{Box, ssdImage, hddImage, Store, Effect}
 use Rattle.protocol.specs.Recovery.{labelAt, metasOf, spentStamp, recover, phaseOf, offPage}
+use Rattle.protocol.specs.Metadata.{storePlace, metaBytes}
 use Rattle.protocol.specs.Plan.{grown, Move, stay, uses, usesAll, announces, lands, copies, confirms, mends, begins, formats, recovers}
 
 -- "A metadata store writes from the table (without used flags) the whole metadata page .., with the window, and the newest
--- stamp plus 1; it clears unsettled": page p, from this record and this table
-unfoldable pub confirmed : ℕ → Reply → Record → List ℕ → Effect
-confirmed p said r table =
+-- stamp plus 1; it clears unsettled": page p, from this record and this table, into this SSD image
+unfoldable pub confirmed : ℕ → Reply → Record → List ℕ → List ℕ → Effect
+confirmed p said r table ssd =
     record {
       said = said;
       state = withStamp r (r .newest + 1);
       table = table;
       store = some (record {
         image = ssdImage;
-        place = metaPlace (labelIn r) p;
-        bytes = encodeMeta (r .newest + 1) (windowIn r) (rowsOn p table);
+        place = storePlace (labelIn r) ssd p;
+        bytes = metaBytes (labelIn r) (r .newest + 1) (windowIn r) (rowsOn p table);
       });
     }
 
@@ -101,7 +102,7 @@ formatStore l table window zero = record { image = ssdImage; place = labelPlace;
 formatStore l table window (suc p) =
     elim (leb (metaSpan l) p) [
       | true ↦ record { image = ssdImage; place = labelPlace; bytes = encodeLabel l }
-      | false ↦ record { image = ssdImage; place = metaPlace l p; bytes = encodeMeta 0 window (rowsOn p table) }
+      | false ↦ record { image = ssdImage; place = metaPlace l p; bytes = metaBytes l 0 window (rowsOn p table) }
     ]
 
 -- "M + 2 steps; then ready, with those three set so again"
@@ -122,11 +123,11 @@ perform (stay said) x = record { said = said; state = x .state; table = x .table
 perform (uses s said) x =
     record { said = said; state = x .state; table = setFlags (x .table) s (withUsed (rowFlags (x .table) s)); store = none }
 perform (usesAll ss) x = record { said = done; state = x .state; table = usedAll ss (x .table); store = none }
-perform (announces said p table hand window callers) x = confirmed p said (grown (x .state) hand window callers) table
+perform (announces said p table hand window callers) x = confirmed p said (grown (x .state) hand window callers) table (x .images .ssd)
 perform (lands write s page) x = landedIn write s page x
 perform (copies s said table hand) x = copiedFrom s said table hand x
-perform confirms x = confirmed 0 done (x .state) (x .table)
-perform (mends p) x = confirmed p done (mendedAt p (x .state)) (x .table)
+perform confirms x = confirmed 0 done (x .state) (x .table) (x .images .ssd)
+perform (mends p) x = confirmed p done (mendedAt p (x .state)) (x .table) (x .images .ssd)
 perform (begins l) x = begun l
 perform (formats d) x =
     record {

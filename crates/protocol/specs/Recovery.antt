@@ -12,7 +12,7 @@ use Rattle.layout.specs.declared.Label.{Label}
 use Rattle.layout.specs.declared.Entry.{Entry}
 use Rattle.layout.specs.declared.LabelRead.{LabelRead}
 use Rattle.layout.specs.declared.LabelRead.the-variants.{Legal, Illegal}
-use Rattle.layout.specs.Places.{labelOf, metaPages, metaPlace, metaOf, entryOf, labelPlace}
+use Rattle.layout.specs.Places.{labelOf, metaPages, metaOf, entryOf, labelPlace}
 use Rattle.layout.specs.LabelPage.{decodeLabel}
 use Rattle.layout.specs.MetaPage.{stampOf, windowOf, entryAt, firsts, rowsFrom}
 use Rattle.layout.specs.PageRule.{pageTest, listed}
@@ -20,6 +20,7 @@ use Rattle.record.specs.declared.Record.{Record}
 use Rattle.record.specs.declared.Phase.{Phase}
 use Rattle.record.specs.declared.Phase.the-variants.{Recovering, Ready}
 use Rattle.protocol.specs.Rows.{valid, writing}
+use Rattle.protocol.specs.Metadata.{readMeta}
 use Rattle.record.specs.Record.{recordOf}
 
 -- the label of an SSD image (of one that has none, a label of nothing)
@@ -32,7 +33,7 @@ labelAt ssd = labelRead (decodeLabel (pageAt ssd labelPlace))
 
 -- the M metadata pages of an SSD image
 unfoldable pub metasOf : Label → List ℕ → List (List ℕ)
-metasOf l ssd = firsts (metaPages l) (λ p. pageAt ssd (metaPlace l p))
+metasOf l ssd = firsts (metaPages l) (readMeta l ssd)
 
 -- the entry of a slot, in the metadata pages
 unfoldable pub entryIn : List (List ℕ) → Slot → Entry

@@ -18,8 +18,8 @@ ghost use mathlib.Core.Bool.{true};
 ghost use Prim.Native.Nat.{_+_, _≤_, _<_};
 ghost use lib.ListN.{length};
 ghost use Rattle.pages.specs.Pages.{putPage};
-ghost use Rattle.layout.specs.Places.{metaPlace};
-ghost use Rattle.layout.specs.MetaPage.{encodeMeta, rowsOn};
+ghost use Rattle.layout.specs.MetaPage.{rowsOn};
+ghost use Rattle.protocol.specs.Metadata.{storePlace, metaBytes};
 ghost use Rattle.record.specs.Record.{largestStamp, labelIn, windowIn, withStamp};
 ghost use Rattle.protocol.specs.Recovery.{offPage};
 ghost use Rattle.protocol.specs.Plan.{lowestPage};
@@ -105,7 +105,7 @@ fn mend(ssd: &mut [u8], table: &[u32], state: Record) -> Outcome
     requires { ⌜ recordTest state ≡ true ⌝ }
     requires { ⌜ 1 ≤ state .count ⌝ }
     requires { ⌜ state .newest < largestStamp ⌝ }
-    ensures { λ q. ⌜ (q ≡ record { answer = Done; state = withStamp (mendedAt (lowestPage (windowIn state)) state) (state .newest + 1); stored = Ssd (metaPlace (labelIn state) (lowestPage (windowIn state))) }) × (now (ssd .exit) ≡ putPage (now (ssd .entry)) (metaPlace (labelIn state) (lowestPage (windowIn state))) (encodeMeta (state .newest + 1) (windowIn (mendedAt (lowestPage (windowIn state)) state)) (rowsOn (lowestPage (windowIn state)) (now (table .entry))))) ⌝ }
+    ensures { λ q. ⌜ (q ≡ record { answer = Done; state = withStamp (mendedAt (lowestPage (windowIn state)) state) (state .newest + 1); stored = Ssd (storePlace (labelIn state) (now (ssd .entry)) (lowestPage (windowIn state))) }) × (now (ssd .exit) ≡ putPage (now (ssd .entry)) (storePlace (labelIn state) (now (ssd .entry)) (lowestPage (windowIn state))) (metaBytes (labelIn state) (state .newest + 1) (windowIn (mendedAt (lowestPage (windowIn state)) state)) (rowsOn (lowestPage (windowIn state)) (now (table .entry))))) ⌝ }
 {
     let p = lowest_page(state::window_of(state));
     let next = mended(state, p);

@@ -23,6 +23,7 @@ use Rattle.layout.proofs.Loops.{left}
 use Rattle.layout.proofs.RuleLaws.{count-rule, page-rows}
 use Rattle.layout.proofs.JudgeLaws.{length-window, length-firsts}
 use Rattle.layout.specs.Window.{arrayOf, windowFrom}
+use Rattle.protocol.specs.Metadata.{readMeta}
 use Rattle.protocol.specs.Recovery.{metasOf, Newest, newer, newestFrom, newestOf, eachLegal}
 use Rattle.laws.proofs.why.PagesRules.{legal-get}
 use Rattle.record.proofs.WindowLaws.{take-array, array-more}
@@ -39,7 +40,7 @@ pages-most l h = omega (arith, h .slots-most)
 pub page-read : (l : Label) (ssd page : Part) (p : ℕ) → length (ssd .bytes) ≡ ssdLength l → p < metaPages l
     → page ≡ pagePart ssd (metaPlace l p)
     → (page .bytes ≡ getD (metasOf l (ssd .bytes)) p []) × (length (page .bytes) ≡ 4096)
-unfolding pagePart
+unfolding pagePart readMeta
 page-read l ssd page p size h e =
     let g : page .bytes ≡ pageAt (ssd .bytes) (metaPlace l p) = ap (λ (x : Part). x .bytes) e in (
       g ∙ sym (metas-at l (ssd .bytes) p h),

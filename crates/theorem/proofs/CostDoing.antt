@@ -31,6 +31,7 @@ use Rattle.protocol.specs.Rows.{rowBlock, rowFlags, valid, dirty}
 use Rattle.protocol.specs.Box.{Images, Box, Image, ssdImage, hddImage, Store, applied, storedOf, Effect, refusing}
 use Rattle.protocol.specs.Condition.{conditionOf, takesWrite}
 use Rattle.protocol.specs.Plan.{Call, offer, land, ask, cost, Move, offering, landing, plan, storesMeta}
+use Rattle.protocol.specs.Metadata.{storePlace}
 use Rattle.protocol.specs.Perform.{confirmed, perform}
 use Rattle.protocol.specs.Kinds.{Purpose, toWrite, toLand, aim}
 use Rattle.protocol.specs.Judge.{Reason, numberOf, slotOpen, windowFull, importFull, unknownCaller, blockTooHigh, wrongState, lengthTest, lengthsTest, test, chain, firstOf, judged}
@@ -141,7 +142,7 @@ module _ (im jm : Images) (z : Sizes im jm) (t : List ℕ) (r : Record) where
 
     by-turn : Legal y → {m : Move} → Taken y m → ((s : Store) → perform m y .store ≡ some s → length (s .bytes) ≡ 4096)
         → Alike im jm (perform m x) (perform m y)
-    unfolding perform confirmed
+    unfolding perform confirmed storePlace
     by-turn L (taken-stay n) W = record { said = refl; state = refl; table = refl; stored = refl; sizes = z }
     by-turn L (taken-open {s = s} O) W = record {
       said = refl;

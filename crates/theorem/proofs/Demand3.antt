@@ -20,6 +20,7 @@ use Rattle.record.proofs.CallerLaws.{named-of}
 use Rattle.protocol.specs.Reply.{refused}
 use Rattle.protocol.specs.Rows.{valid}
 use Rattle.protocol.specs.Box.{Box}
+use Rattle.protocol.specs.Metadata.{readMeta, metaBytes}
 use Rattle.protocol.specs.Recovery.{metasOf, entryIn, Newest, newestOf}
 use Rattle.protocol.specs.Plan.{format}
 use Rattle.protocol.specs.Calls.{resultOf}
@@ -97,6 +98,7 @@ module _ (l : Label) (x y : Box) (F : Formatted l x y) where
   none-open = nil-window (l .slots)
 
   page-is : (p : ℕ) → p < metaPages l → getD (metasOf l (F .ssd)) p [] ≡ encodeMeta 0 [] (rowsOn p (freeTable l))
+  unfolding readMeta metaBytes
   page-is p h = metas-at l (F .ssd) p h ∙ F .meta-pages p (page-place l p h)
 
   stamp-zero : (p : ℕ) → p < metaPages l → stampOf (getD (metasOf l (F .ssd)) p []) ≡ 0

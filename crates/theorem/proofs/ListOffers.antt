@@ -31,6 +31,7 @@ use Rattle.protocol.specs.Box.{Images, Box, applied, storedOf, Effect, left, bo
 use Rattle.protocol.specs.Condition.{conditionOf, isOpen, isCached, takesWrite}
 use Rattle.protocol.specs.Plan.{offer, offerList, grown, Move, takesAs, takes, opens, importOpen, offering, Offered, notYet, offeredBox, declines, onPage, dealtWith, placedAs, placed, offersFrom, announcing, together, firstBlock, plan, storesMeta}
 use Rattle.protocol.specs.Sweep.{Victim, sweep}
+use Rattle.protocol.specs.Metadata.{storePlace}
 use Rattle.protocol.specs.Perform.{confirmed, perform}
 use Rattle.protocol.specs.Judge.{Reason, numberOf, blockTooHigh, slotOpen, windowFull, allOpen, importFull, unknownCaller, agreeTest, test, judged}
 use Rattle.protocol.specs.Calls.{effectOf, resultOf}
@@ -244,7 +245,7 @@ module _ (x : Box) (on : x .state .phase ≡ Ready) (caller : ℕ) (known : ltb 
     -- by what the offer does
     by-turn : judged (offer b caller) y ≡ none → {v : Move} → Taken (offeredBox x z) v → offering y b caller k ≡ v
         → Step im m z b (dealtWith z v)
-    unfolding perform confirmed
+    unfolding perform confirmed storePlace
     by-turn j (taken-stay still-overwrite) e =
         goes-on _ im m refl (omega arith) I L (ap (λ (f : Effect). isTaken (f .said)) (made j e)) (ap (λ (f : Effect). boxAfter (left f im)) (made j e))
     by-turn j (taken-stay still-nothing) e = absurd
@@ -365,7 +366,7 @@ module _ (x : Box) (L : Legal x) (on : x .state .phase ≡ Ready) (caller : ℕ)
   announcing-leaves : {o : Option ℕ} {t : List ℕ} {h : Slot} {w : List Slot} {cs : List ℕ} → Ran x L S caller known o t h w cs → (k n : ℕ)
       → perform (announcing o (offeredOf k o t h w cs)) x .said ≡ dealt n
       → Leaves n (offeredOf k o t h w cs) (perform (announcing o (offeredOf k o t h w cs)) x)
-  unfolding perform confirmed
+  unfolding perform confirmed storePlace
   announcing-leaves ran-none k n s = record {
     counted = dealt-is k n s;
     table = refl;

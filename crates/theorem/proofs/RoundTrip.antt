@@ -12,11 +12,12 @@ use Rattle.pages.proofs.WordLaws.{bytes-small}
 use Rattle.layout.specs.declared.Slot.{Slot}
 use Rattle.layout.specs.declared.Label.{Label}
 use Rattle.layout.specs.declared.Entry.{Entry}
-use Rattle.layout.specs.Places.{metaPages, metaPlace}
+use Rattle.layout.specs.Places.{metaPages}
 use Rattle.layout.specs.MetaPage.{slotsBytes, entryBytes, rowsBytes, encodeMeta, rowsOn, entryAt, rowsFrom}
 use Rattle.layout.proofs.MetaLaws.{length-encode}
 use Rattle.layout.proofs.RuleLaws.{page-rule}
 use Rattle.layout.proofs.RoundTrip.{legal-back, legal-back-slots}
+use Rattle.protocol.specs.Metadata.{readMeta}
 use Rattle.protocol.specs.Recovery.{metasOf, entryIn, storedRows}
 use Rattle.protocol.specs.Beside.{ReadsBack, TableBack}
 use Rattle.laws.proofs.refine.Entries.{length-rows, rows-block, rows-flags}
@@ -88,21 +89,21 @@ reads-back l p page ok r = record {
 
 -- the rows of page p among the rows of all stored entries are those of its own entries
 module _ (l : Label) (ssd : List ℕ) (p : ℕ) (h : p < metaPages l) where
-  entry-here : (i : ℕ) → i < 240 → entryIn (metasOf l ssd) (record { 0 = 240 * p + i }) ≡ entryAt (pageAt ssd (metaPlace l p)) i
+  entry-here : (i : ℕ) → i < 240 → entryIn (metasOf l ssd) (record { 0 = 240 * p + i }) ≡ entryAt (readMeta l ssd p) i
   unfolding entryIn
   entry-here i q =
       let a : (240 * p + i) / 240 ≡ p = omega arith in
       let b : (240 * p + i) % 240 ≡ i = omega arith in
       rw (a, b, metas-at l ssd p h)
 
-  rows-here : rowsOn p (storedRows l (metasOf l ssd)) ≡ rowsFrom (min 240 (l .slots - 240 * p)) (entryAt (pageAt ssd (metaPlace l p)))
+  rows-here : rowsOn p (storedRows l (metasOf l ssd)) ≡ rowsFrom (min 240 (l .slots - 240 * p)) (entryAt (readMeta l ssd p))
   rows-here = ext-getD 0 _ _ sizes λ j q. word j (omega (arith, q, size)) (ℕ-discrete (j % 2) 0)
     where
       size : length (rowsOn p (storedRows l (metasOf l ssd))) ≡ 2 * min 240 (l .slots - 240 * p)
       size = simp (length-take, length-drop, length-rows) (omega arith)
 
       sizes : length (rowsOn p (storedRows l (metasOf l ssd)))
-          ≡ length (rowsFrom (min 240 (l .slots - 240 * p)) (entryAt (pageAt ssd (metaPlace l p))))
+          ≡ length (rowsFrom (min 240 (l .slots - 240 * p)) (entryAt (readMeta l ssd p)))
       sizes = size ∙ sym (length-rows _ _)
 
       taken : (j : ℕ) → j < 480 → getD (rowsOn p (storedRows l (metasOf l ssd))) j 0 ≡ getD (storedRows l (metasOf l ssd)) (480 * p + j) 0
@@ -111,7 +112,7 @@ module _ (l : Label) (ssd : List ℕ) (p : ℕ) (h : p < metaPages l) where
 
       word : (j : ℕ) → j < 2 * min 240 (l .slots - 240 * p) → Dec (j % 2 ≡ 0)
           → getD (rowsOn p (storedRows l (metasOf l ssd))) j 0
-          ≡ getD (rowsFrom (min 240 (l .slots - 240 * p)) (entryAt (pageAt ssd (metaPlace l p)))) j 0
+          ≡ getD (rowsFrom (min 240 (l .slots - 240 * p)) (entryAt (readMeta l ssd p))) j 0
       word j q (yes z) =
           let i : ℕ = j / 2 in
           let e : 480 * p + j ≡ 2 * (240 * p + i) = omega arith in
@@ -119,8 +120,8 @@ module _ (l : Label) (ssd : List ℕ) (p : ℕ) (h : p < metaPages l) where
           taken j (omega arith) ∙ ap (λ (n : ℕ). getD (storedRows l (metasOf l ssd)) n 0) e
           ∙ rows-block (l .slots) (λ s. entryIn (metasOf l ssd) (record { 0 = s })) (240 * p + i) (omega arith)
           ∙ ap (λ (x : Entry). x .block .0) (entry-here i (omega arith))
-          ∙ sym (rows-block _ (entryAt (pageAt ssd (metaPlace l p))) i (omega arith))
-          ∙ ap (λ (n : ℕ). getD (rowsFrom (min 240 (l .slots - 240 * p)) (entryAt (pageAt ssd (metaPlace l p)))) n 0) (sym g)
+          ∙ sym (rows-block _ (entryAt (readMeta l ssd p)) i (omega arith))
+          ∙ ap (λ (n : ℕ). getD (rowsFrom (min 240 (l .slots - 240 * p)) (entryAt (readMeta l ssd p))) n 0) (sym g)
       word j q (no z) =
           let i : ℕ = j / 2 in
           let e : 480 * p + j ≡ 2 * (240 * p + i) + 1 = omega arith in
@@ -128,8 +129,8 @@ module _ (l : Label) (ssd : List ℕ) (p : ℕ) (h : p < metaPages l) where
           taken j (omega arith) ∙ ap (λ (n : ℕ). getD (storedRows l (metasOf l ssd)) n 0) e
           ∙ rows-flags (l .slots) (λ s. entryIn (metasOf l ssd) (record { 0 = s })) (240 * p + i) (omega arith)
           ∙ ap (λ (x : Entry). x .flags) (entry-here i (omega arith))
-          ∙ sym (rows-flags _ (entryAt (pageAt ssd (metaPlace l p))) i (omega arith))
-          ∙ ap (λ (n : ℕ). getD (rowsFrom (min 240 (l .slots - 240 * p)) (entryAt (pageAt ssd (metaPlace l p)))) n 0) (sym g)
+          ∙ sym (rows-flags _ (entryAt (readMeta l ssd p)) i (omega arith))
+          ∙ ap (λ (n : ℕ). getD (rowsFrom (min 240 (l .slots - 240 * p)) (entryAt (readMeta l ssd p))) n 0) (sym g)
 
 pub table-back : TableBack
-table-back l ssd p h ok r = rw (rows-here l ssd p h) (reads-back l p (pageAt ssd (metaPlace l p)) ok r .own-slots)
+table-back l ssd p h ok r = rw (rows-here l ssd p h) (reads-back l p (readMeta l ssd p) ok r .own-slots)

@@ -16,6 +16,7 @@ use Rattle.layout.specs.declared.Label.{Label}
 use Rattle.layout.specs.Places.{Limits, metaPages, metaPlace, dataPlace, blockPlace, tableLength, metaSpan}
 use Rattle.layout.specs.LabelPage.{encodeLabel}
 use Rattle.layout.specs.MetaPage.{encodeMeta, rowsOn}
+use Rattle.protocol.specs.Metadata.{storePlace, metaBytes}
 use Rattle.layout.specs.PageRule.{PageRule}
 use Rattle.layout.proofs.PlaceLaws.{page-place, meta-not-label, metas-one, meta-below-data, data-within}
 use Rattle.layout.proofs.LabelLaws.{length-encode}
@@ -122,10 +123,11 @@ data Serving : Phase → Type 0 where
 -- a metadata store
 confirmed-stores : (l : Label) → Limits l → (r : Record) → labelIn r ≡ l → (table : List ℕ) → length table ≡ tableLength l → Rows l table
     → r .newest < largestStamp
-    → Window (l .slots) (nums (windowIn r)) → (ph : Phase) → Serving ph → (q : ℕ) (said : Reply) → Stores l ph (confirmed q said r table)
-unfolding confirmed
-confirmed-stores l K r e table size R n W ph v q said =
-    one-store l ph (confirmed q said r table) q _
+    → Window (l .slots) (nums (windowIn r)) → (ph : Phase) → Serving ph → (q : ℕ) (said : Reply) (ssd : List ℕ)
+    → Stores l ph (confirmed q said r table ssd)
+unfolding confirmed storePlace metaBytes
+confirmed-stores l K r e table size R n W ph v q said ssd =
+    one-store l ph (confirmed q said r table ssd) q _
     (ap (λ (k : Label). some (record {
       image = ssdImage;
       place = metaPlace k q;
@@ -165,7 +167,7 @@ module _ (x : Box) (L : Legal x) (on : x .state .phase ≡ Ready) where
       let T = openings-sound O S in
       confirmed-stores lab (L .limits) (grown (x .state) hand w cs) refl t (T .size) (T .legal) (omega arith)
       (subst (λ (z : List Slot). Window (x .state .label .slots) (nums z)) (sym (grown-window (x .state) hand w cs)) (T .rule))
-      (x .state .phase) serving q said
+      (x .state .phase) serving q said (x .images .ssd)
 
   does-stores : {a : Aim} {m : Move} → Does x a m → Stores lab (x .state .phase) (perform m x)
   unfolding perform
@@ -184,7 +186,7 @@ module _ (x : Box) (L : Legal x) (on : x .state .phase ≡ Ready) where
       lands-elsewhere lab (x .state .phase) false _ _ x refl (length-page (x .images .hdd) (blockPlace lab b) (omega (arith, L .hdd-size, bl)))
   does-stores (does-rest n u) = λ s g. no-store g
   does-stores (does-confirm u n) =
-      confirmed-stores lab (L .limits) (x .state) refl (x .table) (S .size) (S .legal) n (S .rule) (x .state .phase) serving 0 done
+      confirmed-stores lab (L .limits) (x .state) refl (x .table) (S .size) (S .legal) n (S .rule) (x .state .phase) serving 0 done (x .images .ssd)
 
 -- a step
 module _ (x : Box) (L : Legal x) where
@@ -201,7 +203,7 @@ module _ (x : Box) (L : Legal x) where
       (subst (λ (z : List Slot). Window (x .state .label .slots) (nums z)) (sym (mended-window q))
       (subst (λ (z : List ℕ). Window (x .state .label .slots) z) (sym (nums-off q (windowIn (x .state))))
       (keep-window _ (x .state .label .slots) (nums (windowIn (x .state))) (L .window-rule))))
-      (x .state .phase) (rw on recovering) q done
+      (x .state .phase) (rw on recovering) q done (x .images .ssd)
 
   -- while formatting nothing is open
   none-open : (d : ℕ) → x .state .phase ≡ Formatting d → windowIn (x .state) ≡ []
@@ -227,7 +229,7 @@ module _ (x : Box) (L : Legal x) where
       go false = refl
 
   formats-stores : (d : ℕ) → x .state .phase ≡ Formatting d → Stores (labelIn (x .state)) (x .state .phase) (perform (formats d) x)
-  unfolding perform
+  unfolding perform metaBytes
   formats-stores zero on = elsewhere (labelIn (x .state)) (x .state .phase) (perform (formats 0) x) _ refl length-zero
       (λ p h q. meta-not-label (labelIn (x .state)) p (sym q))
   formats-stores (suc q) on = go (told (leb (metaSpan (labelIn (x .state))) q))

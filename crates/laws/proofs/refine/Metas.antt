@@ -11,13 +11,14 @@ use lib.Seq.{getD-set-same, getD-set-other}
 use lib.Dec.{eqb}
 use borrow.Author.Tests.{lt-ltb, le-ltb, ne-eqb}
 use Rattle.layout.proofs.JudgeLaws.{length-firsts, get-firsts}
-use Rattle.pages.specs.Pages.{pageAt, putPage, Holds}
+use Rattle.pages.specs.Pages.{putPage, Holds}
 use Rattle.pages.proofs.PageLaws.{put-same, put-other}
 use Rattle.layout.specs.declared.Slot.{Slot}
 use Rattle.layout.specs.declared.Label.{Label}
-use Rattle.layout.specs.Places.{metaPages, metaPlace, metaOf, entryOf, ssdLength}
-use Rattle.layout.proofs.PlaceLaws.{page-place, metas-apart, meta-within}
-use Rattle.layout.specs.MetaPage.{stampOf, windowOf, entryAt, firsts}
+use Rattle.layout.specs.Places.{metaPages, metaSpan, labelPlace, metaPlace, dataPlace, metaOf, entryOf, ssdLength}
+use Rattle.layout.proofs.PlaceLaws.{page-place, meta-not-label, metas-apart, meta-below-data, meta-within}
+use Rattle.layout.specs.MetaPage.{encodeMeta, stampOf, windowOf, entryAt, firsts}
+use Rattle.protocol.specs.Metadata.{readMeta, storePlace, metaBytes}
 use Rattle.protocol.specs.Recovery.{metasOf, entryIn, Newest, newer, newestFrom, newestOf}
 
 pub firsts-ext : {A : Type 0} (n : ℕ) (f g : ℕ → A) → ((k : ℕ) → k < n → g k ≡ f k) → firsts n g ≡ firsts n f
@@ -43,26 +44,47 @@ module _ (l : Label) (ssd : List ℕ) where
   unfolding metasOf
   length-metas = length-firsts (metaPages l) _
 
-  pub metas-at : (p : ℕ) → p < metaPages l → getD (metasOf l ssd) p [] ≡ pageAt ssd (metaPlace l p)
+  pub metas-at : (p : ℕ) → p < metaPages l → getD (metasOf l ssd) p [] ≡ readMeta l ssd p
   unfolding metasOf
   metas-at p h = get-firsts (metaPages l) _ p [] h
 
-module _ (l : Label) (ssd : List ℕ) (size : length ssd ≡ ssdLength l) (page : List ℕ) (page-size : length page ≡ 4096) where
-  -- a metadata page is stored
-  pub metas-put : (p : ℕ) → p < metaPages l → metasOf l (putPage ssd (metaPlace l p) page) ≡ set (metasOf l ssd) p page
-  unfolding metasOf
+-- where a metadata page is stored: above the label, below the data pages, within the image
+module _ (l : Label) (ssd : List ℕ) (p : ℕ) (h : p < metaPages l) where
+  pub store-within : length ssd ≡ ssdLength l → Holds ssd (storePlace l ssd p)
+  unfolding storePlace
+  store-within size = rw size (meta-within l p (page-place l p h))
+
+  pub store-not-label : storePlace l ssd p ≢ labelPlace
+  unfolding storePlace
+  store-not-label = meta-not-label l p
+
+  pub store-below-data : (s : Slot) → storePlace l ssd p < dataPlace l s
+  unfolding storePlace
+  store-below-data = meta-below-data l p (page-place l p h)
+
+-- a metadata page is stored: it reads as its stamp, window and rows, and every other page as before
+module _ (l : Label) (ssd : List ℕ) (size : length ssd ≡ ssdLength l) (t : ℕ) (w : List Slot) (rows : List ℕ)
+    (page-size : length (encodeMeta t w rows) ≡ 4096) where
+  pub length-bytes : length (metaBytes l t w rows) ≡ 4096
+  unfolding metaBytes
+  length-bytes = page-size
+
+  pub metas-put : (p : ℕ) → p < metaPages l
+      → metasOf l (putPage ssd (storePlace l ssd p) (metaBytes l t w rows)) ≡ set (metasOf l ssd) p (encodeMeta t w rows)
+  unfolding metasOf readMeta storePlace metaBytes
   metas-put p h =
-      firsts-set (metaPages l) _ _ p page h
-      (put-same ssd page (metaPlace l p) fits page-size)
-      (λ k q n. put-other ssd page (metaPlace l p) (metaPlace l k) fits page-size (metas-apart l k p n))
+      firsts-set (metaPages l) _ _ p (encodeMeta t w rows) h
+      (put-same ssd (encodeMeta t w rows) (metaPlace l p) fits page-size)
+      (λ k q n. put-other ssd (encodeMeta t w rows) (metaPlace l p) (metaPlace l k) fits page-size (metas-apart l k p n))
     where
       fits : Holds ssd (metaPlace l p)
       fits = rw size (meta-within l p (page-place l p h))
 
+module _ (l : Label) (ssd : List ℕ) (page : List ℕ) (page-size : length page ≡ 4096) where
   -- a page elsewhere is stored
-  pub metas-else : (q : ℕ) → Holds ssd q → ((p : ℕ) → p < metaPages l → metaPlace l p ≢ q) → metasOf l (putPage ssd q page) ≡ metasOf l ssd
-  unfolding metasOf
-  metas-else q h n = firsts-ext (metaPages l) _ _ (λ k m. put-other ssd page q (metaPlace l k) h page-size (n k m))
+  pub metas-else : (q : ℕ) → Holds ssd q → ((k : ℕ) → k < metaSpan l → metaPlace l k ≢ q) → metasOf l (putPage ssd q page) ≡ metasOf l ssd
+  unfolding metasOf readMeta
+  metas-else q h n = firsts-ext (metaPages l) _ _ (λ k m. put-other ssd page q (metaPlace l k) h page-size (n k (page-place l k m)))
 
 -- entries
 pub entry-set : (pages : List (List ℕ)) (p : ℕ) (page : List ℕ) (s : Slot) → p < length pages

@@ -5,8 +5,9 @@ use mathlib.Core.List.{List}
 use mathlib.Core.Option.{Option, some, none}
 use Rattle.pages.specs.Pages.{pageAt}
 use Rattle.layout.specs.declared.Slot.{Slot}
-use Rattle.layout.specs.Places.{metaPlace, dataPlace, blockPlace}
-use Rattle.layout.specs.MetaPage.{encodeMeta, rowsOn}
+use Rattle.layout.specs.Places.{dataPlace, blockPlace}
+use Rattle.layout.specs.MetaPage.{rowsOn}
+use Rattle.protocol.specs.Metadata.{storePlace, metaBytes}
 use Rattle.protocol.specs.Rows.{rowBlock}
 use Rattle.record.specs.Record.{labelIn, windowIn}
 use Rattle.protocol.specs.Box.{Box, ssdImage, hddImage, Store}
@@ -18,9 +19,9 @@ pub data Stored (x : Box) : Bool → Option Store → Type 0 where
   metadata : (p : ℕ) (w : List Slot) (rows : List ℕ)
       → Stored x true (some (record {
         image = ssdImage;
-        place = metaPlace (labelIn (x .state)) p;
+        place = storePlace (labelIn (x .state)) (x .images .ssd) p;
         bytes =
-            encodeMeta (x .state .newest + 1) w rows;
+            metaBytes (labelIn (x .state)) (x .state .newest + 1) w rows;
       }))
   nothing : Stored x false none
   slotPage : (s : Slot) (page : List ℕ) → Stored x false

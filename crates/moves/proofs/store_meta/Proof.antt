@@ -1,6 +1,7 @@
 use native.Mathlib.Omega.{arith}
 use lib.ListN.{length-take, length-drop}
 use borrow.Author.Needs.{needs}
+use Rattle.protocol.specs.Metadata.{storePlace}
 use Rattle.record.specs.Record.{labelIn}
 use Rattle.moves.proofs.MoveLaws.{meta-fits, meta-holds, meta-low, meta-stored}
 use Rattle.moves.proofs.store_meta.Statement.{statement}
@@ -65,6 +66,7 @@ same-length : tie.Need-same-length
 same-length c = search needs
 
 returns : tie.Need-returns
+unfolding storePlace
 returns c =
     let s = c .before .before .before .before .before .before .before .before .before .before .before .before .before in
     let a = s .args in

@@ -40,6 +40,7 @@ use Rattle.layout.specs.MetaPage.{countOf, decodeEntry, encodeMeta, entryBytes,
 use Rattle.layout.specs.PageRule.{countTest, distinct, entriesFrom, entriesTest, entryTest, inRange, legalFlags, listed, pageTest, pairTest, passes, windowTest, zeroTest}
 use Rattle.protocol.specs.Sweep.{sweepFrom}
 use Rattle.protocol.specs.Recovery.{allOpenIn, blockIn, eachLegal, entryIn, metasOf, newestFrom, noneTwice, offPage, pagesTest, recover, recoverFrom, stampIn, stampsDiffer}
+use Rattle.protocol.specs.Metadata.{readMeta, storePlace, metaBytes}
 use Rattle.protocol.specs.Perform.{confirmed, usedAll, perform}
 
 pub record Sized (l : Label) (im : Images) : Type 0 where
@@ -228,7 +229,7 @@ unfolding sameLabel within storeWithin testKnown judgedKnown effectKnown reopens
     labelText encodeLabel after numberFrom number allZero decodeLabel slotsBytes entryBytes rowsBytes encodeMeta stampOf countOf slotAt
     firsts windowOf entryPart decodeEntry rowsFrom countTest zeroTest listed distinct inRange windowTest legalFlags pairTest entryTest
     entriesFrom entriesTest passes pageTest windowIn arrayOf without slotFrom conditionOf closedSlots sweepFrom lowestFrom plan highest
-    metasOf entryIn newestFrom eachLegal stampIn stampsDiffer blockIn noneTwice allOpenIn pagesTest recover recoverFrom offPage confirmed
+    readMeta storePlace metaBytes metasOf entryIn newestFrom eachLegal stampIn stampsDiffer blockIn noneTwice allOpenIn pagesTest recover recoverFrom offPage confirmed
     usedAll perform labelTest zeroSlots recordTest rowTest eachRow eachPlace rowsTest openRows test firstOf
     beside openBy callerArray callersIn placed offersFrom names namesOnce
 known l es bs x =

@@ -1,7 +1,7 @@
 -- Moves: what a call does where nothing refuses it. They need no whole image, so they are computed first: most wrong definitions stop
 -- here. The laws stand in a crate of their own, laws, so that a wrong definition stops at a case.
-use Prim.Native.Nat.{ℕ}
-use mathlib.Core.Path.{refl}
+use Prim.Native.Nat.{ℕ, _+_}
+use mathlib.Core.Path.{_≡_, refl}
 use mathlib.Core.Bool.{Bool, true, false}
 use mathlib.Core.List.{List, [], _∷_}
 use mathlib.Core.Option.{some, none}
@@ -16,6 +16,10 @@ use Rattle.protocol.specs.Plan.{step, flush, offer, land, fetch, landFet
 use Rattle.protocol.proofs.cases.Report.{diskOf, filled, metaPage, labelPage, pages}
 use Rattle.protocol.proofs.cases.Known.{known}
 use Rattle.layout.specs.declared.Slot.{Slot}
+use Rattle.layout.specs.declared.Label.{Label}
+use Rattle.layout.specs.Places.{metaPlace}
+use Rattle.pages.specs.Pages.{pageAt}
+use Rattle.protocol.specs.Metadata.{readMeta}
 use Rattle.record.specs.declared.Phase.{Phase}
 use Rattle.protocol.proofs.cases.Case.{Case, names, closed, AllHold, _first_, usual, two, textOf, imageless, leaving, stores, move, words}
 
@@ -200,9 +204,14 @@ shared =
     (by (1 ∷ []) (four (5 ∷ 7 ∷ 6 ∷ 3 ∷ 0 ∷ 0 ∷ 0 ∷ 0 ∷ []) 2 3 Ready false (record { 0 = 0 } ∷ []))))
     ∷ []
 
+-- "one label page, M metadata pages": metadata page p is read from page p + 1 of the SSD image
+read-at : (l : Label) (ssd : List ℕ) (p : ℕ) → readMeta l ssd p ≡ pageAt ssd (1 + p)
+unfolding readMeta metaPlace
+read-at l ssd p = refl
+
 Moves : AllHold moves
 unfolding known
-Moves = (refl, (refl, (refl, (refl, (refl, (refl, (refl, (refl, (refl, (refl, (refl, tt)))))))))))
+Moves = read-at first (refl, (refl, (refl, (refl, (refl, (refl, (refl, (refl, (refl, (refl, (refl, tt)))))))))))
 
 Wide : AllHold wide
 unfolding known textOf

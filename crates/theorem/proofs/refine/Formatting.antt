@@ -17,7 +17,8 @@ use Rattle.layout.specs.declared.Slot.{Slot}
 use Rattle.layout.specs.declared.Label.{Label}
 use Rattle.layout.specs.Places.{Limits, labelOf, metaSpan, formatSteps, labelPlace, metaPlace, dataPlace, ssdLength, hddLength, tableLength}
 use Rattle.layout.specs.LabelPage.{encodeLabel}
-use Rattle.layout.specs.MetaPage.{encodeMeta, rowsOn}
+use Rattle.layout.specs.MetaPage.{rowsOn}
+use Rattle.protocol.specs.Metadata.{metaBytes}
 use Rattle.layout.specs.PageRule.{inRange, distinct, pairTest, legalFlags}
 use Rattle.layout.proofs.PlaceLaws.{within, meta-not-label, metas-apart, meta-below-data, label-below-data, label-within, meta-within}
 use Rattle.layout.proofs.Booleans.{clash, and-parts}
@@ -82,7 +83,7 @@ no-window l ph = refl
 
 -- where each step stores
 store-meta : (l : Label) (p : ℕ) → p < metaSpan l
-    → storeAt l (suc p) ≡ record { image = ssdImage; place = metaPlace l p; bytes = encodeMeta 0 [] (rowsOn p (freeTable l)) }
+    → storeAt l (suc p) ≡ record { image = ssdImage; place = metaPlace l p; bytes = metaBytes l 0 [] (rowsOn p (freeTable l)) }
 store-meta l p h = rw (formatStore, lt-leb (metaSpan l) p h)
 
 store-label : (l : Label) (p : ℕ) → metaSpan l ≤ p
@@ -165,7 +166,8 @@ steps-more zero x = refl
 steps-more (suc n) x = steps-more n (boxAfter (resultOf step x))
 
 -- the page that a step stores is a page of the image
-length-meta : (p : ℕ) (l : Label) → length (encodeMeta 0 [] (rowsOn p (freeTable l))) ≡ 4096
+length-meta : (p : ℕ) (l : Label) → length (metaBytes l 0 [] (rowsOn p (freeTable l))) ≡ 4096
+unfolding metaBytes
 length-meta p l = meta.length-encode 0 [] (rowsOn p (freeTable l)) (omega arith)
     (omega (arith, length-take 480 (drop (480 * p) (freeTable l))))
 
@@ -243,13 +245,13 @@ module _ (l : Label) (ssd hdd : List ℕ) (L : Limits l) (hs : length ssd ≡ ss
       rw n (rw e at (gets-page (suc (metaSpan l))))
 
   -- metadata page p is stored by the step after p + 1 others
-  pub format-meta : (k p : ℕ) → p < metaSpan l → p + 1 < k → pageAt (formatSsd l ssd k) (metaPlace l p) ≡ encodeMeta 0 [] (rowsOn p (freeTable l))
+  pub format-meta : (k p : ℕ) → p < metaSpan l → p + 1 < k → pageAt (formatSsd l ssd k) (metaPlace l p) ≡ metaBytes l 0 [] (rowsOn p (freeTable l))
   format-meta zero p h q = absurd (omega arith)
   format-meta (suc zero) p h q = absurd (omega arith)
   format-meta (suc (suc d)) p h q = go (ℕ-discrete p d) (format-meta (suc d) p h)
     where
-      go : Dec (p ≡ d) → (p + 1 < suc d → pageAt (formatSsd l ssd (suc d)) (metaPlace l p) ≡ encodeMeta 0 [] (rowsOn p (freeTable l)))
-          → pageAt (formatSsd l ssd (suc (suc d))) (metaPlace l p) ≡ encodeMeta 0 [] (rowsOn p (freeTable l))
+      go : Dec (p ≡ d) → (p + 1 < suc d → pageAt (formatSsd l ssd (suc d)) (metaPlace l p) ≡ metaBytes l 0 [] (rowsOn p (freeTable l)))
+          → pageAt (formatSsd l ssd (suc (suc d))) (metaPlace l p) ≡ metaBytes l 0 [] (rowsOn p (freeTable l))
       go (yes e) ih = rw (← e) (rw (store-meta l p h) at (gets-page (suc p)))
       go (no n) ih = keeps-page (suc d) (metaPlace l p) (store-else l d p n) ∙ ih (omega arith)
 
@@ -297,7 +299,7 @@ pub record Formatted (l : Label) (x y : Box) : Type 0 where
   pub ssd-size : length ssd ≡ ssdLength l
   pub hdd-size : length (x .images .hdd) ≡ hddLength l
   pub label-page : pageAt ssd labelPlace ≡ encodeLabel l
-  pub meta-pages : (p : ℕ) → p < metaSpan l → pageAt ssd (metaPlace l p) ≡ encodeMeta 0 [] (rowsOn p (freeTable l))
+  pub meta-pages : (p : ℕ) → p < metaSpan l → pageAt ssd (metaPlace l p) ≡ metaBytes l 0 [] (rowsOn p (freeTable l))
 
 -- the k-th step from a box stores this
 abbrev pub StoresAt : ℕ → Box → Store → Type 0

@@ -12,9 +12,10 @@ use Rattle.pages.specs.Pages.{pageAt, putPage}
 use Rattle.pages.proofs.PageLaws.{length-page}
 use Rattle.layout.specs.declared.Slot.{Slot}
 use Rattle.layout.specs.declared.Label.{Label}
-use Rattle.layout.specs.Places.{metaPages, metaPlace, dataPlace, tableLength}
+use Rattle.layout.specs.Places.{metaPages, dataPlace, tableLength}
 use Rattle.layout.proofs.PlaceLaws.{data-within}
-use Rattle.layout.specs.MetaPage.{encodeMeta, rowsOn}
+use Rattle.layout.specs.MetaPage.{rowsOn}
+use Rattle.protocol.specs.Metadata.{storePlace, metaBytes}
 use Rattle.layout.specs.PageRule.{distinct}
 use Rattle.record.specs.declared.Record.{Record}
 use Rattle.record.specs.declared.Phase.{Phase}
@@ -98,7 +99,7 @@ module _ (l : Label) (k : Core) (S : Shape l k) where
 -- a metadata store: page p, of the table v, with the window w, whose places have these callers
 abbrev pub storedCore : Label → Core → List ℕ → Slot → List Slot → List ℕ → ℕ → Bool → Core
 storedCore l k v hand w cs p r = record {
-  ssd = putPage (k .ssd) (metaPlace l p) (encodeMeta (k .newest + 1) w (rowsOn p v));
+  ssd = putPage (k .ssd) (storePlace l (k .ssd) p) (metaBytes l (k .newest + 1) w (rowsOn p v));
   hdd = k .hdd;
   table = v;
   hand = hand;
@@ -142,15 +143,15 @@ module _
       callers = C;
     }
 
-    ents : (s : ℕ) → entryRow l (metasOf l (putPage (k .ssd) (metaPlace l p) (encodeMeta (k .newest + 1) w (rowsOn p v)))) s ≡ cond (eqb (s / 240) p)
+    ents : (s : ℕ) → entryRow l (metasOf l (putPage (k .ssd) (storePlace l (k .ssd) p) (metaBytes l (k .newest + 1) w (rowsOn p v)))) s ≡ cond (eqb (s / 240) p)
         (rowAt v s) (entryRow l (metasOf l (k .ssd)) s)
     ents = put-entry l (k .ssd) (k .hdd) (S .images) v size R (k .newest + 1) fits newer w W p p-page
 
-    dats : (s : ℕ) → pageAt (putPage (k .ssd) (metaPlace l p) (encodeMeta (k .newest + 1) w (rowsOn p v))) (dataPlace l (record { 0 = s })) ≡ pageAt (k .ssd)
+    dats : (s : ℕ) → pageAt (putPage (k .ssd) (storePlace l (k .ssd) p) (metaBytes l (k .newest + 1) w (rowsOn p v))) (dataPlace l (record { 0 = s })) ≡ pageAt (k .ssd)
         (dataPlace l (record { 0 = s }))
     dats = put-page l (k .ssd) (k .hdd) (S .images) v size R (k .newest + 1) fits newer w W p p-page
 
-    news : newestOf (metasOf l (putPage (k .ssd) (metaPlace l p) (encodeMeta (k .newest + 1) w (rowsOn p v)))) ≡
+    news : newestOf (metasOf l (putPage (k .ssd) (storePlace l (k .ssd) p) (metaBytes l (k .newest + 1) w (rowsOn p v)))) ≡
         record { stamp = k .newest + 1; window = w }
     news = put-newest l (k .ssd) (k .hdd) (S .images) v size R (k .newest + 1) fits newer w W p p-page
 
@@ -194,7 +195,7 @@ module _
 -- what a metadata store leaves, with the window of the record and that of the page
 abbrev twoWindows : Label → Core → List ℕ → Slot → ℕ → Phase → List ℕ → List Slot → List Slot → Box
 twoWindows l k v hand p ph cs w z = record {
-  images = record { ssd = putPage (k .ssd) (metaPlace l p) (encodeMeta (k .newest + 1) z (rowsOn p v)); hdd = k .hdd };
+  images = record { ssd = putPage (k .ssd) (storePlace l (k .ssd) p) (metaBytes l (k .newest + 1) z (rowsOn p v)); hdd = k .hdd };
   table = v;
   state = putCallers (recordOf l hand (k .newest + 1) ph false w) cs;
 }

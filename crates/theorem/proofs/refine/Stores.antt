@@ -15,10 +15,10 @@ use Rattle.pages.specs.Pages.{pageAt, putPage, Holds}
 use Rattle.pages.proofs.PageLaws.{put-same, put-other, length-put}
 use Rattle.layout.specs.declared.Slot.{Slot}
 use Rattle.layout.specs.declared.Label.{Label}
-use Rattle.layout.specs.Places.{Limits, metaPages, metaPlace, dataPlace, tableLength}
+use Rattle.layout.specs.Places.{Limits, metaPages, dataPlace, tableLength}
 use Rattle.layout.specs.MetaPage.{encodeMeta, rowsOn, stampOf, windowOf, entryAt}
 use Rattle.layout.specs.PageRule.{pageTest, pairTest, inRange}
-use Rattle.layout.proofs.PlaceLaws.{page-place, meta-not-label, label-below-data, meta-below-data, datas-apart, meta-within, data-within}
+use Rattle.layout.proofs.PlaceLaws.{label-below-data, meta-below-data, datas-apart, data-within}
 use Rattle.layout.proofs.RoundTrip.{encoded-legal, range-fit}
 use Rattle.layout.proofs.MetaLaws.{length-encode, encode-stamp, encode-window, encode-entry}
 use Rattle.protocol.specs.Recovery.{metasOf, entryIn, newestOf}
@@ -31,7 +31,8 @@ use Rattle.laws.proofs.model.Model.{Row}
 use Rattle.laws.proofs.refine.Windows.{nums, length-nums, distinct-nums, below-nums}
 use Rattle.laws.proofs.refine.Flags.{rowOf, LegalRow, row-legal}
 use Rattle.laws.proofs.refine.Tables.{rowAt, rowAt-out, Rows}
-use Rattle.laws.proofs.refine.Metas.{metas-put, metas-else, length-metas, entry-set, newest-set, stamp-most}
+use Rattle.protocol.specs.Metadata.{storePlace, metaBytes}
+use Rattle.laws.proofs.refine.Metas.{metas-put, metas-else, length-metas, entry-set, newest-set, stamp-most, store-within, store-not-label, store-below-data, length-bytes}
 use Rattle.laws.proofs.refine.Abstract.{entryRow, Pages, ImagesKept}
 
 -- the row of slot s stands in the rows of its page
@@ -150,14 +151,18 @@ module _
     sized = page-size l (K .limits) table size R t t-fits w W p
 
     new : List ℕ
-    new = putPage ssd (metaPlace l p) page
+    new = putPage ssd (storePlace l ssd p) (metaBytes l t w (rowsOn p table))
 
-    fits : Holds ssd (metaPlace l p)
-    fits = rw (K .ssd-size) (meta-within l p (page-place l p p-page))
+    fits : Holds ssd (storePlace l ssd p)
+    fits = store-within l ssd p p-page (K .ssd-size)
+
+    bytes-sized : length (metaBytes l t w (rowsOn p table)) ≡ 4096
+    unfolding page
+    bytes-sized = length-bytes l ssd (K .ssd-size) t w (rowsOn p table) sized
 
     new-metas : metasOf l new ≡ set (metasOf l ssd) p page
-    unfolding new
-    new-metas = metas-put l ssd (K .ssd-size) page sized p p-page
+    unfolding new page
+    new-metas = metas-put l ssd (K .ssd-size) t w (rowsOn p table) sized p p-page
 
     p-there : p < length (metasOf l ssd)
     p-there = omega (arith, length-metas l ssd)
@@ -199,9 +204,9 @@ module _
         let wi : windowOf page ≡ w = unfold page in page-window l (K .limits) table size R t t-fits w W p in
         rw (new-metas, newest-set (metasOf l ssd) p page p-there (rw st newer), st, wi)
 
-    new-else : (q : ℕ) → q ≢ metaPlace l p → pageAt new q ≡ pageAt ssd q
+    new-else : (q : ℕ) → q ≢ storePlace l ssd p → pageAt new q ≡ pageAt ssd q
     unfolding new
-    new-else q n = put-other ssd page (metaPlace l p) q fits sized n
+    new-else q n = put-other ssd _ (storePlace l ssd p) q fits bytes-sized n
 
     old-stamp : (q : ℕ) → q < metaPages l → stampOf (getD (metasOf l ssd) q []) < t
     old-stamp q h = omega (arith, stamp-most (record { stamp = 0; window = [] }) (metasOf l ssd) q (omega (arith, length-metas l ssd)))
@@ -235,29 +240,30 @@ module _
         apart q r h k (no e) (no f) d z = rw (there q e, there r f) (K .pages .apart q r h k d (rw (there q e) at z))
 
     -- the same, with the page written out
-    pub put-kept : ImagesKept l (putPage ssd (metaPlace l p) (encodeMeta t w (rowsOn p table))) hdd
+    pub put-kept : ImagesKept l (putPage ssd (storePlace l ssd p) (metaBytes l t w (rowsOn p table))) hdd
     unfolding new page
     put-kept = record {
       limits = K .limits;
-      ssd-size = length-put ssd page (metaPlace l p) fits sized ∙ K .ssd-size;
+      ssd-size = length-put ssd _ (storePlace l ssd p) fits bytes-sized ∙ K .ssd-size;
       hdd-size = K .hdd-size;
-      label-page = new-else 0 (λ e. meta-not-label l p (sym e)) ∙ K .label-page;
+      label-page = new-else 0 (λ e. store-not-label l ssd p p-page (sym e)) ∙ K .label-page;
       pages = new-pages;
     }
 
-    pub put-entry : (s : ℕ) → entryRow l (metasOf l (putPage ssd (metaPlace l p) (encodeMeta t w (rowsOn p table)))) s ≡ cond (eqb (s / 240) p)
+    pub put-entry : (s : ℕ) → entryRow l (metasOf l (putPage ssd (storePlace l ssd p) (metaBytes l t w (rowsOn p table)))) s ≡ cond (eqb (s / 240) p)
         (rowAt table s) (entryRow l (metasOf l ssd) s)
     unfolding new page
     put-entry = new-entry
 
-    pub put-newest : newestOf (metasOf l (putPage ssd (metaPlace l p) (encodeMeta t w (rowsOn p table)))) ≡ record { stamp = t; window = w }
+    pub put-newest : newestOf (metasOf l (putPage ssd (storePlace l ssd p) (metaBytes l t w (rowsOn p table)))) ≡ record { stamp = t; window = w }
     unfolding new page
     put-newest = new-newest
 
-    pub put-page : (s : ℕ) → pageAt (putPage ssd (metaPlace l p) (encodeMeta t w (rowsOn p table))) (dataPlace l (record { 0 = s })) ≡ pageAt ssd
+    pub put-page : (s : ℕ) → pageAt (putPage ssd (storePlace l ssd p) (metaBytes l t w (rowsOn p table))) (dataPlace l (record { 0 = s })) ≡ pageAt ssd
         (dataPlace l (record { 0 = s }))
     unfolding new page
-    put-page s = new-else (dataPlace l (record { 0 = s })) (λ e. omega (arith, e, meta-below-data l p (page-place l p p-page) (record { 0 = s })))
+    put-page s = new-else (dataPlace l (record { 0 = s }))
+        (λ e. omega (arith, e, store-below-data l ssd p p-page (record { 0 = s })))
 
 -- a data page stored
 module _ (l : Label) (ssd hdd : List ℕ) (K : ImagesKept l ssd hdd) (s : ℕ) (s-slot : s < l .slots) (d : List ℕ)
@@ -269,8 +275,8 @@ module _ (l : Label) (ssd hdd : List ℕ) (K : ImagesKept l ssd hdd) (s : ℕ) (
   data-else q n = put-other ssd d (dataPlace l (record { 0 = s })) q data-fits d-size n
 
   pub data-metas : metasOf l (putPage ssd (dataPlace l (record { 0 = s })) d) ≡ metasOf l ssd
-  data-metas = metas-else l ssd (K .ssd-size) d d-size (dataPlace l (record { 0 = s })) data-fits
-      (λ p h e. omega (arith, e, meta-below-data l p (page-place l p h) (record { 0 = s })))
+  data-metas = metas-else l ssd d d-size (dataPlace l (record { 0 = s })) data-fits
+      (λ k h e. omega (arith, e, meta-below-data l k h (record { 0 = s })))
 
   pub data-kept : ImagesKept l (putPage ssd (dataPlace l (record { 0 = s })) d) hdd
   data-kept = record {
