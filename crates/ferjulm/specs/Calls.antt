@@ -5,10 +5,10 @@ use mathlib.Core.List.{List}
 use mathlib.Core.Option.{Option, some, none}
 use lib.ListN.{length}
 use lib.Dec.{eqb}
-use Rattle.layout.specs.Places.{labelOf, withinLimits}
+use Rattle.layout.specs.Places.{withinLimits}
 use Rattle.record.specs.declared.Record.{Record}
 use Rattle.protocol.specs.Box.{Result}
-use Rattle.protocol.specs.Plan.{Call, format, reopen}
+use Rattle.protocol.specs.Plan.{Call, format, reopen, formatLabel}
 use Rattle.protocol.specs.Judge.{labelTest}
 use Rattle.protocol.specs.Calls.{resultOf, boxOf}
 use Rattle.c_answers.specs.declared.Place.{Place}
@@ -83,7 +83,7 @@ cFresh n c ssd hdd table words =
 -- format: of another length 3, after 1
 abbrev pub cFormat : ℕ → ℕ → List ℕ → List ℕ → List ℕ → List ℕ → Left
 cFormat slots blocks ssd hdd table words =
-    cFresh (cond (withinLimits (labelOf slots blocks)) 3 1) (format slots blocks) ssd hdd table words
+    cFresh (cond (withinLimits (formatLabel slots blocks)) 3 1) (format slots blocks) ssd hdd table words
 
 -- reopen: of another length 3, after 2
 abbrev pub cReopen : List ℕ → List ℕ → List ℕ → List ℕ → Left

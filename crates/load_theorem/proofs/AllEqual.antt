@@ -12,6 +12,7 @@ use borrow.Author.Tests.{eq-eqb, ne-eqb}
 use Rattle.pages.specs.Pages.{pageAt, putPage}
 use Rattle.pages.proofs.PageLaws.{length-put, put-same, put-other}
 use Rattle.layout.specs.declared.Block.{Block}
+use Rattle.layout.specs.declared.Label.{Label}
 use Rattle.record.specs.declared.Phase.the-variants.{Ready}
 use Rattle.protocol.specs.Reply.{refused}
 use Rattle.protocol.specs.Box.{Box, boxAfter}
@@ -170,7 +171,9 @@ equal-all x plain K zero h = refl
 equal-all x plain K (suc n) h =
     let b : Block = record { 0 = n } in
     let on : isReady (x .state .phase) ≡ true = ap isReady (K .ready) in
-    let e : readOf x b ≡ pageAt plain n = reached-safe (K .reached) .reads on b (omega arith) ∙ K .pages b (omega arith) in
+    let S = reached-safe (K .reached) in
+    let low : n < x .state .label .blocks = subst (λ (l : Label). n < l .blocks) (sym (S .label)) (omega arith) in
+    let e : readOf x b ≡ pageAt plain n = S .reads on b low ∙ K .pages b (omega arith) in
     let t : same (readOf x b) (pageAt plain n) ≡ true = ap (λ (p : List ℕ). same p (pageAt plain n)) e ∙ same-self (pageAt plain n) in
     ap (λ (s : Bool). counted s (equalTo n x plain)) t ∙ ap (λ (m : ℕ). m + 1) (equal-all x plain K n (omega arith)) ∙ add-one n
 

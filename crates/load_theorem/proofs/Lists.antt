@@ -44,7 +44,7 @@ start = startOf p1 (formatted 4 8 blank)
 -- a list of demand 3 that leads to a world
 pub record Reached (w : World) : Type 0 where
   pub events : List Event
-  pub fit : AllFit p1 events start
+  pub fit : AllFit events start
   pub leads : run events start ≡ w
 
 run-last : (es : List Event) (e : Event) (w : World) → run (es ++ (e ∷ [])) w ≡ apply e (run es w)
@@ -52,15 +52,15 @@ unfolding run
 run-last [] e w = refl
 run-last (d ∷ es) e w = run-last es e (apply d w)
 
-fit-last : (es : List Event) (e : Event) (w : World) → AllFit p1 es w → Fits p1 e (run es w) → AllFit p1 (es ++ (e ∷ [])) w
+fit-last : (es : List Event) (e : Event) (w : World) → AllFit es w → Fits e (run es w) → AllFit (es ++ (e ∷ [])) w
 unfolding run
 fit-last [] e w f g = (g, tt)
 fit-last (d ∷ es) e w f g = (f .0, fit-last es e (apply d w) (f .1) g)
 
-pub one-more : {w : World} (e : Event) → Fits p1 e w → Reached w → Reached (apply e w)
+pub one-more : {w : World} (e : Event) → Fits e w → Reached w → Reached (apply e w)
 one-more {w = w} e f r = record {
   events = r .events ++ (e ∷ []);
-  fit = fit-last (r .events) e start (r .fit) (subst (Fits p1 e) (sym (r .leads)) f);
+  fit = fit-last (r .events) e start (r .fit) (subst (Fits e) (sym (r .leads)) f);
   leads = run-last (r .events) e start ∙ ap (apply e) (r .leads);
 }
 

@@ -12,7 +12,7 @@ use Rattle.pages.specs.Parts.{Part}
 use Rattle.layout.specs.declared.Slot.{Slot}
 use Rattle.layout.specs.declared.Block.{Block}
 use Rattle.layout.specs.declared.Label.{Label}
-use Rattle.layout.specs.Places.{Limits, labelOf, formatSteps, labelPlace, metaPages, metaPlace, metaOf, slotOn}
+use Rattle.layout.specs.Places.{Limits, formatSteps, labelPlace, metaPages, metaPlace, metaOf, slotOn}
 use Rattle.protocol.specs.Metadata.{readMeta}
 use Rattle.layout.specs.MetaPage.{encodeMeta, rowsOn, stampOf, windowOf, entryAt, rowsFrom}
 use Rattle.layout.specs.PageRule.{PageRule, listed}
@@ -31,7 +31,7 @@ use Rattle.record.specs.Callers.{openBy}
 use Rattle.record.specs.Record.{labelIn, windowIn, callersIn, windowOf as recordWindow, withStamp, putWindow}
 use Rattle.protocol.specs.Box.{Images, Box, ssdImage, hddImage, Store, Effect, refusing, Result, boxAfter}
 use Rattle.protocol.specs.Condition.{conditionOf, isOpen}
-use Rattle.protocol.specs.Plan.{Ask, slotMap, cost, Call, format, step, reopen, offer, fetch, land, landFetch, lookUp, lookUpList, offerList, ask}
+use Rattle.protocol.specs.Plan.{Ask, slotMap, cost, Call, format, step, reopen, offer, fetch, land, landFetch, lookUp, lookUpList, offerList, ask, formatLabel}
 use Rattle.protocol.specs.Kinds.{Purpose, aim}
 use Rattle.protocol.specs.Recovery.{labelAt, metasOf, spentStamp, entryIn, storedRows, Recovered, recoverFrom}
 use Rattle.protocol.specs.SlotMap.{letterOf, mapLines, mapBytes, mapText}
@@ -47,10 +47,10 @@ use Rattle.protocol.specs.Demand3.{storedWindow, slotSaid}
 -- one at each step.
 pub record FormatStores (slots blocks : ℕ) (x : Box) : Type 0 where
   pub none-first : effectOf (format slots blocks) x .store ≡ none
-  pub one-each : (k : ℕ) → k < formatSteps (labelOf slots blocks)
+  pub one-each : (k : ℕ) → k < formatSteps (formatLabel slots blocks)
       → (s : Store) × (effectOf step (steps k (boxAfter (resultOf (format slots blocks) x))) .store ≡ some s)
   -- "a zero label page, the M metadata pages .., the label": from the first step till the last the label page is zero
-  pub zero-till-last : (k : ℕ) → 0 < k → k < formatSteps (labelOf slots blocks)
+  pub zero-till-last : (k : ℕ) → 0 < k → k < formatSteps (formatLabel slots blocks)
       → pageAt (steps k (boxAfter (resultOf (format slots blocks) x)) .images .ssd) labelPlace ≡ zeroPage
 
 abbrev pub WholeFormat : Type 0
@@ -514,8 +514,8 @@ UpdateBeforeData =
     (slots blocks : ℕ) (x : Box)
     → refused (resultOf (format slots blocks) x .said) ≡ false
     → (es : List Event)
-    → AllFit (labelOf slots blocks) es (startOf (labelOf slots blocks) (formatted slots blocks x))
-    → UpdateFirst (labelOf slots blocks) (run es (startOf (labelOf slots blocks) (formatted slots blocks x)))
+    → AllFit es (startOf (formatLabel slots blocks) (formatted slots blocks x))
+    → UpdateFirst (formatLabel slots blocks) (run es (startOf (formatLabel slots blocks) (formatted slots blocks x)))
 
 -- Document 02, N7: "Caller 1 may have at most 8 slots open, all together at most 63"; "Each window place in the record names its caller":
 -- there are as many callers as slots.
@@ -530,5 +530,5 @@ ImportBounded =
     (slots blocks : ℕ) (x : Box)
     → refused (resultOf (format slots blocks) x .said) ≡ false
     → (es : List Event)
-    → AllFit (labelOf slots blocks) es (startOf (labelOf slots blocks) (formatted slots blocks x))
-    → Bounded (run es (startOf (labelOf slots blocks) (formatted slots blocks x)) .box .state)
+    → AllFit es (startOf (formatLabel slots blocks) (formatted slots blocks x))
+    → Bounded (run es (startOf (formatLabel slots blocks) (formatted slots blocks x)) .box .state)

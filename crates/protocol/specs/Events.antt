@@ -9,11 +9,12 @@ use Rattle.pages.specs.Pages.{pageAt}
 use Rattle.pages.specs.Parts.{Part}
 use Rattle.layout.specs.declared.Block.{Block}
 use Rattle.layout.specs.declared.Label.{Label}
-use Rattle.layout.specs.Places.{labelOf, blockPlace, formatSteps, tableLength}
+use Rattle.layout.specs.Places.{blockPlace, formatSteps, tableLength}
 use Rattle.record.specs.declared.Record.{Record}
 use Rattle.protocol.specs.Reply.{refused}
 use Rattle.protocol.specs.Box.{Images, Box, Store, applied, Result, boxAfter}
-use Rattle.protocol.specs.Plan.{Call, format, step, reopen}
+use Rattle.protocol.specs.Plan.{Call, format, step, reopen, formatLabel}
+use Rattle.protocol.specs.Recovery.{labelAt}
 use Rattle.protocol.specs.Kinds.{Kind, aFormat, aReopening, aStep, aService, kind}
 use Rattle.protocol.specs.Judge.{isReady}
 use Rattle.protocol.specs.Calls.{effectOf, resultOf, viewOf}
@@ -116,7 +117,7 @@ steps zero x = x
 steps (suc n) x = steps n (boxAfter (resultOf step x))
 
 unfoldable pub formatted : ℕ → ℕ → Box → Box
-formatted slots blocks x = steps (formatSteps (labelOf slots blocks)) (boxAfter (resultOf (format slots blocks) x))
+formatted slots blocks x = steps (formatSteps (formatLabel slots blocks)) (boxAfter (resultOf (format slots blocks) x))
 
 -- "both at first its HDD page"
 abbrev pub startOf : Label → Box → World
@@ -132,11 +133,15 @@ KindFits (aService a) r = Unit {0}
 abbrev pub CallFits : Call → World → Type 0
 CallFits c w = KindFits (kind c) (refused (resultOf c (w .box) .said))
 
-abbrev pub Fits : Label → Event → World → Type 0
-Fits l (call c) w = CallFits c w
-Fits l (reopens j) w = Unit {0}
-Fits l (cut c a j) w = CallFits c w × (length (j .table) ≡ tableLength l)
+-- "any table of the right length": by the label that the images have, since the record may be any
+abbrev pub RightLength : Images → List ℕ → Type 0
+RightLength im table = length table ≡ tableLength (labelAt (im .ssd))
 
-abbrev pub AllFit : Label → List Event → World → Type 0
-AllFit l [] w = Unit {0}
-AllFit l (e ∷ es) w = Fits l e w × AllFit l es (apply e w)
+abbrev pub Fits : Event → World → Type 0
+Fits (call c) w = CallFits c w
+Fits (reopens j) w = Unit {0}
+Fits (cut c a j) w = CallFits c w × RightLength (crashed c a w .box .images) (j .table)
+
+abbrev pub AllFit : List Event → World → Type 0
+AllFit [] w = Unit {0}
+AllFit (e ∷ es) w = Fits e w × AllFit es (apply e w)

@@ -3,8 +3,7 @@ use Prim.Native.Nat.{ℕ, max}
 use mathlib.Core.List.{List, [], _∷_}
 use Rattle.layout.specs.declared.Block.{Block}
 use Rattle.layout.specs.declared.Label.{Label}
-use Rattle.layout.specs.Places.{labelOf}
-use Rattle.protocol.specs.Plan.{Call, format, step, flush, reopen, offer, fetch, landFetch, lookUp, view, writeBack, land, lookUpList, offerList, ask, Ask, slotMap, cost, firstBlock}
+use Rattle.protocol.specs.Plan.{Call, format, step, flush, reopen, offer, fetch, landFetch, lookUp, view, writeBack, land, lookUpList, offerList, ask, Ask, slotMap, cost, firstBlock, formatLabel}
 
 -- what a call is for, as far as conditions and the plain disk differ by it
 pub data Purpose : Type 0 where
@@ -57,7 +56,7 @@ pub data Kind : Type 0 where
   aService : Aim → Kind
 
 abbrev pub kind : Call → Kind
-kind (format slots blocks) = aFormat (labelOf slots blocks)
+kind (format slots blocks) = aFormat (formatLabel slots blocks)
 kind reopen = aReopening
 kind step = aStep
 kind flush = aService (aims noBlock toSettle)

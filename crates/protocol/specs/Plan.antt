@@ -43,6 +43,10 @@ pub data Call : Type 0 where
   lookUpList : List ℕ → ℕ → Call
   offerList : List ℕ → ℕ → Call
 
+-- the label that a format makes of its numbers
+abbrev pub formatLabel : ℕ → ℕ → Label
+formatLabel slots blocks = labelOf slots blocks
+
 -- slots were opened: another hand, another window, and other callers beside its slots
 abbrev pub grown : Record → Slot → List Slot → List ℕ → Record
 grown r hand window callers = withCallers (withWindow (withHand r hand) (r .unconfirmed) window) callers
@@ -265,7 +269,7 @@ stepping r Recovering = mends (lowestPage (windowIn r))
 stepping r Ready = stay nothingToDo
 
 unfoldable pub plan : Call → Box → Move
-plan (format slots blocks) x = begins (labelOf slots blocks)
+plan (format slots blocks) x = begins (formatLabel slots blocks)
 plan step x = stepping (x .state) (x .state .phase)
 plan flush x = flushing (x .state .unconfirmed)
 plan reopen x = recovers

@@ -11,7 +11,7 @@ use Rattle.pages.specs.Pages.{pageAt}
 use Rattle.layout.specs.declared.Slot.{Slot}
 use Rattle.layout.specs.declared.Block.{Block}
 use Rattle.layout.specs.declared.Label.{Label}
-use Rattle.layout.specs.Places.{Limits, labelOf, labelPlace, ssdLength, hddLength, tableLength}
+use Rattle.layout.specs.Places.{Limits, labelPlace, ssdLength, hddLength, tableLength}
 use Rattle.layout.specs.LabelPage.{encodeLabel}
 use Rattle.layout.specs.MetaPage.{stampOf, countOf, slotAt}
 use Rattle.layout.specs.PageRule.{PageRule, PairRule, listed}
@@ -22,7 +22,7 @@ use Rattle.protocol.specs.Rows.{rowBlock, rowFlags, valid, dirty, writin
 use Rattle.record.specs.Record.{labelIn, windowIn}
 use Rattle.record.specs.Rule.{RecordRule}
 use Rattle.protocol.specs.Box.{Box}
-use Rattle.protocol.specs.Plan.{Call, format, step, flush, reopen, offer, fetch, landFetch, lookUp, view, writeBack, land, lookUpList, offerList, ask, slotMap, cost, firstBlock, plan, storesMeta}
+use Rattle.protocol.specs.Plan.{Call, format, step, flush, reopen, offer, fetch, landFetch, lookUp, view, writeBack, land, lookUpList, offerList, ask, slotMap, cost, firstBlock, plan, storesMeta, formatLabel}
 use Rattle.protocol.specs.Recovery.{labelAt, metasOf, entryIn}
 
 -- 2: the first page is the page of a label within the limits
@@ -198,7 +198,7 @@ ShortSheet room x = (n : ℕ) × Lines (x .state .label .slots) n × (room < 67 
 
 -- the table of document 01, by calls: each call's numbers, in the order of judging, and their conditions
 abbrev pub Why : Call → Box → List (ℕ × Type 0)
-Why (format slots blocks) x = (1, Limits (labelOf slots blocks) → ⊥) ∷ (4, Lengths (labelOf slots blocks) x → ⊥) ∷ []
+Why (format slots blocks) x = (1, Limits (formatLabel slots blocks) → ⊥) ∷ (4, Lengths (formatLabel slots blocks) x → ⊥) ∷ []
 Why reopen x = (2, HasLabel (x .images .ssd) → ⊥) ∷ (4, Lengths (labelAt (x .images .ssd)) x → ⊥) ∷ (5, BadPages x) ∷ []
 Why step x =
     (3, BadRecord x) ∷ (4, BadLengths x) ∷ (5, BadRows x) ∷ (6, x .state .phase ≡ Ready) ∷ (13, Spent 4294967295 step x) ∷ []

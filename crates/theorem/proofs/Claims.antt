@@ -34,7 +34,7 @@ use Rattle.theorem.proofs.refine.Passes.{flush-judged, step-judged, som
 use Rattle.theorem.proofs.refine.Views.{ready-legible, view-number, read-view, look-page}
 use Rattle.theorem.proofs.refine.Reopens.{reopenedCore, reopen-shape}
 use Rattle.theorem.proofs.refine.MendingCalls.{finishedWorld, finish-allowed, fewer, mendedCore, mended-here, mended-core-shape, mended-core-abs, step-plan, step-world, reopened-here, reopen-world}
-use Rattle.theorem.proofs.Reachable.{at-core, inv-held, held-images, held-right, held-taken, reopened-taken, crashed-held}
+use Rattle.theorem.proofs.Reachable.{at-core, inv-held, held-images, held-right, held-taken, held-size, reopened-taken, crashed-held}
 use Rattle.laws.proofs.refine.Abstract.{Core, phaseFor, boxOfCore, abs, Shape, Phased, is-ready, is-mending, Held, Inv}
 
 pub ready-off : (r : Bool) → isReady (phaseFor r) ≡ true → r ≡ false
@@ -167,7 +167,7 @@ mends-of l w I r = at-core (λ v. isReady (v .box .state .phase) ≡ false → M
         record { number = E .number; most = E .most; none-refused = E .none-refused; ends = E .ends }
 
 -- no reopening is refused
-unfoldable pub before-held : (l : Label) (e : Event) (w : World) → Fits l e w → Inv l w → Held l (before e w)
+unfoldable pub before-held : (l : Label) (e : Event) (w : World) → Fits e w → Inv l w → Held l (before e w)
 before-held l (call c) w f I = inv-held I
 before-held l (reopens j) w f I = inv-held I
 before-held l (cut c a j) w f I = crashed-held l c a w (f .0) I
@@ -175,11 +175,13 @@ before-held l (cut c a j) w f I = crashed-held l c a w (f .0) I
 pub own-size : (l : Label) (w : World) (I : Inv l w) → length (w .box .table) ≡ tableLength l
 own-size l w I = ap (λ (x : Box). length (x .table)) (I .is-core) ∙ I .shape .table-size
 
-pub taken-of : (l : Label) (w : World) → Inv l w → (e : Event) → Fits l e w → Reopening l e
+pub taken-of : (l : Label) (w : World) → Inv l w → (e : Event) → Fits e w → Reopening w e
     → refused (resultOf reopen (reopenedBox e w) .said) ≡ false
 taken-of l w I e f own = held-taken l w (inv-held I) (w .box) refl (own-size l w I)
-taken-of l w I e f (whole j h) = held-taken l w (inv-held I) (withMemory j (w .box)) refl h
-taken-of l w I e f (broken c a j h) = held-taken l (crashed c a w) (crashed-held l c a w (f .0) I) (withMemory j (crashed c a w .box)) refl h
+taken-of l w I e f (whole j h) = held-taken l w (inv-held I) (withMemory j (w .box)) refl (held-size (inv-held I) (j .table) h)
+taken-of l w I e f (broken c a j h) =
+    let H = crashed-held l c a w (f .0) I in
+    held-taken l (crashed c a w) H (withMemory j (crashed c a w .box)) refl (held-size H (j .table) h)
 
 -- a finished reopening: each block reads as one of its contents
 called-box : (c : Call) (w : World) → called c w .box ≡ boxAfter (resultOf c (w .box))
@@ -276,7 +278,7 @@ call-allowed l w I is-step g b h = step-allowed l w I g b h
 call-allowed l w I is-reopen g b h = reopen-allowed l w (inv-held I) (w .box) refl g b h
 call-allowed l w I (is-service {c} q _) g b h = no-finish c w (ap mayFinish q) g
 
-pub allowed-of : (l : Label) (w : World) → Inv l w → (e : Event) → Fits l e w → finishes e w ≡ true → (b : Block) → b .0 < l .blocks
+pub allowed-of : (l : Label) (w : World) → Inv l w → (e : Event) → Fits e w → finishes e w ≡ true → (b : Block) → b .0 < l .blocks
     → MayBe (before e w .disk) b (readOf (apply e w .box) b)
 allowed-of l w I (call c) f g b h = call-allowed l w I (sorted c) g b h
 allowed-of l w I (reopens j) f g b h = memory-allowed l j w (inv-held I) g b h

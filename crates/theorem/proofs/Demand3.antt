@@ -11,10 +11,10 @@ use native.Mathlib.Decide.{decLt}
 use Rattle.pages.specs.Pages.{pageAt}
 use Rattle.layout.proofs.PlaceLaws.{meta-of-low, page-place}
 use Rattle.layout.specs.declared.Label.{Label}
-use Rattle.layout.specs.Places.{labelOf, metaPages, tableLength}
+use Rattle.layout.specs.Places.{metaPages, tableLength}
 use Rattle.layout.specs.MetaPage.{encodeMeta, rowsOn, stampOf}
 use Rattle.record.specs.declared.Phase.the-variants.{Ready}
-use Rattle.record.specs.Record.{windowIn, callersIn}
+use Rattle.record.specs.Record.{labelIn, windowIn, callersIn}
 use Rattle.record.proofs.WindowLaws.{take-array}
 use Rattle.record.proofs.CallerLaws.{named-of}
 use Rattle.protocol.specs.Reply.{refused}
@@ -22,11 +22,11 @@ use Rattle.protocol.specs.Rows.{valid}
 use Rattle.protocol.specs.Box.{Box}
 use Rattle.protocol.specs.Metadata.{readMeta, metaBytes}
 use Rattle.protocol.specs.Recovery.{metasOf, entryIn, Newest, newestOf}
-use Rattle.protocol.specs.Plan.{format}
+use Rattle.protocol.specs.Plan.{format, formatLabel}
 use Rattle.protocol.specs.Calls.{resultOf}
 use Rattle.protocol.specs.ReferenceDisk.{durable}
 use Rattle.protocol.specs.Events.{World, Event, run, formatted, startOf, AllFit}
-use Rattle.protocol.specs.Demand3.{Safe, Demand3}
+use Rattle.protocol.specs.Demand3.{ownLabel, Safe, Demand3}
 use Rattle.protocol.specs.Beside.{UpdateBeforeData, Bounded, ImportBounded}
 use Rattle.layout.proofs.Booleans.{clash}
 use Rattle.laws.proofs.model.Base.{Window, nil-window, has-nil}
@@ -38,7 +38,7 @@ use Rattle.laws.proofs.refine.Tables.{rowAt, Rows}
 use Rattle.laws.proofs.refine.Metas.{metas-at, length-metas, newest-none}
 use Rattle.theorem.proofs.refine.Stores.{page-stamp, page-entry, page-legal}
 use Rattle.theorem.proofs.refine.Formatting.{freeTable, Formatted, whole-format}
-use Rattle.theorem.proofs.Reachable.{run-inv}
+use Rattle.theorem.proofs.Reachable.{inv-held, held-label, run-inv}
 use Rattle.theorem.proofs.Claims.{views-of, reads-of, looks-of, allowed-of, taken-of, mends-of, flushes-of}
 use Rattle.theorem.proofs.Keeps.{keeps-of}
 use Rattle.theorem.proofs.UpdateFirst.{update-first}
@@ -49,15 +49,23 @@ use Rattle.laws.proofs.refine.Abstract.{Core, phaseFor, boxOfCore, entryRow, ab
 -- what is safe of every reachable world
 pub safe : (l : Label) (w : World) → Inv l w → Safe l w
 safe l w I = record {
-  views = views-of l w I;
-  reads = reads-of l w I;
-  looks = looks-of l w I;
-  allowed = allowed-of l w I;
+  label = own;
+  stored-label = held-label l w (inv-held I) (w .box) refl;
+  views = λ r b h. views-of l w I r b (low h);
+  reads = λ r b h. reads-of l w I r b (low h);
+  looks = λ r b h s e. rw own (looks-of l w I r b (low h) s e);
+  allowed = λ e f g b h. allowed-of l w I e f g b (low h);
   taken = taken-of l w I;
   mends = mends-of l w I;
   flushes = flushes-of l w I;
-  keeps = keeps-of l w I;
+  keeps = λ e f r b h. keeps-of l w I e f r b (low h);
 }
+  where
+    own : ownLabel w ≡ l
+    own = ap (λ (x : Box). labelIn (x .state)) (I .is-core)
+
+    low : {b : ℕ} → b < ownLabel w .blocks → b < l .blocks
+    low h = rw own at h
 
 -- a table of free rows
 free-word : (n k : ℕ) → getD {A = ℕ} (replicate n 0) k 0 ≡ 0
@@ -197,19 +205,19 @@ module _ (l : Label) (x y : Box) (F : Formatted l x y) where
 
 -- every list of demand 3 leads to a reachable world
 pub reached : (slots blocks : ℕ) (x : Box) → refused (resultOf (format slots blocks) x .said) ≡ false → (es : List Event)
-    → AllFit (labelOf slots blocks) es (startOf (labelOf slots blocks) (formatted slots blocks x))
-    → Inv (labelOf slots blocks) (run es (startOf (labelOf slots blocks) (formatted slots blocks x)))
+    → AllFit es (startOf (formatLabel slots blocks) (formatted slots blocks x))
+    → Inv (formatLabel slots blocks) (run es (startOf (formatLabel slots blocks) (formatted slots blocks x)))
 reached slots blocks x f es g =
-    run-inv (labelOf slots blocks) es _ g (formatted-inv (labelOf slots blocks) x (formatted slots blocks x)
+    run-inv (formatLabel slots blocks) es _ g (formatted-inv (formatLabel slots blocks) x (formatted slots blocks x)
     (whole-format slots blocks x f))
 
 -- Demand 3.
 pub demand3 : Demand3
-demand3 slots blocks x f es g = safe (labelOf slots blocks) _ (reached slots blocks x f es g)
+demand3 slots blocks x f es g = safe (formatLabel slots blocks) _ (reached slots blocks x f es g)
 
 -- Update before data.
 pub update-before-data : UpdateBeforeData
-update-before-data slots blocks x f es g = update-first (labelOf slots blocks) _ (reached slots blocks x f es g)
+update-before-data slots blocks x f es g = update-first (formatLabel slots blocks) _ (reached slots blocks x f es g)
 
 -- The import's share of the window.
 core-bounded : (l : Label) (k : Core) → Shape l k → Window (l .slots) (nums (k .window)) → Bounded (boxOfCore l k .state)
@@ -232,4 +240,4 @@ pub import-bounded : ImportBounded
 import-bounded slots blocks x f es g =
     let I = reached slots blocks x f es g in
     subst (λ (y : Box). Bounded (y .state)) (sym (I .is-core))
-    (core-bounded (labelOf slots blocks) (I .core) (I .shape) (window-kept _ (I .core) (I .shape) (I .plain) (I .phased)))
+    (core-bounded (formatLabel slots blocks) (I .core) (I .shape) (window-kept _ (I .core) (I .shape) (I .plain) (I .phased)))

@@ -12,14 +12,14 @@ use Rattle.layout.specs.declared.Block.{Block}
 use Rattle.layout.specs.declared.Label.{Label}
 use Rattle.layout.specs.Places.{tableLength}
 use Rattle.protocol.specs.Reply.{refused}
-use Rattle.protocol.specs.Rows.{valid}
+use Rattle.protocol.specs.Rows.{valid, dirty}
 use Rattle.protocol.specs.Box.{Box}
-use Rattle.protocol.specs.Recovery.{metasOf}
+use Rattle.protocol.specs.Recovery.{metasOf, entryIn}
 use Rattle.protocol.specs.Plan.{Call, step, reopen, lowestPage}
 use Rattle.protocol.specs.Judge.{Reason, isReady, judged}
 use Rattle.protocol.specs.Calls.{resultOf}
 use Rattle.protocol.specs.ReferenceDisk.{Disk}
-use Rattle.protocol.specs.Events.{World, Memory, Arrival, Event, call, reopens, cut, called, withMemory, takenIf, reopened, crashed, apply, run, CallFits, Fits, AllFit}
+use Rattle.protocol.specs.Events.{World, Memory, Arrival, Event, call, reopens, cut, called, withMemory, takenIf, reopened, crashed, apply, run, CallFits, RightLength, Fits, AllFit}
 use Rattle.protocol.specs.Demand3.{Outside, Place, place, Reopening, own, whole, broken, before, NotYet, Back, AllBack, Kept}
 use Rattle.layout.proofs.Booleans.{Told, told, told-true, told-false, clash}
 use Rattle.laws.proofs.model.Base.{has}
@@ -35,10 +35,10 @@ use Rattle.theorem.proofs.model.Places as places
 use Rattle.theorem.proofs.model.Places.{shutAt, first, again, mended-like, Alike}
 use Rattle.laws.proofs.refine.Tables.{rowAt, at-open, at-block, at-valid, at-dirty}
 use Rattle.theorem.proofs.refine.ReadyCalls.{refused-same, worldOf}
-use Rattle.theorem.proofs.refine.Reopens.{reopenedCore, reopen-shape, reopen-abs, dirty-entry}
+use Rattle.theorem.proofs.refine.Reopens.{reopenedCore, reopen-shape, reopen-abs, dirty-entry, label-is}
 use Rattle.theorem.proofs.refine.Views.{asSlot}
 use Rattle.theorem.proofs.refine.MendingCalls.{mendedCore, mended-here, mended-core-shape, mended-core-abs, step-world, reopened-here, reopen-world}
-use Rattle.theorem.proofs.Reachable.{Mendable, steps, reopens-it, mendable, inv-held, held-images, held-taken, reopened-taken, crashed-or, crashed-held, table-right, reopen-taken}
+use Rattle.theorem.proofs.Reachable.{Mendable, steps, reopens-it, mendable, inv-held, held-images, held-taken, held-size, label-there, reopened-taken, crashed-or, crashed-held, table-right, reopen-taken}
 use Rattle.theorem.proofs.Claims.{unready-on, before-held, own-size}
 use Rattle.theorem.proofs.PlaceOf.{modelPlace, model-outside, place-model}
 use Rattle.laws.proofs.refine.Abstract.{Core, boxOfCore, entryRow, abs, Shape, Phased, is-ready, is-mending, Tied, by-ready, by-mending, phased-tied, Held, Inv}
@@ -63,9 +63,9 @@ pub under-tied : {l : Label} {w : World} (U : Under l w) → Tied (abs l (U .cor
 under-tied {l} U = let q = under-phased U in phased-tied (abs l (U .core)) (q .0) (q .1)
 
 pub under-place : {l : Label} {w : World} (U : Under l w) (b : ℕ) → b < l .blocks
-    → place l (w .box) (record { 0 = b }) ≡ modelPlace l (U .core) b
+    → place (w .box) (record { 0 = b }) ≡ modelPlace l (U .core) b
 under-place {l} U b h =
-    ap (λ (x : Box). place l x (record { 0 = b })) (U .is-core)
+    ap (λ (x : Box). place x (record { 0 = b })) (U .is-core)
     ∙ place-model l (U .core) (U .shape) (U .plain) (U .mending .images) b h (under-tied U)
 
 -- the same slot and page in the model are the same place
@@ -111,7 +111,7 @@ module _ (l : Label) (k : Core) (S : Shape l k) (p : Plain) (M : Mending (abs l 
       go (told-true h) = clash (named .held) (ap model.valid (M .rows s ∙ ap (λ (t : Bool). revived t (abs l k .entry s)) h))
       go (told-false h) = rw h
 
-  pub back-of : Back l (boxOfCore l k) (record { 0 = b }) (record { 0 = s })
+  pub back-of : Back (boxOfCore l k) (record { 0 = b }) (record { 0 = s })
   back-of =
       let n = named in
       let v = sym (at-valid l (k .table) (S .rows) s (n .low)) ∙ n .held in
@@ -119,7 +119,8 @@ module _ (l : Label) (k : Core) (S : Shape l k) (p : Plain) (M : Mending (abs l 
         valid-row = v;
         block = sym (at-block l (k .table) (S .rows) s (n .low) v) ∙ n .blocked;
         stored-dirty = sym (at-dirty l (k .table) (S .rows) s (n .low)) ∙ ap dirtyRow row-shut ∙ shut-dirty (entryRow l (metasOf l (k .ssd)) s)
-            ∙ dirty-entry l k p (S .images) (M .images) s (n .low);
+            ∙ dirty-entry l k p (S .images) (M .images) s (n .low)
+            ∙ ap (λ (a : Label). dirty (entryIn (metasOf a (k .ssd)) (record { 0 = s }) .flags)) (sym (label-is l k p (S .images) (M .images)));
         closed = sym (at-open l (k .table) (S .rows) s (n .low)) ∙ n .shut-row;
       }
 
@@ -208,11 +209,12 @@ goes-down G = record {
   like = G .like;
 }
 
-down-reopened : (l : Label) (k : Core) (b : ℕ) (w : World) → Down l k b w → (j : Memory) → length (j .table) ≡ tableLength l
+down-reopened : (l : Label) (k : Core) (b : ℕ) (w : World) → Down l k b w → (j : Memory) → RightLength (w .box .images) (j .table)
     → Goes l k b (reopened j w)
-down-reopened l k b w D j h =
+down-reopened l k b w D j r =
     let x = withMemory j (w .box) in
     let im : x .images ≡ record { ssd = D .core .ssd; hdd = D .core .hdd } = ap (λ (y : Box). y .images) (D .is-core) in
+    let h = r ∙ ap tableLength (label-there l (D .core) (D .plain) (D .shape .images) (D .stored) x im) in
     goes-to (sym (reopened-taken j w (reopen-taken l (D .core) (D .plain) (D .shape .images) (D .stored) x im h)))
     (goes-on (D .like)
     (goes-reopen l (D .core) (D .shape) (D .plain) (D .stored) b (again (abs l (D .core)) (D .rows) b) x im h (w .disk)))
@@ -249,13 +251,13 @@ module _ (l : Label) (w : World) (U : Under l w) (b : ℕ) where
           (withMemory j (w .box)) (images-are j)
           (table-right l (U .core) (U .plain) (U .shape .images) (U .mending .images) (withMemory j (w .box)) (images-are j) e) (w .disk)
 
-goes-event : (l : Label) (w : World) (U : Under l w) (b : ℕ) → isReady (w .box .state .phase) ≡ false → (e : Event) → Fits l e w
+goes-event : (l : Label) (w : World) (U : Under l w) (b : ℕ) → isReady (w .box .state .phase) ≡ false → (e : Event) → Fits e w
     → Goes l (U .core) b (apply e w)
 goes-event l w U b r (call c) f = goes-call l w U b r c f
 goes-event l w U b r (reopens j) f = goes-memory l w U b j
 goes-event l w U b r (cut c a j) f = down-reopened l (U .core) b (crashed c a w) (goes-crashed l w U b r c a (f .0)) j (f .1)
 
-goes-run : (l : Label) (es : List Event) (w : World) (U : Under l w) (b : ℕ) → AllFit l es w → NotYet es w → Goes l (U .core) b (run es w)
+goes-run : (l : Label) (es : List Event) (w : World) (U : Under l w) (b : ℕ) → AllFit es w → NotYet es w → Goes l (U .core) b (run es w)
 unfolding run
 goes-run l [] w U b f n = goes-same U b
 goes-run l (e ∷ es) w U b f n = let G = goes-event l w U b (n .0) e (f .0) in
@@ -263,12 +265,12 @@ goes-run l (e ∷ es) w U b f n = let G = goes-event l w U b (n .0) e (f .0) in
 
 -- the row is back in every such world
 under-back : (l : Label) (w : World) (U : Under l w) (b s : ℕ) → places.slotOf (abs l (U .core)) b ≡ some s
-    → Back l (w .box) (record { 0 = b }) (record { 0 = s })
-under-back l w U b s e = subst (λ (x : Box). Back l x (record { 0 = b }) (record { 0 = s })) (sym (U .is-core))
+    → Back (w .box) (record { 0 = b }) (record { 0 = s })
+under-back l w U b s e = subst (λ (x : Box). Back x (record { 0 = b }) (record { 0 = s })) (sym (U .is-core))
     (back-of l (U .core) (U .shape) (U .plain) (U .mending) b s e)
 
 all-back : (l : Label) (es : List Event) (w : World) (U : Under l w) (b s : ℕ) → places.slotOf (abs l (U .core)) b ≡ some s
-    → AllFit l es w → NotYet es w → AllBack l es (record { 0 = b }) (record { 0 = s }) w
+    → AllFit es w → NotYet es w → AllBack es (record { 0 = b }) (record { 0 = s }) w
 all-back l [] w U b s e f n = tt
 all-back l (g ∷ es) w U b s e f n =
     let G = goes-event l w U b (n .0) g (f .0) in
@@ -276,9 +278,9 @@ all-back l (g ∷ es) w U b s e f n =
     ((λ _. under-back l (apply g w) (G .under) b s q), all-back l es (apply g w) (G .under) b s q (f .1) (n .1))
 
 -- the first reopening, of a block outside the newest stored window
-module _ (l : Label) (v : World) (H : Held l v) (b : ℕ) (out : Outside l (v .box .images) (record { 0 = b })) where
-  out-core : Outside l (record { ssd = H .core .ssd; hdd = H .core .hdd }) (record { 0 = b })
-  out-core = subst (λ (x : Box). Outside l (x .images) (record { 0 = b })) (H .is-core) out
+module _ (l : Label) (v : World) (H : Held l v) (b : ℕ) (out : Outside (v .box .images) (record { 0 = b })) where
+  out-core : Outside (record { ssd = H .core .ssd; hdd = H .core .hdd }) (record { 0 = b })
+  out-core = subst (λ (x : Box). Outside (x .images) (record { 0 = b })) (H .is-core) out
 
   first-like : Alike (model.reopened (abs l (H .core))) (abs l (H .core)) b
   first-like = go (H .tied)
@@ -292,14 +294,15 @@ module _ (l : Label) (v : World) (H : Held l v) (b : ℕ) (out : Outside l (v .b
   first-goes x im size d =
       goes-reopen l (H .core) (H .shape) (H .plain) (H .stored) b first-like x (held-images l v H x im) size d
 
-  first-memory : (j : Memory) → length (j .table) ≡ tableLength l → Goes l (H .core) b (reopened j v)
-  first-memory j h =
+  first-memory : (j : Memory) → RightLength (v .box .images) (j .table) → Goes l (H .core) b (reopened j v)
+  first-memory j r =
       let x = withMemory j (v .box) in
+      let h = held-size H (j .table) r in
       goes-to (sym (reopened-taken j v (held-taken l v H x refl h))) (first-goes x refl h (v .disk))
 
 -- the event that reopens
-first-event : (l : Label) (w : World) (I : Inv l w) (e : Event) (f : Fits l e w) → Reopening l e → (b : ℕ)
-    → Outside l (before e w .box .images) (record { 0 = b }) → Goes l (before-held l e w f I .core) b (apply e w)
+first-event : (l : Label) (w : World) (I : Inv l w) (e : Event) (f : Fits e w) → Reopening w e → (b : ℕ)
+    → Outside (before e w .box .images) (record { 0 = b }) → Goes l (before-held l e w f I .core) b (apply e w)
 unfolding before-held
 first-event l w I e f own b out = first-goes l w (inv-held I) b out (w .box) refl (own-size l w I) (w .disk)
 first-event l w I e f (whole j h) b out = first-memory l w (inv-held I) b out j h
@@ -314,9 +317,9 @@ slot-of (some t) s e = ap back e
     back none = none
     back (some u) = some (u .0)
 
-pub keeps-of : (l : Label) (w : World) → Inv l w → (e : Event) → Fits l e w → Reopening l e → (b : Block) → b .0 < l .blocks
-    → Outside l (before e w .box .images) b
-    → (es : List Event) → AllFit l es (apply e w) → NotYet es (apply e w) → Kept l e es b w
+pub keeps-of : (l : Label) (w : World) → Inv l w → (e : Event) → Fits e w → Reopening w e → (b : Block) → b .0 < l .blocks
+    → Outside (before e w .box .images) b
+    → (es : List Event) → AllFit es (apply e w) → NotYet es (apply e w) → Kept e es b w
 keeps-of l w I e f r b h out es g n =
     record {
       place-kept = kept;
@@ -333,12 +336,12 @@ keeps-of l w I e f r b h out es g n =
     H : Goes l (G .under .core) (b .0) (run es (apply e w))
     H = goes-run l es (apply e w) (G .under) (b .0) g n
 
-    at-first : place l (before e w .box) b ≡ modelPlace l (J .core) (b .0)
-    at-first = ap (λ (x : Box). place l x b) (J .is-core) ∙ place-model l (J .core) (J .shape) (J .plain) (J .stored) (b .0) h (J .tied)
+    at-first : place (before e w .box) b ≡ modelPlace l (J .core) (b .0)
+    at-first = ap (λ (x : Box). place x b) (J .is-core) ∙ place-model l (J .core) (J .shape) (J .plain) (J .stored) (b .0) h (J .tied)
 
-    kept : place l (run es (apply e w) .box) b ≡ place l (before e w .box) b
+    kept : place (run es (apply e w) .box) b ≡ place (before e w .box) b
     kept = under-place (H .under) (b .0) h ∙ same-place l (H .under .core) (G .under .core) (b .0) (H .like)
         ∙ same-place l (G .under .core) (J .core) (b .0) (G .like) ∙ sym at-first
 
-    slot-is : (s : Slot) → place l (before e w .box) b .slot ≡ some s → places.slotOf (abs l (G .under .core)) (b .0) ≡ some (s .0)
+    slot-is : (s : Slot) → place (before e w .box) b .slot ≡ some s → places.slotOf (abs l (G .under .core)) (b .0) ≡ some (s .0)
     slot-is s q = G .like .0 ∙ slot-of (places.slotOf (abs l (J .core)) (b .0)) s (ap (λ (x : Place). x .slot) (sym at-first) ∙ q)

@@ -1,6 +1,6 @@
 -- Where a block is, by the definition and by the model.
 use Prim.Native.Nat.{ℕ, _+_, _*_, _<_}
-use mathlib.Core.Path.{_≡_, refl, sym, ap, _∙_}
+use mathlib.Core.Path.{_≡_, refl, sym, ap, subst, _∙_}
 use mathlib.Core.Logic.{_≢_}
 use mathlib.Core.Bool.{Bool, true, false, _||_, or-true}
 use mathlib.Core.List.{List, [], _∷_}
@@ -33,7 +33,7 @@ use Rattle.laws.proofs.refine.Windows.{has-nums}
 use Rattle.laws.proofs.refine.Tables.{rowAt}
 use Rattle.laws.proofs.refine.Conditions.{Located, located}
 use Rattle.laws.proofs.refine.Entries.{length-rows, rows-block, rows-flags}
-use Rattle.theorem.proofs.refine.Reopens.{valid-entry, block-entry, window-block}
+use Rattle.theorem.proofs.refine.Reopens.{valid-entry, block-entry, window-block, label-is}
 use Rattle.theorem.proofs.refine.Views.{asSlot, Legible, linked-legible, read-view, look-slot}
 use Rattle.theorem.proofs.Claims.{ready-off, unready-on}
 use Rattle.laws.proofs.refine.Abstract.{Core, phaseFor, boxOfCore, entryRow, abs, Shape, Tied, by-ready, by-mending}
@@ -111,12 +111,17 @@ module _ (l : Label) (k : Core) (S : Shape l k) (p : Plain) (St : Stored (abs l 
           once-of = unfold abs in St .once
 
   -- outside the window, as the model says it
-  pub model-outside : Outside l (record { ssd = k .ssd; hdd = k .hdd }) (record { 0 = b }) → places.Outside (abs l k) b
+  pub stored-outside : ((s : Slot) → listed s (newestOf (metasOf l (k .ssd)) .window) ≡ true → entryIn (metasOf l (k .ssd)) s .block .0 ≢ b)
+      → places.Outside (abs l k) b
   unfolding abs
-  model-outside out s h e =
+  stored-outside out s h e =
       let q : listed (record { 0 = s }) (newestOf (metasOf l (k .ssd)) .window) ≡ true =
       sym (has-nums (newestOf (metasOf l (k .ssd)) .window) s) ∙ h in
       out (record { 0 = s }) q (sym (window-block l k p (S .images) St s q) ∙ e)
+
+  pub model-outside : Outside (record { ssd = k .ssd; hdd = k .hdd }) (record { 0 = b }) → places.Outside (abs l k) b
+  model-outside out = stored-outside (subst (λ (a : Label). (s : Slot) → listed s (newestOf (metasOf a (k .ssd)) .window) ≡ true
+      → entryIn (metasOf a (k .ssd)) s .block .0 ≢ b) (label-is l k p (S .images) St) out)
 
 -- the place of a block
 module _ (l : Label) (k : Core) (S : Shape l k) (p : Plain) (St : Stored (abs l k) p) (b : ℕ) (b-low : b < l .blocks) where
@@ -165,12 +170,14 @@ module _ (l : Label) (k : Core) (S : Shape l k) (p : Plain) (St : Stored (abs l 
             none-is (d .0) (d .1 ∙ hdd-is)
         go (outside h) =
             let d : places.slotOf (abs l k) b ≡ seen.find (abs l k .entry) (abs l k .slots) b =
-            down-outside (abs l k) p St rows b (model-outside l k S p St b h) in
+            down-outside (abs l k) p St rows b (stored-outside l k S p St b h) in
             found-is d
 
-  pub place-model : Tied (abs l k) → place l (boxOfCore l k) (record { 0 = b }) ≡ modelPlace l k b
+  pub place-model : Tied (abs l k) → place (boxOfCore l k) (record { 0 = b }) ≡ modelPlace l k b
   unfolding place
-  place-model T = go (isReady (phaseFor (k .recovering))) refl T
+  place-model T =
+      ap (λ (a : Label). placeIf (isReady (phaseFor (k .recovering))) a (boxOfCore l k) (record { 0 = b })) (label-is l k p (S .images) St)
+      ∙ go (isReady (phaseFor (k .recovering))) refl T
     where
       go : (r : Bool) → isReady (phaseFor (k .recovering)) ≡ r → Tied (abs l k) → placeIf r l (boxOfCore l k) (record { 0 = b }) ≡ modelPlace l k b
       go true e (by-ready on W L) = ready-place (linked-legible l k S p St (ready-off (k .recovering) e) W L)

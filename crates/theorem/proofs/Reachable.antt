@@ -18,7 +18,7 @@ use Rattle.protocol.specs.Perform.{perform}
 use Rattle.protocol.specs.Judge.{Reason, wrongLength, wrongPhase, test, lengthsTest, lengthTest, judged}
 use Rattle.protocol.specs.Calls.{decided, effectOf, resultOf}
 use Rattle.protocol.specs.ReferenceDisk.{Disk}
-use Rattle.protocol.specs.Events.{World, Memory, Arrival, old, new, Event, call, reopens, cut, called, withMemory, takenIf, reopened, survived, made, crashed, apply, run, CallFits, Fits, AllFit}
+use Rattle.protocol.specs.Events.{World, Memory, Arrival, old, new, Event, call, reopens, cut, called, withMemory, takenIf, reopened, survived, made, crashed, apply, run, CallFits, RightLength, Fits, AllFit}
 use Rattle.layout.proofs.Booleans.{clash, and-parts}
 use Rattle.protocol.specs.Beside.{CutLeaves}
 use Rattle.laws.proofs.model.Model as model
@@ -115,7 +115,7 @@ call-inv l c w f I = at-core (λ v. CallFits c v → Inv l (called c v)) I go f
 -- a reopening that is not refused was handed a table of the right length
 module _ (l : Label) (k : Core) (p : Plain) (K : ImagesKept l (k .ssd) (k .hdd)) (St : Stored (abs l k) p) (x : Box)
     (im : x .images ≡ record { ssd = k .ssd; hdd = k .hdd }) where
-  label-there : labelAt (x .images .ssd) ≡ l
+  pub label-there : labelAt (x .images .ssd) ≡ l
   label-there = ap (λ (i : Images). labelAt (i .ssd)) im ∙ label-is l k p K St
 
   table-judged : judged reopen x ≡ none → length (x .table) ≡ tableLength l
@@ -165,9 +165,16 @@ module _ (l : Label) (w : World) (H : Held l w) (x : Box) (im : x .images ≡ w 
   pub held-taken : length (x .table) ≡ tableLength l → refused (resultOf reopen x .said) ≡ false
   held-taken h = reopen-taken l (H .core) (H .plain) (H .shape .images) (H .stored) x held-images h
 
+  pub held-label : labelAt (x .images .ssd) ≡ l
+  held-label = label-there l (H .core) (H .plain) (H .shape .images) (H .stored) x held-images
+
   -- its reopening leads to a reachable world
   pub taken-inv : length (x .table) ≡ tableLength l → Inv l (called reopen (record { box = x; disk = w .disk }))
   taken-inv h = reopen-inv l (H .core) (H .plain) (H .shape .images) (H .stored) x held-images h (w .disk) (H .agrees)
+
+-- a table of the right length for the images of a held world
+pub held-size : {l : Label} {w : World} → Held l w → (table : List ℕ) → RightLength (w .box .images) table → length table ≡ tableLength l
+held-size {l} {w} H table h = h ∙ ap tableLength (held-label l w H (w .box) refl)
 
 -- a reopening that is not refused
 pub reopened-taken : (j : Memory) (w : World) → refused (resultOf reopen (withMemory j (w .box)) .said) ≡ false
@@ -229,12 +236,12 @@ crashed-held l c a w f I = go (crashed-or c a w)
     go (inl e) = rw e (inv-held (call-inv l c w f I))
     go (inr e) = rw e (inv-held I)
 
-pub apply-inv : (l : Label) (e : Event) (w : World) → Fits l e w → Inv l w → Inv l (apply e w)
+pub apply-inv : (l : Label) (e : Event) (w : World) → Fits e w → Inv l w → Inv l (apply e w)
 apply-inv l (call c) w f I = call-inv l c w f I
 apply-inv l (reopens j) w f I = reopened-inv l j w I
-apply-inv l (cut c a j) w f I = held-reopened l j (crashed c a w) (crashed-held l c a w (f .0) I) (f .1)
+apply-inv l (cut c a j) w f I = let H = crashed-held l c a w (f .0) I in held-reopened l j (crashed c a w) H (held-size H (j .table) (f .1))
 
-pub run-inv : (l : Label) (es : List Event) (w : World) → AllFit l es w → Inv l w → Inv l (run es w)
+pub run-inv : (l : Label) (es : List Event) (w : World) → AllFit es w → Inv l w → Inv l (run es w)
 unfolding run
 run-inv l [] w f I = I
 run-inv l (e ∷ es) w f I = run-inv l es (apply e w) (f .1) (apply-inv l e w (f .0) I)

@@ -7,13 +7,10 @@ use mathlib.Core.Bool.{Bool, true, false, not, _&&_}
 use mathlib.Core.List.{List, [], _∷_}
 use mathlib.Core.Option.{some, none}
 use native.Mathlib.Omega.{arith}
-use lib.ListN.{length}
 use lib.Dec.{eqb}
 use borrow.Author.Tests.{eqb-true}
 use Rattle.layout.specs.declared.Slot.{Slot}
 use Rattle.layout.specs.declared.Block.{Block}
-use Rattle.layout.specs.declared.Label.{Label}
-use Rattle.layout.specs.Places.{tableLength}
 use Rattle.layout.specs.PageRule.{listed}
 use Rattle.layout.proofs.Booleans.{clash, or-cases}
 use Rattle.record.specs.declared.Record.{Record}
@@ -25,13 +22,13 @@ use Rattle.protocol.specs.Plan.{Call, format, step, flush, reopen, offer
 use Rattle.protocol.specs.Kinds.{kind, aim}
 use Rattle.protocol.specs.Judge.{isReady}
 use Rattle.protocol.specs.Calls.{effectOf, resultOf}
-use Rattle.protocol.specs.Recovery.{metasOf, entryIn}
+use Rattle.protocol.specs.Recovery.{labelAt, metasOf, entryIn}
 use Rattle.protocol.specs.ReferenceDisk.{Disk, durable, fedCall, fed}
-use Rattle.protocol.specs.Events.{World, Memory, old, new, reopens, cut, readOf, mayFinish, readsIf, called, crashed, startOf, CallFits, Fits}
+use Rattle.protocol.specs.Events.{World, Memory, Arrival, old, new, reopens, cut, readOf, mayFinish, readsIf, called, crashed, startOf, CallFits, RightLength, Fits}
 use Rattle.protocol.specs.Demand3.{storedWindow, Outside, inWindow, place}
-use Rattle.protocol.proofs.cases.Report.{diskOf, filled, metaPage, pages}
+use Rattle.protocol.proofs.cases.Report.{diskOf, filled, labelPage, metaPage, pages}
 use Rattle.protocol.proofs.cases.Known.{known}
-use Rattle.protocol.proofs.cases.Case.{two}
+use Rattle.protocol.proofs.cases.Case.{two, textOf}
 use Rattle.protocol.proofs.cases.Rejected as rejected-first
 
 -- a block's page is this, and its only content
@@ -138,17 +135,19 @@ module _ (w : World) where
       → CallFits (format slots blocks) w
   refused-format-joins slots blocks h = h
 
-  -- "Then comes a reopening, with any record and any table of the right length", whether the page is old or new
-  pub any-memory-joins : (l : Label) (c : Call) → CallFits c w → (table : List ℕ) (state : Record) → length table ≡ tableLength l
-      → let j : Memory = record { table = table; state = state } in Fits l (cut c old j) w × Fits l (cut c new j) w × Fits l (reopens j) w
-  any-memory-joins l c k table state h = ((k, h), (k, h), tt)
+  -- "Then comes a reopening, with any record and any table of the right length", whether the page is old or new: right for the images
+  -- that the cut leaves, whatever label the record has
+  pub any-memory-joins : (c : Call) → CallFits c w → (a : Arrival) (table : List ℕ) (state : Record)
+      → RightLength (crashed c a w .box .images) table
+      → let j : Memory = record { table = table; state = state } in Fits (cut c a j) w × Fits (reopens j) w
+  any-memory-joins c k a table state h = ((k, h), tt)
 
 -- A box of two slots that mends: slot 0 has block 1, dirty; slot 1, alone in the newest window, has block 2, writing.
 abbrev pub mending : Box
 mending = record {
   images = record {
     ssd = pages (
-        filled 0
+        labelPage (textOf 50 51)
         ∷ metaPage (2 ∷ 0 ∷ 0 ∷ 0 ∷ 1 ∷ 0 ∷ []) (1 ∷ 0 ∷ 0 ∷ 0 ∷ []) (1 ∷ 0 ∷ 0 ∷ 0 ∷ 3 ∷ 0 ∷ 0 ∷ 0 ∷ 2 ∷ 0 ∷ 0 ∷ 0 ∷ 7 ∷ 0 ∷ 0 ∷ 0 ∷ [])
         ∷ filled 9 ∷ filled 8 ∷ []);
     hdd = diskOf two;
@@ -162,14 +161,23 @@ pub starts : Only (startOf two mending .disk) (record { 0 = 2 }) (filled 66)
 unfolding known
 starts = (refl, refl)
 
+-- its images are of this label, and this is the length of a table for them
+label-is : labelAt (mending .images .ssd) ≡ two
+unfolding known textOf
+label-is = refl
+
+pub right-length : RightLength (mending .images) (mending .table)
+unfolding known textOf
+right-length = refl
+
 -- "A block is outside the newest stored window .. if no slot in it has an entry for that block": the window is slot 1, whose entry is
 -- for block 2
 window-is : storedWindow two (mending .images) ≡ record { 0 = 1 } ∷ []
-unfolding known
+unfolding known textOf
 window-is = refl
 
 entry-is : entryIn (metasOf two (mending .images .ssd)) (record { 0 = 1 }) .block .0 ≡ 2
-unfolding known
+unfolding known textOf
 entry-is = refl
 
 named : (s : Slot) → listed s (storedWindow two (mending .images)) ≡ true → entryIn (metasOf two (mending .images .ssd)) s .block .0 ≡ 2
@@ -183,17 +191,22 @@ named s h = ap (λ (n : ℕ). entryIn (metasOf two (mending .images .ssd)) (reco
         go (inl e) = eqb-true _ _ e
         go (inr e) = clash e refl
 
-pub outside : Outside two (mending .images) (record { 0 = 0 }) × Outside two (mending .images) (record { 0 = 1 })
-outside = (λ s h e. omega (arith, named s h, e), λ s h e. omega (arith, named s h, e))
+pub outside : Outside (mending .images) (record { 0 = 0 }) × Outside (mending .images) (record { 0 = 1 })
+outside =
+    (λ s h e. omega (arith, named s (rw label-is at h), rw label-is at e), λ s h e. omega (arith, named s (rw label-is at h), rw label-is at e))
 
-pub inside : Outside two (mending .images) (record { 0 = 2 }) → ⊥
-unfolding known
+pub inside : Outside (mending .images) (record { 0 = 2 }) → ⊥
+unfolding known textOf
 inside h = h (record { 0 = 1 }) refl refl
 
 -- "From a cut, or the start of a reopening, till a reopening is finished, a block's slot and page are those of its valid entry if it is
--- outside and has one, else none and its HDD page"
-pub places : (place two mending (record { 0 = 0 }) ≡ record { slot = none; page = filled 64 })
-    × (place two mending (record { 0 = 1 }) ≡ record { slot = some (record { 0 = 0 }); page = filled 9 })
-    × (place two mending (record { 0 = 2 }) ≡ record { slot = none; page = filled 66 })
-unfolding known place inWindow
-places = (refl, refl, refl)
+-- outside and has one, else none and its HDD page": whatever the record says, but that the box is not ready
+abbrev pub mendingBy : Record → Box
+mendingBy r = record { images = mending .images; table = mending .table; state = r }
+
+pub places : (r : Record) → isReady (r .phase) ≡ false
+    → (place (mendingBy r) (record { 0 = 0 }) ≡ record { slot = none; page = filled 64 })
+    × (place (mendingBy r) (record { 0 = 1 }) ≡ record { slot = some (record { 0 = 0 }); page = filled 9 })
+    × (place (mendingBy r) (record { 0 = 2 }) ≡ record { slot = none; page = filled 66 })
+unfolding known textOf place inWindow
+places r h = rw h (refl, refl, refl)

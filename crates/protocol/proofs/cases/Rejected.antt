@@ -1,6 +1,6 @@
 -- Demand 3's claim rejects something: worlds that a bad box would leave, and that Safe is false of each, one at least for each field.
 use Prim.Native.Nat.{ℕ, zero, suc, _<_}
-use mathlib.Core.Path.{_≡_, refl, sym, ap, _∙_}
+use mathlib.Core.Path.{_≡_, refl, sym, ap, subst, _∙_}
 use mathlib.Core.Logic.{_≢_}
 use mathlib.Core.Bool.{Bool, true, false, not, _&&_}
 use mathlib.Core.List.{List, [], _∷_, List·Memᴰ·eq-of-singleton}
@@ -9,6 +9,7 @@ use native.Mathlib.Omega.{arith}
 use lib.ListN.{getD}
 use Rattle.pages.specs.Pages.{pageAt}
 use Rattle.layout.specs.declared.Block.{Block}
+use Rattle.layout.specs.declared.Label.{Label}
 use Rattle.layout.specs.Places.{dataPlace, withinLimits}
 use Rattle.layout.specs.PageRule.{listed}
 use Rattle.layout.proofs.Booleans.{clash}
@@ -26,7 +27,7 @@ use Rattle.protocol.specs.Judge.{isReady, labelTest, test, firstOf, judg
 use Rattle.protocol.specs.Calls.{effectOf, resultOf, viewOf}
 use Rattle.protocol.specs.ReferenceDisk.{durable, fed}
 use Rattle.protocol.specs.Events.{World, call, mayFinish, called, run, steps, startOf}
-use Rattle.protocol.specs.Demand3.{storedWindow, Place, slotSaid, place, own, Mends, Kept, Safe}
+use Rattle.protocol.specs.Demand3.{storedWindow, Place, slotSaid, place, own, Mends, Kept, ownLabel, Safe}
 use Rattle.protocol.proofs.cases.Report.{nothing, Line, line, linesOf, Report, readsOf, report, lost, start, filled}
 use Rattle.protocol.proofs.cases.Known.{known}
 use Rattle.protocol.proofs.cases.Case.{Script, scripted, Computed, shows, usual, one, textOf, fresh}
@@ -60,19 +61,23 @@ ended k = not (refused (k .said)) && (mayFinish (kind step) && isReady (k .phase
 other-page : filled 69 ≢ filled 9
 other-page e = let q : _≡_ {A = ℕ} 69 9 = ap (λ (l : List ℕ). getD l 0 0) e in omega arith
 
+low : {w : World} → Safe usual w → five .0 < ownLabel w .blocks
+unfolding five
+low S = subst (λ (l : Label). 5 < l .blocks) (sym (S .label)) (omega arith)
+
 pub loses-flushed : Safe usual losesFlushed → ⊥
 unfolding losesFlushed landedThenCut five ended run report linesOf readsOf called
 loses-flushed S =
     let lines = ap (λ (r : Report). ended (getD (r .lines) 3 (line done nothing Ready))) shown-4 in
     let reads = ap (λ (r : Report). getD (r .reads) 0 []) shown-4 in
-    other-page (sym reads ∙ List·Memᴰ·eq-of-singleton (S .allowed (call step) tt lines five (omega arith)))
+    other-page (sym reads ∙ List·Memᴰ·eq-of-singleton (S .allowed (call step) tt lines five (low S)))
 
 pub mends-to-another : Safe usual mendsToAnother → ⊥
 unfolding mendsToAnother announcedThenCut five ended run report linesOf readsOf called
 mends-to-another S =
     let lines = ap (λ (r : Report). ended (getD (r .lines) 2 (line done nothing Ready))) shown-3 in
     let reads = ap (λ (r : Report). getD (r .reads) 0 []) shown-3 in
-    other-page (sym reads ∙ List·Memᴰ·eq-of-singleton (S .allowed (call step) tt lines five (omega arith)))
+    other-page (sym reads ∙ List·Memᴰ·eq-of-singleton (S .allowed (call step) tt lines five (low S)))
 
 -- A ready box that reads another page than the plain disk's.
 unfoldable pub readsAnother : World
@@ -86,7 +91,7 @@ unfolding readsAnother five report readsOf
 reads-another S =
     let on = ap (λ (r : Report). isReady (r .state .phase)) shown-4 in
     let reads = ap (λ (r : Report). getD (r .reads) 0 []) shown-4 in
-    other-page (sym reads ∙ S .reads on five (omega arith))
+    other-page (sym reads ∙ S .reads on five (low S))
 
 -- Boxes with hand 4 of 4 slots and no images, whose record is refused by 3: ready, and mending.
 abbrev pub handless : Phase → World
@@ -94,6 +99,15 @@ handless p = record {
   box = record { images = record { ssd = []; hdd = [] }; table = []; state = recordOf usual (record { 0 = 4 }) 0 p false [] };
   disk = durable (λ b. []);
 }
+
+-- the record has another label than the format's
+pub other-label : Safe one (handless Ready) → ⊥
+other-label S = let q : _≡_ {A = ℕ} 4 1 = ap (λ (l : Label). l .slots) (S .label) in omega arith
+
+-- the SSD image has no label
+pub loses-label : Safe usual (handless Ready) → ⊥
+unfolding known
+loses-label S = let q : _≡_ {A = ℕ} 0 4 = ap (λ (l : Label). l .slots) (S .stored-label) in omega arith
 
 -- a view of a ready box is refused
 pub refuses-view : Safe usual (handless Ready) → ⊥
@@ -194,23 +208,23 @@ window-none : storedWindow one (unstored .images) ≡ []
 unfolding known textOf
 window-none = refl
 
-place-slot : (x : Box) (b : Block) → isReady (x .state .phase) ≡ true → place one x b .slot ≡ slotSaid (resultOf (lookUp b) x .said)
+place-slot : (x : Box) (b : Block) → isReady (x .state .phase) ≡ true → place x b .slot ≡ slotSaid (resultOf (lookUp b) x .said)
 unfolding place
 place-slot x b h = rw h
 
-was-there : place one unstored (record { 0 = 1 }) .slot ≡ some (record { 0 = 0 })
+was-there : place unstored (record { 0 = 1 }) .slot ≡ some (record { 0 = 0 })
 was-there = place-slot unstored (record { 0 = 1 }) refl ∙ ap slotSaid slot-said
 
-must-keep : Safe one (startOf one unstored) → Kept one (call reopen) [] (record { 0 = 1 }) (startOf one unstored)
+must-keep : Safe one (startOf one unstored) → Kept (call reopen) [] (record { 0 = 1 }) (startOf one unstored)
 unfolding listed
-must-keep S = S .keeps (call reopen) tt own (record { 0 = 1 }) (omega arith) (λ s h. clash (rw window-none at h) refl) [] tt tt
+must-keep S = S .keeps (call reopen) tt own (record { 0 = 1 }) (omega arith) (λ s h. clash (rw (S .stored-label, window-none) at h) refl) [] tt tt
 
 pub loses-slot : Safe one (startOf one unstored) → ⊥
 unfolding run
 loses-slot S =
     let b : Block = record { 0 = 1 } in
-    let gone : place one (called reopen (startOf one unstored) .box) b .slot ≡ none =
-    ap (λ (x : Box). place one x b .slot) reopened-is ∙ place-slot (fresh one (textOf 49 50)) b refl ∙ ap slotSaid none-said in
+    let gone : place (called reopen (startOf one unstored) .box) b .slot ≡ none =
+    ap (λ (x : Box). place x b .slot) reopened-is ∙ place-slot (fresh one (textOf 49 50)) b refl ∙ ap slotSaid none-said in
     Option·some-ne-none _ (sym was-there ∙ sym (ap (λ (p : Place). p .slot) (must-keep S .place-kept)) ∙ gone)
 
 pub loses-row : Safe one (startOf one unstored) → ⊥
