@@ -8,10 +8,7 @@ use std::os::unix::fs::FileExt;
 use std::path::{Path, PathBuf};
 
 /// 14 slots make an SSD of 64 KiB, the most that the listing reads.
-pub const GEOMETRY: Geometry = Geometry {
-    slots: 14,
-    blocks: 64,
-};
+pub const GEOMETRY: Geometry = Geometry::new(14, 64);
 
 pub struct FieldBox {
     folder: PathBuf,

@@ -39,10 +39,7 @@ impl Call {
         let block = || Block(number(0));
         let blocks = || (0..arguments.len()).map(|at| Block(number(at)));
         match name.trim_end() {
-            "format" => Call::Format(Geometry {
-                slots: number(0),
-                blocks: number(1),
-            }),
+            "format" => Call::Format(Geometry::new(number(0), number(1))),
             "step" => Call::Step,
             "reopen" => Call::Reopen,
             "offer" => Call::Offer(block(), Caller::People),

@@ -33,10 +33,7 @@ fn landing(b: &mut Beside, text: &str) -> String {
 
 /// Of a write: 7, 11, 15 and 3; of a fetch: 5, and 13, which no call leaves.
 fn flags() -> Vec<String> {
-    let mut b = Beside::formatted(Geometry {
-        slots: 4,
-        blocks: 8,
-    });
+    let mut b = Beside::formatted(Geometry::new(4, 8));
     let make = |b: &mut Beside, texts: &str| {
         texts.split(", ").for_each(|text| {
             b.make(&Call::of(text)).expect("a call that is served");
@@ -65,10 +62,7 @@ fn flags() -> Vec<String> {
 /// announced, overwritten and copied out, and where it is at the end: as the calls are, or, for the order before, with each
 /// used flag put back that a landing has set.
 fn saved(as_is: bool) -> String {
-    let mut b = Beside::formatted(Geometry {
-        slots: 8,
-        blocks: 40,
-    });
+    let mut b = Beside::formatted(Geometry::new(8, 40));
     let (mut announced, mut overwritten, mut copied_out) = (0, 0, 0);
     for minute in 0..30 {
         for block in [0, 1].map(Block) {

@@ -14,7 +14,7 @@ pub struct Listed {
 impl Listed {
     /// A box formatted: its phase after the format and after each step.
     pub fn formatted(title: &str, slots: u32, blocks: u32) -> Self {
-        let geometry = Geometry { slots, blocks };
+        let geometry = Geometry::new(slots, blocks);
         let mut rig = Rig::unformatted(geometry);
         let text = format!("format {slots} {blocks}");
         let mut line = format!("{text} -> {}", say::said(rig.make(&Call::of(&text)).said));

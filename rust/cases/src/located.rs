@@ -5,10 +5,7 @@ use crate::rig::{word as at, Call, Rig};
 use crate::say;
 use ferjulm::{Block, Cache, Geometry, Images, Record, Refusal};
 
-const SMALL: Geometry = Geometry {
-    slots: 4,
-    blocks: 8,
-};
+const SMALL: Geometry = Geometry::new(4, 8);
 
 pub fn lines() -> Vec<String> {
     let mut lines = vec![String::new(), "lists of blocks".to_string()];
@@ -101,10 +98,7 @@ fn doubled() -> Vec<String> {
 
 /// Sixty-four blocks that leave the same when divided by 4,096, in 64 slots, in the reverse order of the list.
 fn one_mark() -> String {
-    let geometry = Geometry {
-        slots: 64,
-        blocks: 64 * 4096,
-    };
+    let geometry = Geometry::new(64, 64 * 4096);
     let (mut images, mut record) = (Images::zeroed(geometry), Record::default());
     let mut table = vec![0; geometry.table_words()];
     let mut cache = Cache::new(images.lend(), &mut table, &mut record);

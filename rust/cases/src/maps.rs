@@ -66,10 +66,7 @@ fn flags() -> Vec<String> {
 
 /// While formatting and while mending it is 6, however long the buffer; and 3, 4 and 5 come before 14.
 fn early() -> Vec<String> {
-    let geometry = Geometry {
-        slots: 4,
-        blocks: 8,
-    };
+    let geometry = Geometry::new(4, 8);
     let mut rig = Rig::unformatted(geometry);
     let mut lines = vec![String::new(), "map, refused".to_string()];
     rig.make(&Call::Format(geometry)).said.expect("a format");

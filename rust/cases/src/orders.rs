@@ -64,7 +64,7 @@ fn landing(block: Block) -> Call {
 /// A box of which slots are opened from the hand on.
 fn opened(slots: u32, hand: u32, calls: &[Call]) -> Beside {
     let blocks = slots + 9;
-    let mut b = Beside::formatted(Geometry { slots, blocks });
+    let mut b = Beside::formatted(Geometry::new(slots, blocks));
     b.rig.set(word::HAND, hand);
     calls.iter().for_each(|call| made(&mut b, call));
     b

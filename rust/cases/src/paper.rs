@@ -6,10 +6,7 @@ use crate::say;
 use crate::stored::{label, label_page, named, page, ssd_of, Meta, Metas};
 use ferjulm::{Block, Caller, Geometry, Images, PAGE};
 
-const SMALL: Geometry = Geometry {
-    slots: 4,
-    blocks: 8,
-};
+const SMALL: Geometry = Geometry::new(4, 8);
 
 pub fn lines() -> Vec<String> {
     vec![p1(), p2(), p3(), p4(), p5(), p6(), p7(), p8(), p9(), p10()]
@@ -149,10 +146,7 @@ fn run(b: &mut Beside, calls: &[(&str, Call)]) -> String {
 }
 
 fn p8() -> String {
-    let mut b = Beside::formatted(Geometry {
-        slots: 1,
-        blocks: 2,
-    });
+    let mut b = Beside::formatted(Geometry::new(1, 2));
     let calls = [
         ("offer 0", Call::Offer(Block(0), Caller::People)),
         ("land A", Call::Land(Block(0), named("A"))),
@@ -169,10 +163,7 @@ fn p8() -> String {
 }
 
 fn p9() -> String {
-    let mut b = Beside::formatted(Geometry {
-        slots: 2,
-        blocks: 3,
-    });
+    let mut b = Beside::formatted(Geometry::new(2, 3));
     let calls = [
         ("fetch 0", Call::Fetch(Block(0), Caller::People)),
         ("land it", Call::LandFetch(Block(0))),
@@ -186,10 +177,7 @@ fn p9() -> String {
 }
 
 fn p10() -> String {
-    let geometry = Geometry {
-        slots: 241,
-        blocks: 8,
-    };
+    let geometry = Geometry::new(241, 8);
     let metas = [
         Meta::with(1, &[0], &[(5, 7)]),
         Meta::with(2, &[240], &[(6, 7)]),

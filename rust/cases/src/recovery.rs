@@ -7,14 +7,8 @@ use crate::stored::{page, LANDED_PAGES};
 use ferjulm::{Block, Caller, Geometry};
 
 pub fn lines() -> Vec<String> {
-    let two = Geometry {
-        slots: 241,
-        blocks: 250,
-    };
-    let three = Geometry {
-        slots: 481,
-        blocks: 490,
-    };
+    let two = Geometry::new(241, 250);
+    let three = Geometry::new(481, 490);
     let mut lines = cuts(two, &[3, 7], 2);
     lines.extend(cuts(three, &[3, 250], 3));
     lines

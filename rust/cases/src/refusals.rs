@@ -6,10 +6,7 @@ use crate::rig::{Call, Rig};
 use crate::stored::{label, label_page};
 use ferjulm::{Block, Geometry, PAGE};
 
-const SMALL: Geometry = Geometry {
-    slots: 4,
-    blocks: 8,
-};
+const SMALL: Geometry = Geometry::new(4, 8);
 
 /// The numbers of the phases.
 const FORMATTING: u32 = 0;

@@ -5,14 +5,8 @@ use crate::say;
 use crate::stored::{ssd_of, Meta};
 use ferjulm::{Geometry, Images, PAGE};
 
-const SMALL: Geometry = Geometry {
-    slots: 4,
-    blocks: 8,
-};
-const TWO_PAGES: Geometry = Geometry {
-    slots: 241,
-    blocks: 8,
-};
+const SMALL: Geometry = Geometry::new(4, 8);
+const TWO_PAGES: Geometry = Geometry::new(241, 8);
 
 pub fn lines() -> Vec<String> {
     let mut lines = vec![reopened("after P6's second offer", small())];

@@ -170,10 +170,7 @@ fn taken() -> Vec<String> {
 
 /// A block in two rows, of which an earlier place takes the lower: the other counts then.
 fn doubled() -> Vec<String> {
-    let mut rig = Rig::formatted(Geometry {
-        slots: 4,
-        blocks: 8,
-    });
+    let mut rig = Rig::formatted(Geometry::new(4, 8));
     rig.table = vec![6, 1, 7, 3, 6, 1, 0, 0];
     let said = rig.make(&Call::of("offer list 5 6 7")).said;
     let (said, record, rows) = (say::said(said), say::record(&rig.record), rows(&rig));

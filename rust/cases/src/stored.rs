@@ -110,7 +110,7 @@ pub fn label_page(text: &str) -> Vec<u8> {
 
 /// The text of a label.
 pub fn label(geometry: Geometry) -> String {
-    let Geometry { slots, blocks } = geometry;
+    let Geometry { slots, blocks, .. } = geometry;
     format!("cache=lufuw\nlayout=1\nslots={slots}\nblocks={blocks}\n")
 }
 

@@ -143,7 +143,7 @@ impl<'a> Cache<'a> {
     /// ```
     /// use ferjulm::{Block, Cache, Caller, Geometry, Images, OfferedList, Record, Refusal, PAGE};
     ///
-    /// let geometry = Geometry { slots: 4, blocks: 8 };
+    /// let geometry = Geometry::new(4, 8);
     /// let (mut images, mut record) = (Images::zeroed(geometry), Record::default());
     /// let mut table = vec![0; geometry.table_words()];
     /// let mut cache = Cache::new(images.lend(), &mut table, &mut record);
@@ -201,7 +201,7 @@ impl<'a> Cache<'a> {
     /// ```
     /// use ferjulm::{Block, Cache, Caller, Geometry, Images, Record, Refusal};
     ///
-    /// let geometry = Geometry { slots: 16, blocks: 32 };
+    /// let geometry = Geometry::new(16, 32);
     /// let (mut images, mut record) = (Images::zeroed(geometry), Record::default());
     /// let mut table = vec![0; geometry.table_words()];
     /// let mut cache = Cache::new(images.lend(), &mut table, &mut record);
@@ -249,7 +249,7 @@ impl<'a> Cache<'a> {
     /// ```
     /// use ferjulm::{Block, Cache, Caller, Condition, Geometry, Images, Record, Refusal, Slot, PAGE};
     ///
-    /// let geometry = Geometry { slots: 4, blocks: 8 };
+    /// let geometry = Geometry::new(4, 8);
     /// let (mut images, mut record) = (Images::zeroed(geometry), Record::default());
     /// let mut table = vec![0; geometry.table_words()];
     /// let mut cache = Cache::new(images.lend(), &mut table, &mut record);
@@ -284,7 +284,7 @@ impl<'a> Cache<'a> {
     /// ```
     /// use ferjulm::{Block, Cache, Caller, Geometry, Images, Record, Refusal};
     ///
-    /// let geometry = Geometry { slots: 4, blocks: 8 };
+    /// let geometry = Geometry::new(4, 8);
     /// let (mut images, mut record) = (Images::zeroed(geometry), Record::default());
     /// let mut table = vec![0; geometry.table_words()];
     /// let mut cache = Cache::new(images.lend(), &mut table, &mut record);
@@ -331,7 +331,7 @@ impl<'a> Cache<'a> {
     /// ```
     /// use ferjulm::{Block, Cache, Caller, Geometry, Images, Record, Refusal, PAGE};
     ///
-    /// let geometry = Geometry { slots: 62, blocks: 99 };
+    /// let geometry = Geometry::new(62, 99);
     /// let (mut images, mut record) = (Images::zeroed(geometry), Record::default());
     /// let mut table = vec![0; geometry.table_words()];
     /// let mut cache = Cache::new(images.lend(), &mut table, &mut record);
@@ -369,7 +369,7 @@ impl<'a> Cache<'a> {
     /// ```
     /// use ferjulm::{Block, Cache, Caller, Cost, Counts, Geometry, Images, Record, Refusal, PAGE};
     ///
-    /// let geometry = Geometry { slots: 1, blocks: 2 };
+    /// let geometry = Geometry::new(1, 2);
     /// let (mut images, mut record) = (Images::zeroed(geometry), Record::default());
     /// let mut table = vec![0; geometry.table_words()];
     /// let mut cache = Cache::new(images.lend(), &mut table, &mut record);

@@ -26,18 +26,24 @@ impl Block {
 
 /// How many slots and blocks a box has. Format refuses numbers outside the limits: 1 to 57,600 slots, 1 to 16,777,216 blocks.
 #[derive(Clone, Copy, Debug, PartialEq, Eq)]
+#[non_exhaustive]
 pub struct Geometry {
     pub slots: u32,
     pub blocks: u32,
 }
 
 impl Geometry {
+    /// A geometry of any numbers.
+    pub const fn new(slots: u32, blocks: u32) -> Self {
+        Geometry { slots, blocks }
+    }
+
     /// The geometry that an SSD image's label tells, for images whose size is not known; none where reopening them would be
     /// refused by 2. Only the first page is read.
     pub fn of_label(ssd: &[u8]) -> Option<Self> {
         let (mut slots, mut blocks) = (0, 0);
         let code = calls::label(ssd, &mut slots, &mut blocks);
-        (code == 0).then_some(Geometry { slots, blocks })
+        (code == 0).then_some(Geometry::new(slots, blocks))
     }
 
     /// The number of metadata pages: slots / 240 rounded up.

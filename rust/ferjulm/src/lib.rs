@@ -10,7 +10,7 @@
 //! // where the images are kept on drives, a stored page is written to its drive here, and synced
 //! let store = |_: Place, _: &[u8; PAGE]| Ok::<(), Refusal>(());
 //!
-//! let geometry = Geometry { slots: 4, blocks: 8 };
+//! let geometry = Geometry::new(4, 8);
 //! let mut images = Images::zeroed(geometry);
 //! let mut table = vec![0; geometry.table_words()];
 //! let mut record = Record::default();

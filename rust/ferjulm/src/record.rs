@@ -56,10 +56,7 @@ impl Record {
 
     /// Slots and blocks.
     pub fn geometry(&self) -> Geometry {
-        Geometry {
-            slots: self.0[0],
-            blocks: self.0[1],
-        }
+        Geometry::new(self.0[0], self.0[1])
     }
 
     /// The slot at which the next sweep starts.

@@ -9,10 +9,7 @@ use cases::rig::{Call, Rig};
 use cases::say;
 use ferjulm::{calls, Block, Geometry, Images, PAGE};
 
-const GEOMETRY: Geometry = Geometry {
-    slots: 4,
-    blocks: 8,
-};
+const GEOMETRY: Geometry = Geometry::new(4, 8);
 
 /// What is done on the page, in order.
 const DONE: [&str; 12] = [

@@ -11,7 +11,7 @@ const UNSET: [u32; 2] = [77, 78];
 fn read(ssd: &[u8]) -> Option<Geometry> {
     let [mut slots, mut blocks] = UNSET;
     let read = match calls::label(ssd, &mut slots, &mut blocks) {
-        0 => Some(Geometry { slots, blocks }),
+        0 => Some(Geometry::new(slots, blocks)),
         code => {
             assert_eq!((code, [slots, blocks]), (2, UNSET));
             None
@@ -33,7 +33,7 @@ fn written(page: &[u8]) -> Option<Geometry> {
         line.parse().ok()
     };
     let (slots, blocks) = (number("slots=")?, number("blocks=")?);
-    let geometry = Geometry { slots, blocks };
+    let geometry = Geometry::new(slots, blocks);
     (within((slots, blocks)) && label_page(&label(geometry)) == page).then_some(geometry)
 }
 
@@ -42,7 +42,7 @@ fn labels_that_a_format_writes() {
     let limits = [1, 9, 10, 4, 239, 240, 241, 57_599, 57_600];
     for slots in limits {
         for blocks in [1, 8, 99_999, 16_777_215, 16_777_216] {
-            let geometry = Geometry { slots, blocks };
+            let geometry = Geometry::new(slots, blocks);
             let page = label_page(&label(geometry));
             assert_eq!(read(&page), Some(geometry));
             // the rest of the image is not read
@@ -52,10 +52,7 @@ fn labels_that_a_format_writes() {
             );
         }
     }
-    let geometry = Geometry {
-        slots: 241,
-        blocks: 8,
-    };
+    let geometry = Geometry::new(241, 8);
     let rig = Rig::formatted(geometry);
     assert_eq!(read(&rig.images.ssd), Some(geometry));
     assert_eq!(read(&Rig::unformatted(geometry).images.ssd), None);
@@ -63,10 +60,7 @@ fn labels_that_a_format_writes() {
 
 #[test]
 fn images_under_a_page() {
-    let page = label_page(&label(Geometry {
-        slots: 4,
-        blocks: 8,
-    }));
+    let page = label_page(&label(Geometry::new(4, 8)));
     for length in [0, 1, 40, PAGE - 1] {
         assert_eq!(read(&page[..length]), None, "{length} bytes");
     }
@@ -101,10 +95,7 @@ fn labels_that_are_not_legal() {
     for text in broken {
         assert_eq!(read(&label_page(text)), None, "{text:?}");
     }
-    let mut page = label_page(&label(Geometry {
-        slots: 4,
-        blocks: 8,
-    }));
+    let mut page = label_page(&label(Geometry::new(4, 8)));
     page[PAGE - 1] = 1;
     assert_eq!(read(&page), None, "not zero to its end");
 }
@@ -112,10 +103,7 @@ fn labels_that_are_not_legal() {
 /// Every byte of the text and some after it, made every other: read as what a format would have written, or not at all.
 #[test]
 fn labels_with_another_byte() {
-    let page = label_page(&label(Geometry {
-        slots: 57_600,
-        blocks: 16_777_216,
-    }));
+    let page = label_page(&label(Geometry::new(57_600, 16_777_216)));
     let mut legal = 0;
     for at in (0..64).chain([PAGE - 1]) {
         for byte in 0..=255 {

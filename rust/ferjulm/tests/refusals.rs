@@ -3,10 +3,7 @@
 use cases::rig::Rig;
 use ferjulm::{Block, Caller, Geometry, Lent, Refusal, WrongLength, PAGE};
 
-const SMALL: Geometry = Geometry {
-    slots: 4,
-    blocks: 8,
-};
+const SMALL: Geometry = Geometry::new(4, 8);
 
 /// The wrong length that each call tells, of a box that judges by this geometry.
 fn lengths(rig: &mut Rig, geometry: Geometry) -> Vec<WrongLength> {
@@ -70,7 +67,7 @@ fn a_refusal_in_words() {
         refused.to_string(),
         "refused by 9: land: block neither open for writing nor dirty; land a fetch: not open for fetch"
     );
-    let more = Geometry { slots: 5, ..SMALL };
+    let more = Geometry::new(5, SMALL.blocks);
     let refused: Box<dyn std::error::Error> = rig.cache().format(more).unwrap_err().into();
     assert_eq!(
         refused.to_string(),

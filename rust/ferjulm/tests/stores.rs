@@ -22,10 +22,7 @@ fn opened(rig: &mut Rig, call: &str) -> Slot {
 }
 
 /// 481 slots are three metadata pages.
-const GEOMETRY: Geometry = Geometry {
-    slots: 481,
-    blocks: 500,
-};
+const GEOMETRY: Geometry = Geometry::new(481, 500);
 const METADATA: usize = 3;
 
 #[test]

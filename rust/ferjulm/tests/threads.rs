@@ -22,10 +22,7 @@ fn everything_is_send_and_sync() {
 
 #[test]
 fn several_threads_view_and_map_one_box_at_once() {
-    let mut rig = Rig::formatted(Geometry {
-        slots: 4,
-        blocks: 8,
-    });
+    let mut rig = Rig::formatted(Geometry::new(4, 8));
     for call in ["offer 5", "land 5 A", "fetch 2", "land fetch 2", "offer 6"] {
         rig.make(&Call::of(call)).said.expect(call);
     }
@@ -57,10 +54,7 @@ fn several_threads_view_and_map_one_box_at_once() {
 
 #[test]
 fn a_box_goes_from_one_thread_to_another() {
-    let mut rig = Rig::formatted(Geometry {
-        slots: 4,
-        blocks: 8,
-    });
+    let mut rig = Rig::formatted(Geometry::new(4, 8));
     let mut cache = rig.cache();
     let stored = thread::scope(|scope| {
         let made = scope.spawn(move || cache.offer(Block(5), Caller::People));

@@ -7,10 +7,7 @@ use cases::stored::{label, label_page, page, Meta, Metas, LANDED_PAGES};
 use ferjulm::{Block, Caller, Condition, Geometry, Images, Place, Slot, PAGE};
 use std::collections::BTreeMap;
 
-const WHOLE: Geometry = Geometry {
-    slots: 57_600,
-    blocks: 60_000,
-};
+const WHOLE: Geometry = Geometry::new(57_600, 60_000);
 
 /// The box, and the pages that its calls named, as they were stored last.
 struct Whole {

@@ -185,10 +185,7 @@ pub fn boxes(geometry: Geometry) -> Vec<Input> {
 
 /// So many open slots of a caller: 63 are the box of number 11, 8 of the import that of 17.
 pub fn opened(count: u32, caller: Caller) -> Input {
-    let geometry = Geometry {
-        slots: 64,
-        blocks: 66,
-    };
+    let geometry = Geometry::new(64, 66);
     let mut rig = Rig::formatted(geometry);
     for block in 0..count {
         let offer = Call::Offer(Block(block), caller);

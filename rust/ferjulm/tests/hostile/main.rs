@@ -21,10 +21,7 @@ use kinds::{Kind, KINDS};
 use lent::{Lent, UNSET};
 use std::collections::BTreeMap;
 
-const SMALL: Geometry = Geometry {
-    slots: 4,
-    blocks: 8,
-};
+const SMALL: Geometry = Geometry::new(4, 8);
 
 /// Makes one call and checks it; returns its result.
 fn check(kind: &Kind, input: &Input) -> u32 {
@@ -71,13 +68,13 @@ fn check_fits(kind: &Kind, lent: &mut Lent, input: &Input) {
     let name = kind.name;
     if name == "label" {
         let (slots, blocks) = (lent.slots.lent()[0], lent.blocks.lent()[0]);
-        let text = label(Geometry { slots, blocks });
+        let text = label(Geometry::new(slots, blocks));
         assert!(input.ssd[..PAGE] == label_page(&text), "label: {text}");
         return;
     }
     let record = lent.record.lent();
     let (slots, blocks) = (record[0], record[1]);
-    let geometry = Geometry { slots, blocks };
+    let geometry = Geometry::new(slots, blocks);
     assert!(
         (1..=57_600).contains(&slots) && (1..=16_777_216).contains(&blocks),
         "{name}: limits"
@@ -261,10 +258,7 @@ fn check_place(kind: &Kind, result: u32, lent: &mut Lent, before: &Lent, input: 
 #[test]
 fn any_input_is_refused_or_served_within() {
     let mut inputs = boxes(SMALL);
-    inputs.extend(boxes(Geometry {
-        slots: 1,
-        blocks: 4,
-    }));
+    inputs.extend(boxes(Geometry::new(1, 4)));
     let early = inputs.len();
     for stamp in [u32::MAX, u32::MAX - 63, u32::MAX - 64] {
         for k in 0..early {

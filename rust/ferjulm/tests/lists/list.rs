@@ -103,7 +103,7 @@ impl<'a> List<'a> {
 
     /// Any block; one that was not cached at first; or the block of a slot, which is any or an end of a metadata page.
     fn block(&mut self) -> Block {
-        let Geometry { slots, blocks } = self.b.geometry;
+        let Geometry { slots, blocks, .. } = self.b.geometry;
         let slot = match self.random.below(10) {
             0..=2 => return Block(self.random.below(blocks)),
             3..=5 => return Block(slots + self.random.below(blocks - slots)),
@@ -223,7 +223,7 @@ impl<'a> List<'a> {
 
     /// A call that a ready box refuses.
     fn refused_call(&mut self) -> Call {
-        let Geometry { slots, blocks } = self.b.geometry;
+        let Geometry { slots, blocks, .. } = self.b.geometry;
         let high = Block(blocks + self.random.below(3));
         match self.random.below(10) {
             6 => Call::list([self.block(), high].into_iter()),
@@ -235,16 +235,13 @@ impl<'a> List<'a> {
             1 => Call::View(high),
             2 => Call::Land(self.open_block(), vec![0; PAGE - 1]),
             3 => Call::Step,
-            4 => Call::Format(Geometry { slots: 0, blocks }),
+            4 => Call::Format(Geometry::new(0, blocks)),
             5 => Call::Map(self.b.geometry.map_bytes() - 1),
             8 => Call::OfferList(
                 self.random.of(&[&[][..], &[high, high], &[high]]).to_vec(),
                 Caller::Import,
             ),
-            _ => Call::Format(Geometry {
-                slots: slots + 1,
-                blocks,
-            }),
+            _ => Call::Format(Geometry::new(slots + 1, blocks)),
         }
     }
 

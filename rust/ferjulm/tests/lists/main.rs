@@ -37,7 +37,7 @@ fn random_lists_beside_the_plain_disk() {
         let before = (all.events, all.cuts, all.cuts_while_recovering);
         let Size { slots, blocks, .. } = *size;
         for seed in 0..size.lists {
-            List::new(Geometry { slots, blocks }, seed, &mut all).run(size.events);
+            List::new(Geometry::new(slots, blocks), seed, &mut all).run(size.events);
         }
         let (events, cuts) = (all.events - before.0, all.cuts - before.1);
         let recovering = all.cuts_while_recovering - before.2;
