@@ -290,11 +290,11 @@ module _ (ssd hdd : List ℕ) (r : Record) (kept : recordTest r ≡ true) (ready
         ]) (tally said)
 
         opens-ends : offerTurnAt l t (z .hand) number (conditionOf t b) ≡ Opens s f n hand
-            → Finished (opensIf (spent (z .newest)) l t z b s f n hand)
+            → Finished (opensIf (spent l (z .newest)) l t z b s f n hand)
         unfolding tallies perform confirmed
-        opens-ends e = go (told (spent (z .newest)))
+        opens-ends e = go (told (spent l (z .newest)))
           where
-            go : Told (spent (z .newest)) → Finished (opensIf (spent (z .newest)) l t z b s f n hand)
+            go : Told (spent l (z .newest)) → Finished (opensIf (spent l (z .newest)) l t z b s f n hand)
             go (told-true p) = rw (p, opensIf) (at (by-turn e ∙ ap branch p) refl (met _ _ refl (λ h. omega arith) refl refl))
             go (told-false p) = rw (p, opensIf) (at (by-turn e ∙ ap branch p) refl
                 (went _ _ true (ap (λ (f : Effect). refused (f .said)) landing-₁) fresh

@@ -176,12 +176,12 @@ module _ {t : List ℕ} (s : Record) (F : Fair t s) (b : Block) (bl : b .0 < s .
         unheld = λ n c z d H. unheld-flags t (u .0) _ (omega (arith, F .size))
             (changed-landed true (fair-rows F (u .0) h .flags) (getD t (2 * u .0) 0) v .still) n c H;
       }
-  takes-placed (opens u f n hand O) e r q = go (told (spent (r .newest)))
+  takes-placed (opens u f n hand O) e r q = go (told (spent l (r .newest)))
     where
       S : Sound l (landedRow (setRow (clearedFrom n l t (s .hand)) u b f) u) (windowIn s)
       S = opened-sound F b bl number u f n hand O
 
-      go : Told (spent (r .newest)) → Placed l t r b (opensIf (spent (r .newest)) l t r b u f n hand)
+      go : Told (spent l (r .newest)) → Placed l t r b (opensIf (spent l (r .newest)) l t r b u f n hand)
       go (told-true z) = rw (z, opensIf) (unmoved (rw q (steady-of s F)) 13)
       go (told-false z) = rw (z, opensIf, q) (record {
         steady = steady-of (ranAs s hand 0 false) (fair-of s (F .record-kept) (F .ready) S hand (O .hand-low) 0 false);
@@ -198,7 +198,7 @@ module _ {t : List ℕ} (s : Record) (F : Fair t s) (b : Block) (bl : b .0 < s .
   takes-copies : (T : Turn) (r : Run) (d : Slot) → taken T l t r b d .run .copies ≡ r .copies
   takes-copies (Refused n) r d = refl
   takes-copies Passes r d = refl
-  takes-copies (Opens u f n hand) r d = go (spent (r .newest))
+  takes-copies (Opens u f n hand) r d = go (spent l (r .newest))
     where
       go : (z : Bool) → opensIf z l t r b u f n hand .run .copies ≡ r .copies
       go true = refl

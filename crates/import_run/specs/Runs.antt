@@ -90,7 +90,7 @@ opensIf false l table r b s flags n hand = landsIn (setRow (clearedFrom n l tabl
 abbrev pub taken : Turn → Label → List ℕ → Run → Block → Slot → After
 taken (Refused n) l table r b d = record { run = meets n r; table = table }
 taken Passes l table r b d = landsIn table r d
-taken (Opens s flags n hand) l table r b d = opensIf (spent (r .newest)) l table r b s flags n hand
+taken (Opens s flags n hand) l table r b d = opensIf (spent l (r .newest)) l table r b s flags n hand
 taken (CopiesOut s n) l table r b d = record { run = r; table = table }
 
 -- a slot is copied out: its row is clean

@@ -55,9 +55,9 @@ fn open(
     requires { ⌜ (length (now table) ≡ tableLength l) × (run .hand .0 < l .slots) ⌝ }
     requires { ⌜ (s .0 < l .slots) × (flags < 16) ⌝ }
     requires { ⌜ Early run ⌝ }
-    ensures { λ r. ⌜ record { run = r; table = now (table .exit) } ≡ opensIf (spent (run .newest)) l (now (table .entry)) run b s flags passed hand ⌝ }
+    ensures { λ r. ⌜ record { run = r; table = now (table .exit) } ≡ opensIf (spent l (run .newest)) l (now (table .entry)) run b s flags passed hand ⌝ }
 {
-    if turn::is_spent(run.newest) {
+    if turn::is_spent(l, run.newest) {
         return met(run, 13);
     }
     let from = run.hand;

@@ -1,5 +1,5 @@
 -- What a service that no reason refuses does, and what is known of the box as it does it: all that is shown of services rests on this.
-use Prim.Native.Nat.{ℕ, _+_, _-_, _*_, _%_, _≤_, _<_}
+use Prim.Native.Nat.{ℕ, _+_, _*_, _%_, _≤_, _<_}
 use mathlib.Core.Path.{_≡_, refl, sym, ap, subst, _∙_}
 use mathlib.Core.Logic.{_≢_, _⊎_, inl, inr}
 use mathlib.Core.Bool.{Bool, true, false, not, _&&_}
@@ -14,12 +14,13 @@ use Rattle.layout.specs.declared.Slot.{Slot}
 use Rattle.layout.specs.declared.Block.{Block}
 use Rattle.layout.specs.declared.Label.{Label}
 use Rattle.layout.specs.Places.{blockPlace, metaOf, tableLength}
+use Rattle.layout.specs.Stamps.{largestStamp, openingBound}
 use Rattle.protocol.specs.declared.Condition.{Condition}
 use Rattle.protocol.specs.Reply.{Reply, overwrite, copiedOut, nothingToDo, refused}
 use Rattle.protocol.specs.Rows.{rowFlags, setFlags, setRow, valid, dirty, writing, withWriting, openRows}
 use Rattle.record.specs.declared.Record.{Record}
 use Rattle.record.specs.Callers.{openBy}
-use Rattle.record.specs.Record.{labelIn, windowIn, callersIn, largestStamp}
+use Rattle.record.specs.Record.{labelIn, windowIn, callersIn}
 use Rattle.record.proofs.CallerLaws.{by-more}
 use Rattle.protocol.specs.Box.{Box}
 use Rattle.protocol.specs.Condition.{conditionOf, closedSlots, isOpen, takesWrite, takesFetch}
@@ -92,7 +93,7 @@ pub data Does (x : Box) : Aim → Move → Type 0 where
       → Does x a (uses s said)
   does-use-all : {a : Aim} {ss : List Slot} → Quiet a → Alike (labelIn (x .state)) (x .table) (usedAll ss (x .table)) → Does x a (usesAll ss)
   does-announce : {a : Aim} {said : Reply} {q : ℕ} {t : List ℕ} {h : Slot} {w : List Slot} {cs : List ℕ} → Quiet a
-      → refused said ≡ false → Openings x q t h w cs → x .state .newest < largestStamp - 63 → Does x a (announces said q t h w cs)
+      → refused said ≡ false → Openings x q t h w cs → x .state .newest < openingBound (labelIn (x .state)) → Does x a (announces said q t h w cs)
   does-copy : {a : Aim} {s : Slot} {said : Reply} {v : List ℕ} {hand : Slot} → Quiet a → refused said ≡ false → Copying x s v hand
       → Does x a (copies s said v hand)
   -- a write lands in its block's slot, open or dirty; a fetch in one that is open
@@ -102,7 +103,7 @@ pub data Does (x : Box) : Aim → Move → Type 0 where
       → writing (rowFlags (x .table) s) ≡ true → Does x a (lands false s (pageAt (x .images .hdd) (blockPlace (labelIn (x .state)) b)))
   -- a flush with nothing to confirm, and with something
   does-rest : {b : Block} {said : Reply} → refused said ≡ false → x .state .unconfirmed ≡ false → Does x (aims b toSettle) (stay said)
-  does-confirm : {b : Block} → x .state .unconfirmed ≡ true → x .state .newest < largestStamp → Does x (aims b toSettle) confirms
+  does-confirm : {b : Block} → x .state .unconfirmed ≡ true → x .state .newest < largestStamp (labelIn (x .state)) → Does x (aims b toSettle) confirms
 
 -- it is no refusal
 pub does-said : {x : Box} {a : Aim} {m : Move} → Does x a m → refused (perform m x .said) ≡ false
@@ -179,7 +180,7 @@ pub data Taken (x : Box) : Move → Type 0 where
   taken-copy : {s : Slot} {v : List ℕ} {hand : Slot} → Copying x s v hand → Taken x (copies s copiedOut v hand)
 
 pub taken-does : {x : Box} {a : Aim} → Quiet a → {m : Move} → Taken x m
-    → (storesMeta m && leb (largestStamp - 63) (x .state .newest)) ≡ false → Does x a m
+    → (storesMeta m && leb (openingBound (labelIn (x .state))) (x .state .newest)) ≡ false → Does x a m
 taken-does z (taken-stay n) spent = does-nothing z (still-said n)
 taken-does z (taken-open O) spent = does-announce z refl (opens-one O refl) (leb-false _ _ spent)
 taken-does z (taken-copy C) spent = does-copy z refl C
@@ -321,7 +322,7 @@ module _ (x : Box) (L : Fit x) where
   writesBack b (is-writing s H w d) = does-nothing (λ d. refl) refl
   writesBack b (is-fetching s H w d) = does-nothing (λ d. refl) refl
 
-  flushes : (u : Bool) → x .state .unconfirmed ≡ u → (storesMeta (flushing u) && leb largestStamp (x .state .newest)) ≡ false
+  flushes : (u : Bool) → x .state .unconfirmed ≡ u → (storesMeta (flushing u) && leb (largestStamp (labelIn (x .state))) (x .state .newest)) ≡ false
       → Does x (aims noBlock toSettle) (flushing u)
   flushes true e spent = does-confirm e (leb-false _ _ spent)
   flushes false e spent = does-rest refl e

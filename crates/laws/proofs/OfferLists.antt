@@ -1,6 +1,6 @@
 -- A list of blocks offered as one (document 02, N3): each place does what a single offer does, so all that it announces are openings on
 -- one metadata page.
-use Prim.Native.Nat.{ℕ, zero, suc, _-_, _<_}
+use Prim.Native.Nat.{ℕ, zero, suc, _<_}
 use mathlib.Core.Path.{_≡_, refl, sym, subst, _∙_}
 use mathlib.Core.Bool.{Bool, true, false, not, _&&_, _||_}
 use mathlib.Core.List.{List, [], _∷_, _++_}
@@ -12,7 +12,8 @@ use borrow.Author.Tests.{leb-false, eqb-true}
 use Rattle.layout.specs.declared.Slot.{Slot}
 use Rattle.layout.specs.declared.Block.{Block}
 use Rattle.layout.specs.Places.{metaOf}
-use Rattle.record.specs.Record.{labelIn, windowIn, callersIn, largestStamp}
+use Rattle.layout.specs.Stamps.{openingBound}
+use Rattle.record.specs.Record.{labelIn, windowIn, callersIn}
 use Rattle.record.proofs.RecordLaws.{parts, remade-same}
 use Rattle.protocol.specs.Rows.{setRow, openRows}
 use Rattle.protocol.specs.Box.{Box}
@@ -112,14 +113,14 @@ module _ (x : Box) (L : Legal x) (S : Sound (labelIn (x .state)) (x .table) (win
       go rest (goes {z = y} R′) = rest y R′
 
   announces-does : {a : Aim} → Quiet a → {o : Option ℕ} {t : List ℕ} {h : Slot} {w : List Slot} {cs : List ℕ} → Ran o t h w cs → (n : ℕ)
-      → (storesMeta (announcing o (offeredOf n o t h w cs)) && leb (largestStamp - 63) (x .state .newest)) ≡ false
+      → (storesMeta (announcing o (offeredOf n o t h w cs)) && leb (openingBound (labelIn (x .state))) (x .state .newest)) ≡ false
       → Does x a (announcing o (offeredOf n o t h w cs))
   announces-does q ran-none n spent = does-nothing q refl
   announces-does q (ran-some Os) n spent = does-announce q refl Os (leb-false _ _ spent)
 
   -- the first place alone, or all that were dealt with
   together-does : {a : Aim} → Quiet a → {first : Move} → Taken x first → (z : Offered) → RanTo z → (n : ℕ)
-      → (storesMeta (together n first z) && leb (largestStamp - 63) (x .state .newest)) ≡ false → Does x a (together n first z)
+      → (storesMeta (together n first z) && leb (openingBound (labelIn (x .state))) (x .state .newest)) ≡ false → Does x a (together n first z)
   together-does q T z R zero spent = taken-does q T spent
   together-does q T z R (suc n) spent = announces-does q R (z .places) spent
 

@@ -2,6 +2,8 @@ pub mod Booleans
 pub mod Loops
 pub mod ZeroLaws
 pub mod PlaceLaws
+pub mod StampCases
+pub mod StampLaws
 pub mod Decimal
 pub mod LabelLaws
 pub mod LabelExamples

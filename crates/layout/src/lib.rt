@@ -2,6 +2,7 @@
 // page is (crate label_page has its code), and a metadata page (metadata, page_rule).
 pub mod numbers;
 pub mod places;
+pub mod stamps;
 pub mod zeros;
 
 // The number of a slot: a place in the SSD, counted from 0.

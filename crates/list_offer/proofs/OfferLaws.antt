@@ -1,6 +1,6 @@
 -- What a list leaves that is offered, once it was run in memory: refused, the first block's offer alone, or one store for all.
 use Prim.Native.Nat.{ℕ, zero, suc, _-_, _<_}
-use mathlib.Core.Path.{_≡_, refl, sym, ap, _∙_}
+use mathlib.Core.Path.{_≡_, refl, sym, ap, subst, _∙_}
 use mathlib.Core.Logic.{_≢_}
 use mathlib.Core.Bool.{Bool, true, false, not, _&&_, _||_}
 use mathlib.Core.List.{List, [], _∷_}
@@ -11,9 +11,10 @@ use lib.Dec.{leb}
 use borrow.Author.Tests.{leb-true, leb-false, le-ltb, lt-leb}
 use Rattle.layout.specs.declared.Block.{Block}
 use Rattle.layout.specs.Places.{metaPages}
+use Rattle.layout.specs.Stamps.{largestStamp, openingBound}
 use Rattle.layout.proofs.Booleans.{Told, told, told-true, told-false, or-neither}
 use Rattle.record.specs.declared.Record.{Record}
-use Rattle.record.specs.Record.{labelIn, largestStamp}
+use Rattle.record.specs.Record.{labelIn}
 use Rattle.record.proofs.RecordLaws.{parts, remade-same}
 use Rattle.protocol.specs.declared.Condition.{Condition}
 use Rattle.protocol.specs.declared.Condition.the-variants.{NotCached, Clean, Dirty, Writing, Fetching}
@@ -129,7 +130,7 @@ module _ (ssd hdd t : List ℕ) (r : Record) (blocks : List ℕ) (caller : ℕ) 
             ap (λ (o : Option Reason). decided o c x)
             (asked ∙ first-no _ blockTooHigh _ (lt-leb (r .label .blocks) (b .0) low)
             ∙ first-same (λ q. test q c x) (λ q. test q (offer b caller) x) (slotOpen ∷ importFull ∷ windowFull ∷ allOpen ∷ stampsSpent ∷ [])
-            (refl, (refl, (refl, (refl, (ap (λ (m : Move). storesMeta m && leb 4294967232 (r .newest)) plan-is, tt)))))
+            (refl, (refl, (refl, (refl, (ap (λ (m : Move). storesMeta m && leb (openingBound (labelIn r)) (r .newest)) plan-is, tt)))))
             ∙ sym (judged-on (offer b caller) x _ _ (offer-judges ssd hdd t r b caller) (serves low)))
             ∙ decided-same c (offer b caller) x plan-is (judged (offer b caller) x)
 
@@ -179,10 +180,10 @@ module _ (ssd hdd t : List ℕ) (r : Record) (blocks : List ℕ) (caller : ℕ) 
         stores-is none = refl
         stores-is (some p) = refl
 
-        spends-is : test stampsSpent c x ≡ (announcesAny z && spent (r .newest))
+        spends-is : test stampsSpent c x ≡ (announcesAny z && spent (labelIn r) (r .newest))
         unfolding test
-        spends-is = ap (λ (m : Move). storesMeta m && spent (r .newest)) moves-as
-            ∙ ap (λ (d : Bool). d && spent (r .newest)) (stores-is (z .page))
+        spends-is = ap (λ (m : Move). storesMeta m && spent (labelIn r) (r .newest)) moves-as
+            ∙ ap (λ (d : Bool). d && spent (labelIn r) (r .newest)) (stores-is (z .page))
 
         last : judged c x ≡ firstOf (stampsSpent ∷ []) (λ q. test q c x)
         unfolding test
@@ -195,8 +196,8 @@ module _ (ssd hdd t : List ℕ) (r : Record) (blocks : List ℕ) (caller : ℕ) 
             asked ∙ first-no _ blockTooHigh _ (q .0) ∙ first-no _ slotOpen _ (u .0) ∙ first-no _ importFull _ (w .0)
             ∙ first-no _ windowFull _ (w .1) ∙ first-no _ allOpen _ (v .1)
 
-        judged-as : (announcesAny z && spent (r .newest)) ≡ refused13 t r blocks caller
-        judged-as = ap (λ (y : Offered). announcesAny y && spent (r .newest)) (offers-bare ssd hdd t r caller blocks (notYet x))
+        judged-as : (announcesAny z && spent (labelIn r) (r .newest)) ≡ refused13 t r blocks caller
+        judged-as = ap (λ (y : Offered). announcesAny y && spent (labelIn r) (r .newest)) (offers-bare ssd hdd t r caller blocks (notYet x))
 
         offers-spent : refused13 t r blocks caller ≡ true → left (refusing 13 x) (x .images) ≡ resultOf c x
         offers-spent e = refused-as c x stampsSpent
@@ -243,16 +244,16 @@ module _ (ssd hdd t : List ℕ) (r : Record) (blocks : List ℕ) (caller : ℕ) 
                   ∙ ap (λ (s : Record). left (confirmed p (dealt (q .places)) s v (x .images .ssd)) (x .images)) (sym (E .state-is)) ∙ gone m
 
           -- and its store is in order
-          pub stamp-left : q .page ≢ 0 → q .state .newest < largestStamp
+          pub stamp-left : q .page ≢ 0 → q .state .newest < largestStamp (labelIn (q .state))
           stamp-left k = go (q .page) refl
             where
-              go : (p : ℕ) → q .page ≡ p → q .state .newest < largestStamp
+              go : (p : ℕ) → q .page ≡ p → q .state .newest < largestStamp (labelIn (q .state))
               go zero p = absurd (k p)
               go (suc p) m =
-                  let s : spent (r .newest) ≡ false =
-                  ap (λ (i : ℕ). elim (pageOf i) [ none ↦ false | some j ↦ true ] && spent (r .newest)) (sym m)
-                  ∙ ap (λ (y : Offered). announcesAny y && spent (r .newest)) (E .offered) ∙ e in
-                  omega (arith, leb-false 4294967232 (r .newest) s, ap (λ (s : Record). s .newest) (E .state-is))
+                  let s : spent (labelIn r) (r .newest) ≡ false =
+                  ap (λ (i : ℕ). elim (pageOf i) [ none ↦ false | some j ↦ true ] && spent (labelIn r) (r .newest)) (sym m)
+                  ∙ ap (λ (y : Offered). announcesAny y && spent (labelIn r) (r .newest)) (E .offered) ∙ e in
+                  subst (λ (s : Record). s .newest < largestStamp (labelIn s)) (E .state-is) (omega (arith, leb-false _ (r .newest) s))
 
           label-is : labelIn (q .state) ≡ labelIn r
           label-is = sym (ap labelIn (E .state-is))

@@ -8,6 +8,8 @@ use denote.Enum.Declared.{tagOf}
 use types.Run.{OneOf}
 use Rattle.layout.specs.declared.Slot.{Slot}
 use Rattle.layout.specs.declared.Block.{Block}
+use Rattle.layout.specs.declared.Label.{Label}
+use Rattle.record.specs.Record.{labelIn}
 use Rattle.turns.proofs.turn.Turn.{the-type}
 use Rattle.turns.specs.declared.turn.Turn.{Turn}
 use Rattle.turns.specs.declared.turn.Turn.the-variants.{Refused, Passes, Opens, CopiesOut}
@@ -33,21 +35,21 @@ module _ (n : ℕ) (r : Run) (s : Slot) where
 
 -- a turn by which the run ends
 module _ (r : Run) (caller : ℕ) (b : Block) (t : List ℕ) where
-  pub run-ends : (T : Turn) → endBy T (r .page) (r .state .newest) ≢ 0 → runAfter T r caller ≡ ended (endBy T (r .page) (r .state .newest)) r
+  pub run-ends : (T : Turn) → endBy (labelIn (r .state)) T (r .page) (r .state .newest) ≢ 0 → runAfter T r caller ≡ ended (endBy (labelIn (r .state)) T (r .page) (r .state .newest)) r
   run-ends (Refused n) e = refl
   run-ends Passes e = absurd (e refl)
   run-ends (Opens s flags n hand) e = sym (opened-not _ r s caller hand e)
   run-ends (CopiesOut s n) e = refl
 
-  pub table-ends : (T : Turn) → endBy T (r .page) (r .state .newest) ≢ 0 → tableAfterTurn T r b t ≡ t
+  pub table-ends : (T : Turn) → endBy (labelIn (r .state)) T (r .page) (r .state .newest) ≢ 0 → tableAfterTurn T r b t ≡ t
   table-ends (Refused n) e = refl
   table-ends Passes e = refl
   table-ends (Opens s flags n hand) e = sym (row-not _ r s b flags n t e)
   table-ends (CopiesOut s n) e = refl
 
 -- a turn that opens no slot, by which the run goes on: it passes
-pub goes-passes : (T : Turn) (page newest : ℕ) → OneOf (0 ∷ 1 ∷ 3 ∷ []) (tagOf the-type T) → endBy T page newest ≡ 0 → T ≡ Passes
-goes-passes (Refused n) page newest k e = absurd (omega arith)
-goes-passes Passes page newest k e = refl
-goes-passes (Opens s flags n hand) page newest k e = absurd (⊎-elim (λ w. omega arith) (λ v. ⊎-elim (λ w. omega arith) (λ w. omega arith) v) k)
-goes-passes (CopiesOut s n) page newest k e = absurd (omega arith)
+pub goes-passes : (l : Label) (T : Turn) (page newest : ℕ) → OneOf (0 ∷ 1 ∷ 3 ∷ []) (tagOf the-type T) → endBy l T page newest ≡ 0 → T ≡ Passes
+goes-passes l (Refused n) page newest k e = absurd (omega arith)
+goes-passes l Passes page newest k e = refl
+goes-passes l (Opens s flags n hand) page newest k e = absurd (⊎-elim (λ w. omega arith) (λ v. ⊎-elim (λ w. omega arith) (λ w. omega arith) v) k)
+goes-passes l (CopiesOut s n) page newest k e = absurd (omega arith)

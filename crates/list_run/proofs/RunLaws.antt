@@ -156,7 +156,7 @@ module _ (t₀ : List ℕ) (r₀ : Record) (blocks words : List ℕ) (caller : �
     pub fair : Fair t (run .state)
     pub fixed : (h : Slot) (w : List Slot) (cs : List ℕ) → grown (run .state) h w cs ≡ grown r₀ h w cs
     pub fresh : run .page ≡ 0 → t ≡ t₀
-    pub stamps : run .page ≢ 0 → spent (r₀ .newest) ≡ false
+    pub stamps : run .page ≢ 0 → spent (labelIn r₀) (r₀ .newest) ≡ false
     pub later : run .places ≡ 0 → run .page ≡ 0
     pub page-low : run .page ≤ metaPages (labelIn r₀)
 
@@ -189,15 +189,15 @@ module _ (t₀ : List ℕ) (r₀ : Record) (blocks words : List ℕ) (caller : �
     same-state : grown r₀ (run .state .hand) (windowIn (run .state)) (callersIn (run .state)) ≡ run .state
     same-state = sym (K .fixed _ _ _) ∙ remade-same (run .state) (parts (run .state) (K .fair .record-kept))
 
-    spends-none : (announcesAny (offeredBy t run) && spent (r₀ .newest)) ≡ false
+    spends-none : (announcesAny (offeredBy t run) && spent (labelIn r₀) (r₀ .newest)) ≡ false
     spends-none = go (run .page) refl
       where
-        go : (p : ℕ) → run .page ≡ p → (elim (pageOf p) [ none ↦ false | some q ↦ true ] && spent (r₀ .newest)) ≡ false
+        go : (p : ℕ) → run .page ≡ p → (elim (pageOf p) [ none ↦ false | some q ↦ true ] && spent (labelIn r₀) (r₀ .newest)) ≡ false
         go zero e = refl
         go (suc p) e = K .stamps (λ z. omega arith)
 
-    finished : run .end ≢ 13 → {z : Offered} → offeredBy t run ≡ z → Ran (announcesAny z && spent (r₀ .newest)) t₀ r₀ t run z
-    finished n e = subst (λ (z : Offered). Ran (announcesAny z && spent (r₀ .newest)) t₀ r₀ t run z) e
+    finished : run .end ≢ 13 → {z : Offered} → offeredBy t run ≡ z → Ran (announcesAny z && spent (labelIn r₀) (r₀ .newest)) t₀ r₀ t run z
+    finished n e = subst (λ (z : Offered). Ran (announcesAny z && spent (labelIn r₀) (r₀ .newest)) t₀ r₀ t run z) e
         (subst (λ (b : Bool). Ran b t₀ r₀ t run (offeredBy t run)) (sym spends-none) (record {
           other = n;
           offered = refl;
@@ -323,7 +323,7 @@ module _ (t₀ : List ℕ) (r₀ : Record) (blocks words : List ℕ) (caller : �
           bound-low zero e = omega arith
           bound-low (suc w) e = omega arith
 
-      joins : there ≡ some y → spent (r₀ .newest) ≡ false → Stepped j q v
+      joins : there ≡ some y → spent (labelIn r₀) (r₀ .newest) ≡ false → Stepped j q v
       joins e new = goes (record {
         kept = record {
           fair = opened-fair (G .kept .fair) O caller known;
@@ -343,7 +343,7 @@ module _ (t₀ : List ℕ) (r₀ : Record) (blocks words : List ℕ) (caller : �
           low = rw (ap labelIn (G .kept .fixed hand [] [])) at (meta-of-low (labelIn (run .state)) s (O .low))
 
       -- the first slot, and no stamp left for it
-      spends : there ≡ some y → run .page ≡ 0 → spent (r₀ .newest) ≡ true → Stepped j (ended 13 run) t
+      spends : there ≡ some y → run .page ≡ 0 → spent (labelIn r₀) (r₀ .newest) ≡ true → Stepped j (ended 13 run) t
       spends e first used = ends (λ w. omega arith)
           (subst (λ (d : Bool). Ran d t₀ r₀ t (ended 13 run) (offeredAs t₀ r₀ blocks caller)) (sym refuses) (refl, G .kept .fresh first, all .1))
         where
@@ -352,30 +352,30 @@ module _ (t₀ : List ℕ) (r₀ : Record) (blocks words : List ℕ) (caller : �
               (page-stays x caller (metaOf s) (drop (j + 1) blocks) y (refl, omega arith))
 
           refuses : refused13 t₀ r₀ blocks caller ≡ true
-          refuses = ap (λ (p : Option ℕ). elim p [ none ↦ false | some q ↦ true ] && spent (r₀ .newest)) (all .0) ∙ used
+          refuses = ap (λ (p : Option ℕ). elim p [ none ↦ false | some q ↦ true ] && spent (labelIn r₀) (r₀ .newest)) (all .0) ∙ used
 
-      newest-is : run .state .newest ≡ r₀ .newest
-      newest-is = ap (λ (r : Record). r .newest) (G .kept .fixed (run .state .hand) [] [])
+      spent-is : spent (labelIn (run .state)) (run .state .newest) ≡ spent (labelIn r₀) (r₀ .newest)
+      spent-is = ap (λ (r : Record). spent (labelIn r) (r .newest)) (G .kept .fixed (run .state .hand) [] [])
 
       opens-by : there ≡ dealtWith z (opens (run .state) s b caller f (clearedFrom n (labelIn (run .state)) t (run .state .hand)) hand)
           → Stepped j (runAfter (Opens s f n hand) run caller) (tableAfterTurn (Opens s f n hand) run b t)
-      opens-by e = go (told (onPage (pageOf (run .page)) (metaOf s))) (ℕ-discrete (run .page) 0) (told (spent (run .state .newest)))
+      opens-by e = go (told (onPage (pageOf (run .page)) (metaOf s))) (ℕ-discrete (run .page) 0) (told (spent (labelIn (run .state)) (run .state .newest)))
         where
-          at : (m : ℕ) → m ≡ endOf (run .page) (run .state .newest) (metaOf s) → Stepped j (openedIf m run s caller hand) (rowIf m run b s f n t)
+          at : (m : ℕ) → m ≡ endOf (labelIn (run .state)) (run .page) (run .state .newest) (metaOf s) → Stepped j (openedIf m run s caller hand) (rowIf m run b s f n t)
               → Stepped j (runAfter (Opens s f n hand) run caller) (tableAfterTurn (Opens s f n hand) run b t)
           at m k p = subst (λ (d : ℕ). Stepped j (openedIf d run s caller hand) (rowIf d run b s f n t)) k p
 
           by : {d : Bool} → onPage (pageOf (run .page)) (metaOf s) ≡ d → there ≡ elim d [ true ↦ some y | false ↦ none ]
           by k = e ∙ ap (λ (d : Bool). elim d [ true ↦ some y | false ↦ none ]) k
 
-          go : Told (onPage (pageOf (run .page)) (metaOf s)) → Dec (run .page ≡ 0) → Told (spent (run .state .newest))
+          go : Told (onPage (pageOf (run .page)) (metaOf s)) → Dec (run .page ≡ 0) → Told (spent (labelIn (run .state)) (run .state .newest))
               → Stepped j (runAfter (Opens s f n hand) run caller) (tableAfterTurn (Opens s f n hand) run b t)
-          go (told-false k) p u = at 1 (end-other (run .state .newest) (metaOf s) (run .page) k) (stop 1 (λ w. omega arith) (λ w. omega arith) (by k))
-          go (told-true k) (no p) u = at 0 (end-again (run .state .newest) (metaOf s) (run .page) k p) (joins (by k) (G .kept .stamps p))
-          go (told-true k) (yes p) (told-true u) = at 13 (end-spent (run .state .newest) (metaOf s) (run .page) p u)
-              (spends (by k) p (ap spent (sym newest-is) ∙ u))
-          go (told-true k) (yes p) (told-false u) = at 0 (end-first (run .state .newest) (metaOf s) (run .page) p u)
-              (joins (by k) (ap spent (sym newest-is) ∙ u))
+          go (told-false k) p u = at 1 (end-other (labelIn (run .state)) (run .state .newest) (metaOf s) (run .page) k) (stop 1 (λ w. omega arith) (λ w. omega arith) (by k))
+          go (told-true k) (no p) u = at 0 (end-again (labelIn (run .state)) (run .state .newest) (metaOf s) (run .page) k p) (joins (by k) (G .kept .stamps p))
+          go (told-true k) (yes p) (told-true u) = at 13 (end-spent (labelIn (run .state)) (run .state .newest) (metaOf s) (run .page) p u)
+              (spends (by k) p (sym spent-is ∙ u))
+          go (told-true k) (yes p) (told-false u) = at 0 (end-first (labelIn (run .state)) (run .state .newest) (metaOf s) (run .page) p u)
+              (joins (by k) (sym spent-is ∙ u))
 
     stepped : {T : Turn} → Placing t (run .state) b caller (conditionOf t b) T → Stepped j (runAfter T run caller) (tableAfterTurn T run b t)
     stepped (declined n e) = stop 1 (λ w. omega arith) (λ w. omega arith) (e z)

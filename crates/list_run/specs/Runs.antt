@@ -54,10 +54,10 @@ rowIf zero r b s flags n table = setRow (clearedFrom n (labelIn (r .state)) tabl
 rowIf (suc m) r b s flags n table = table
 
 abbrev pub announcedRun : Run → Slot → ℕ → Slot → Run
-announcedRun r s caller hand = openedIf (endOf (r .page) (r .state .newest) (metaOf s)) r s caller hand
+announcedRun r s caller hand = openedIf (endOf (labelIn (r .state)) (r .page) (r .state .newest) (metaOf s)) r s caller hand
 
 abbrev pub announcedTable : Run → Block → Slot → ℕ → ℕ → List ℕ → List ℕ
-announcedTable r b s flags n table = rowIf (endOf (r .page) (r .state .newest) (metaOf s)) r b s flags n table
+announcedTable r b s flags n table = rowIf (endOf (labelIn (r .state)) (r .page) (r .state .newest) (metaOf s)) r b s flags n table
 
 -- a place's turn: the run after it, and the table
 abbrev pub runAfter : Turn → Run → ℕ → Run
@@ -107,7 +107,7 @@ announcesAny z = elim (z .page) [ none ↦ false | some p ↦ true ]
 
 -- 13 "refuses the whole list"
 abbrev pub refused13 : List ℕ → Record → List ℕ → ℕ → Bool
-refused13 table r blocks caller = announcesAny (offeredAs table r blocks caller) && spent (r .newest)
+refused13 table r blocks caller = announcesAny (offeredAs table r blocks caller) && spent (labelIn r) (r .newest)
 
 -- the places dealt with: in one run of memory, with the record of the last of them
 pub record Ended (table : List ℕ) (r : Record) (after : List ℕ) (q : Run) (z : Offered) : Type 0 where

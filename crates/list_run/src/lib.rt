@@ -50,7 +50,7 @@ pub fn run_places(
         let b = Block(blocks[j]);
         let number = turn::crowded(running.count, mine);
         let turn = deal::decide(l, table, hand, number, b, words[j]);
-        let end = deal::end_by(turn, page, running.newest);
+        let end = deal::end_by(l, turn, page, running.newest);
         if end != 0 {
             return Run {
                 state: running,

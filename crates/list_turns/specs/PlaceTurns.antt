@@ -26,16 +26,16 @@ pageOf (suc p) = some p
 
 -- what a slot on page p ends the run by: 1, where it "has its slot on another metadata page than the first announced"; 13, "judged once,
 -- for that store", where it is the first; else 0
-abbrev pub endOf : ℕ → ℕ → ℕ → ℕ
-endOf page newest p =
+abbrev pub endOf : Label → ℕ → ℕ → ℕ → ℕ
+endOf l page newest p =
     elim (onPage (pageOf page) p) [
-      | true ↦ elim (pageOf page) [ none ↦ elim (spent newest) [ true ↦ 13 | false ↦ 0 ] | some q ↦ 0 ]
+      | true ↦ elim (pageOf page) [ none ↦ elim (spent l newest) [ true ↦ 13 | false ↦ 0 ] | some q ↦ 0 ]
       | false ↦ 1
     ]
 
 -- what a turn ends the run by; where it goes on, 0
-abbrev pub endBy : Turn → ℕ → ℕ → ℕ
-endBy (Refused n) page newest = 1
-endBy Passes page newest = 0
-endBy (Opens s flags n hand) page newest = endOf page newest (metaOf s)
-endBy (CopiesOut s n) page newest = 1
+abbrev pub endBy : Label → Turn → ℕ → ℕ → ℕ
+endBy l (Refused n) page newest = 1
+endBy l Passes page newest = 0
+endBy l (Opens s flags n hand) page newest = endOf l page newest (metaOf s)
+endBy l (CopiesOut s n) page newest = 1

@@ -30,8 +30,8 @@ fn on_page(page: u32, p: u32) -> bool
 }
 
 // The number by which a slot on a metadata page ends the run: 1 on another page, 13 where it would be the first, and no stamp is left.
-fn end_of(page: u32, newest: u32, p: u32) -> u32
-    ensures { λ r. ⌜ r ≡ endOf page newest p ⌝ }
+fn end_of(l: Label, page: u32, newest: u32, p: u32) -> u32
+    ensures { λ r. ⌜ r ≡ endOf l page newest p ⌝ }
 {
     if !on_page(page, p) {
         return 1;
@@ -39,20 +39,20 @@ fn end_of(page: u32, newest: u32, p: u32) -> u32
     if page != 0 {
         return 0;
     }
-    if turn::is_spent(newest) {
+    if turn::is_spent(l, newest) {
         return 13;
     }
     0
 }
 
 // The number by which a turn ends the run: what is refused or copies out does, by 1; 0 where it goes on.
-pub fn end_by(turn: Turn, page: u32, newest: u32) -> u32
-    ensures { λ r. ⌜ r ≡ endBy turn page newest ⌝ }
+pub fn end_by(l: Label, turn: Turn, page: u32, newest: u32) -> u32
+    ensures { λ r. ⌜ r ≡ endBy l turn page newest ⌝ }
 {
     match turn {
         Turn::Refused(_) => 1,
         Turn::Passes => 0,
-        Turn::Opens(s, _, _, _) => end_of(page, newest, places::meta_of(s)),
+        Turn::Opens(s, _, _, _) => end_of(l, page, newest, places::meta_of(s)),
         Turn::CopiesOut(_, _) => 1,
     }
 }

@@ -1,9 +1,9 @@
 // "Flush: if unsettled, store metadata page 0; else "nothing to do"."
 use layout::Block;
+use layout::stamps;
 use moves::answers;
 use protocol::Answer;
 use protocol::Outcome;
-use record::LARGEST_STAMP;
 use record::Record;
 ghost use mathlib.Core.Path.{_≡_};
 ghost use Rattle.protocol.specs.Calls.{leaves, flushOf};
@@ -19,7 +19,8 @@ pub fn flush(ssd: &mut [u8], hdd: &[u8], table: &[u32], state: Record) -> Outcom
     if !state.unconfirmed {
         return answers::answered(Answer::NothingToDo, state);
     }
-    if LARGEST_STAMP <= state.newest {
+    let top = stamps::largest_stamp(state.label);
+    if top <= state.newest {
         return answers::refused(13, state);
     }
     moves::confirm(ssd, table, state, 0, Answer::Done)

@@ -21,7 +21,8 @@ ghost use Rattle.protocol.specs.Metadata.{storePlace, metaBytes};
 ghost use Rattle.layout.specs.PageRule.{listed};
 ghost use Rattle.protocol.specs.Rows.{rowBlock, rowFlags, setFlags, setRow, dirty, withUsed, withoutWriting, withoutDirty};
 ghost use Rattle.layout.specs.Window.{windowMost};
-ghost use Rattle.record.specs.Record.{largestStamp, labelIn, windowIn, callersIn, withStamp, withWindow, withCallers};
+ghost use Rattle.layout.specs.Stamps.{largestStamp};
+ghost use Rattle.record.specs.Record.{labelIn, windowIn, callersIn, withStamp, withWindow, withCallers};
 ghost use Rattle.record.specs.Window.{without, beside};
 ghost use Rattle.record.specs.Rule.{recordTest};
 ghost use Rattle.protocol.specs.Perform.{joined, landedFlags};
@@ -61,7 +62,7 @@ pub fn store_meta(ssd: &mut [u8], table: &[u32], state: Record, stamp: u32, p: u
 pub fn confirm(ssd: &mut [u8], table: &[u32], state: Record, p: u32, answer: Answer) -> Outcome
     requires { ⌜ FitsRecord (length (now ssd)) (length (now table)) state ⌝ }
     requires { ⌜ p < metaPages (labelIn state) ⌝ }
-    requires { ⌜ state .newest < largestStamp ⌝ }
+    requires { ⌜ state .newest < largestStamp (labelIn state) ⌝ }
     ensures { λ q. ⌜ (q ≡ record { answer = answer; state = withStamp state (state .newest + 1); stored = Ssd (storePlace (labelIn state) (now (ssd .entry)) p) }) × (now (ssd .exit) ≡ putPage (now (ssd .entry)) (storePlace (labelIn state) (now (ssd .entry)) p) (metaBytes (labelIn state) (state .newest + 1) (windowIn state) (rowsOn p (now (table .entry))))) ⌝ }
 {
     let stamp = state.newest + 1;
@@ -94,7 +95,7 @@ pub fn open_slot(
     requires { ⌜ FitsRecord (length (now ssd)) (length (now table)) state ⌝ }
     requires { ⌜ recordTest state ≡ true ⌝ }
     requires { ⌜ state .count < windowMost ⌝ }
-    requires { ⌜ state .newest < largestStamp ⌝ }
+    requires { ⌜ state .newest < largestStamp (labelIn state) ⌝ }
     requires { ⌜ s .0 < state .label .slots ⌝ }
     ensures { λ q. ⌜ (q ≡ record { answer = Announced s; state = withStamp (joined s caller hand state) (state .newest + 1); stored = Ssd (storePlace (labelIn state) (now (ssd .entry)) (metaOf s)) }) × (now (table .exit) ≡ setRow (now (table .entry)) s b flags) × (now (ssd .exit) ≡ putPage (now (ssd .entry)) (storePlace (labelIn state) (now (ssd .entry)) (metaOf s)) (metaBytes (labelIn state) (state .newest + 1) (windowIn (joined s caller hand state)) (rowsOn (metaOf s) (setRow (now (table .entry)) s b flags)))) ⌝ }
 {

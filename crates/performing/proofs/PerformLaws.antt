@@ -43,31 +43,31 @@ use Rattle.turns.proofs.TurnLaws.{hand-low, rows-of, turn-full, crowd-import, c
 
 -- 13, or a slot is opened
 module _ (s : Slot) (flags passed : ℕ) (hand : Slot) (b : Block) (caller : ℕ) (x : Box) where
-  pub turn-spent : spent (x .state .newest) ≡ true → refusing 13 x ≡ turned (Opens s flags passed hand) b caller x
+  pub turn-spent : spent (labelIn (x .state)) (x .state .newest) ≡ true → refusing 13 x ≡ turned (Opens s flags passed hand) b caller x
   turn-spent n = rw (n, turned)
 
-  pub turn-opens : spent (x .state .newest) ≡ false
+  pub turn-opens : spent (labelIn (x .state)) (x .state .newest) ≡ false
       → perform (opens (x .state) s b caller flags (tableAfter passed x) hand) x ≡ turned (Opens s flags passed hand) b caller x
   turn-opens n = rw (n, turned)
 
 -- 13 alone is left to ask of a call: it opens a slot, or it copies one out
 module _ (c : Call) (x : Box) (b : Block) (caller passed : ℕ)
     (j : judged c x ≡ firstOf (stampsSpent ∷ []) (λ q. test q c x))
-    (e : test stampsSpent c x ≡ (storesMeta (plan c x) && spent (x .state .newest))) where
+    (e : test stampsSpent c x ≡ (storesMeta (plan c x) && spent (labelIn (x .state)) (x .state .newest))) where
   opening : (s : Slot) (flags : ℕ) (hand : Slot) → plan c x ≡ opens (x .state) s b caller flags (tableAfter passed x) hand
       → effectOf c x ≡ turned (Opens s flags passed hand) b caller x
-  opening s flags hand p = go (told (spent (x .state .newest)))
+  opening s flags hand p = go (told (spent (labelIn (x .state)) (x .state .newest)))
     where
-      asks : test stampsSpent c x ≡ spent (x .state .newest)
-      asks = e ∙ ap (λ (m : Move). storesMeta m && spent (x .state .newest)) p
+      asks : test stampsSpent c x ≡ spent (labelIn (x .state)) (x .state .newest)
+      asks = e ∙ ap (λ (m : Move). storesMeta m && spent (labelIn (x .state)) (x .state .newest)) p
 
-      go : Told (spent (x .state .newest)) → effectOf c x ≡ turned (Opens s flags passed hand) b caller x
+      go : Told (spent (labelIn (x .state)) (x .state .newest)) → effectOf c x ≡ turned (Opens s flags passed hand) b caller x
       go (told-true n) = refuses c x stampsSpent (j ∙ first-yes _ stampsSpent [] (asks ∙ n)) ∙ turn-spent s flags passed hand b caller x n
       go (told-false n) = does c x _ (j ∙ first-no _ stampsSpent [] (asks ∙ n) ∙ end _) p ∙ turn-opens s flags passed hand b caller x n
 
   copying : (s : Slot) → plan c x ≡ copies s copiedOut (tableAfter passed x) s → effectOf c x ≡ turned (CopiesOut s passed) b caller x
   copying s p = does c x _
-      (j ∙ first-no _ stampsSpent [] (e ∙ ap (λ (m : Move). storesMeta m && spent (x .state .newest)) p) ∙ end _) p
+      (j ∙ first-no _ stampsSpent [] (e ∙ ap (λ (m : Move). storesMeta m && spent (labelIn (x .state)) (x .state .newest)) p) ∙ end _) p
 
 -- a call that opens another slot: 17 or 11 refuses it, whatever its turn would be, or there is room and the rest is asked
 data Crowd (c : Call) (x : Box) (b : Block) (caller : ℕ) (more : List Reason) : Type 0 where
@@ -102,7 +102,7 @@ module _ (c : Call) (x : Box) (b : Block) (caller flags : ℕ) (size : length (x
     (j : judged c x ≡ firstOf (importFull ∷ windowFull ∷ allOpen ∷ stampsSpent ∷ []) (λ q. test q c x))
     (e17 : test importFull c x ≡ importOpen caller (x .state))
     (e11 : test windowFull c x ≡ leb 63 (openRows (x .table))) (e12 : test allOpen c x ≡ allWriting (x .table))
-    (e13 : test stampsSpent c x ≡ (storesMeta (plan c x) && spent (x .state .newest))) (p : plan c x ≡ sweeps x b caller flags) where
+    (e13 : test stampsSpent c x ≡ (storesMeta (plan c x) && spent (labelIn (x .state)) (x .state .newest))) (p : plan c x ≡ sweeps x b caller flags) where
   abbrev l : Label
   l = labelIn (x .state)
 
@@ -186,7 +186,7 @@ module _ (ssd hdd t : List ℕ) (r : Record) (b : Block) (caller : ℕ)
           ∙ first-no _ importFull _ (ap (λ (k : Condition). opensAnother toWrite k && importOpen caller r) e)
           ∙ first-no _ windowFull _ (ap (λ (k : Condition). opensAnother toWrite k && leb 63 (openRows t)) e)
           ∙ first-no _ allOpen _ (ap (λ (k : Condition). not (isCached k) && allWriting t) e)
-          ∙ first-no _ stampsSpent _ (ap (λ (k : Condition). storesMeta (offering x b caller k) && spent (r .newest)) e) ∙ end _)
+          ∙ first-no _ stampsSpent _ (ap (λ (k : Condition). storesMeta (offering x b caller k) && spent (labelIn r) (r .newest)) e) ∙ end _)
           (ap (offering x b caller) e)
       go (Writing s) e = refuses (offer b caller) x slotOpen (asked ∙ first-yes _ slotOpen _ (ap isOpen e))
       go (Fetching s) e = refuses (offer b caller) x slotOpen (asked ∙ first-yes _ slotOpen _ (ap isOpen e))

@@ -43,7 +43,7 @@ pub fn perform(
         Turn::Refused(number) => answers::refused(number, state),
         Turn::Passes => answers::answered(Answer::Overwrite, state),
         Turn::Opens(s, flags, passed, hand) => {
-            if turn::is_spent(state.newest) {
+            if turn::is_spent(l, state.newest) {
                 return answers::refused(13, state);
             }
             sweep::clear_used(l, table, from, passed);

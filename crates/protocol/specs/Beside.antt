@@ -16,6 +16,7 @@ use Rattle.layout.specs.Places.{Limits, formatSteps, labelPlace, metaPages, met
 use Rattle.protocol.specs.Metadata.{readMeta}
 use Rattle.layout.specs.MetaPage.{encodeMeta, rowsOn, stampOf, windowOf, entryAt, rowsFrom}
 use Rattle.layout.specs.PageRule.{PageRule, listed}
+use Rattle.layout.specs.Stamps.{openingBound}
 use Rattle.record.specs.declared.Record.{Record}
 use Rattle.record.specs.declared.Phase.{Phase}
 use Rattle.record.specs.declared.Phase.the-variants.{Formatting, Recovering, Ready}
@@ -362,7 +363,7 @@ pub record AsOffers (blocks : List ℕ) (caller n m : ℕ) (x : Box) : Type 0 wh
 -- on any box, from any stamp that leaves 13 room for them all
 abbrev pub ListAsOffers : Type 0
 ListAsOffers = (blocks : List ℕ) (caller n m : ℕ) (x : Box) → resultOf (offerList blocks caller) x .said ≡ dealt n
-    → m + length blocks ≤ 4294967232 → AsOffers blocks caller n m x
+    → m + length blocks ≤ openingBound (labelIn (x .state)) → AsOffers blocks caller n m x
 
 -- a list of one block is the offer of it, the answer apart, where that is taken
 pub record OneAsOffer (b : Block) (caller : ℕ) (x : Box) : Type 0 where

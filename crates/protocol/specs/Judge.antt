@@ -1,7 +1,7 @@
 -- Why a call says no: one test for each number of document 01's table and document 02's, and each call's chain of them, "Least number
 -- first", but for a fetch's 10, which comes before 8 (document 02, N9), for 14 (N1), 15 (N3), 16 (N6) and 18 (N7), which come between 6 and
 -- 7, and for 17, which comes before 11 (N7).
-use Prim.Native.Nat.{ℕ, _-_, _%_}
+use Prim.Native.Nat.{ℕ, _%_}
 use mathlib.Core.Bool.{Bool, true, false, not, _&&_, _||_}
 use mathlib.Core.List.{List, [], _∷_, _++_}
 use mathlib.Core.Option.{Option, some, none}
@@ -16,6 +16,7 @@ use Rattle.layout.specs.Places.{withinLimits, labelPlace, ssdLength, hddLength,
 use Rattle.layout.specs.LabelPage.{decodeLabel}
 use Rattle.layout.specs.PageRule.{pairTest, listed}
 use Rattle.layout.specs.Window.{windowMost}
+use Rattle.layout.specs.Stamps.{largestStamp, openingBound}
 use Rattle.record.specs.declared.Record.{Record}
 use Rattle.record.specs.declared.Phase.{Phase}
 use Rattle.record.specs.declared.Phase.the-variants.{Formatting, Recovering, Ready}
@@ -23,7 +24,7 @@ use Rattle.protocol.specs.declared.Condition.{Condition}
 use Rattle.protocol.specs.Rows.{rowBlock, rowFlags, valid, writing, used, eachRow, openRows, allWriting}
 use Rattle.record.specs.Window.{eachSlot}
 use Rattle.record.specs.Callers.{importCaller}
-use Rattle.record.specs.Record.{largestStamp, labelIn, windowIn}
+use Rattle.record.specs.Record.{labelIn, windowIn}
 use Rattle.record.specs.Rule.{recordTest}
 use Rattle.protocol.specs.Box.{Images, Box}
 use Rattle.protocol.specs.Condition.{conditionOf, isOpen, isCached, isWriting, hasOther, takesWrite, takesFetch}
@@ -170,14 +171,14 @@ opensAnother (toLand page) k = false
 opensAnother (toCount n) k = false
 
 -- 13: "the newest stamp is 4,294,967,295, or for an offer or fetch 4,294,967,232 or more"
-abbrev pub stampBound : Purpose → ℕ
-stampBound toServe = largestStamp
-stampBound toSettle = largestStamp
-stampBound toWrite = largestStamp - windowMost
-stampBound toFetch = largestStamp - windowMost
-stampBound toLandFetch = largestStamp
-stampBound (toLand page) = largestStamp
-stampBound (toCount n) = largestStamp
+abbrev pub stampBound : Label → Purpose → ℕ
+stampBound l toServe = largestStamp l
+stampBound l toSettle = largestStamp l
+stampBound l toWrite = openingBound l
+stampBound l toFetch = openingBound l
+stampBound l toLandFetch = largestStamp l
+stampBound l (toLand page) = largestStamp l
+stampBound l (toCount n) = largestStamp l
 
 -- 15 (document 02, N3): "an empty list, a list of more than 63, or one that names a block twice"
 unfoldable pub names : ℕ → List ℕ → Bool
@@ -215,7 +216,7 @@ test wrongState c x = not (stateTest (aim c .purpose) (conditionOf (x .table) (a
 test hasSlot c x = hasOther (conditionOf (x .table) (aim c .block))
 test windowFull c x = opensAnother (aim c .purpose) (conditionOf (x .table) (aim c .block)) && leb windowMost (openRows (x .table))
 test allOpen c x = not (isCached (conditionOf (x .table) (aim c .block))) && allWriting (x .table)
-test stampsSpent c x = storesMeta (plan c x) && leb (stampBound (aim c .purpose)) (x .state .newest)
+test stampsSpent c x = storesMeta (plan c x) && leb (stampBound (labelIn (x .state)) (aim c .purpose)) (x .state .newest)
 -- document 02, N1: "if the buffer is shorter than 67 × the number of lines"
 test sheetShort c x = ltb (aim c .room) (mapBytes (labelIn (x .state)))
 test badScan c x = not (scanTest (aim c .list))

@@ -12,10 +12,6 @@ use Rattle.record.specs.declared.Record.{Record}
 use Rattle.record.specs.declared.Phase.{Phase}
 use Rattle.record.specs.Callers.{callerArray}
 
--- the largest stamp
-abbrev pub largestStamp : ℕ
-largestStamp = 4294967295
-
 -- the label of a record
 abbrev pub labelIn : Record → Label
 labelIn r = r .label

@@ -12,9 +12,6 @@ pub const IMPORT: u32 = 1;
 // How many slots the import may have open.
 pub const IMPORT_MOST: u32 = 8;
 
-// The largest stamp.
-pub const LARGEST_STAMP: u32 = 4294967295;
-
 // Document 01's phase: formatting, with the number of steps done; mending; ready.
 pub enum Phase {
     Formatting(u32),

@@ -10,12 +10,13 @@ use borrow.Author.Tests.{leb-true}
 use Rattle.pages.specs.Pages.{putPage}
 use Rattle.layout.specs.declared.Slot.{Slot}
 use Rattle.layout.specs.Places.{metaSpan}
+use Rattle.layout.specs.Stamps.{largestStamp}
 use Rattle.record.specs.declared.Record.{Record}
 use Rattle.record.specs.declared.Phase.{Phase}
 use Rattle.record.specs.declared.Phase.the-variants.{Formatting, Recovering, Ready}
 use Rattle.protocol.specs.declared.Stored.the-variants.{Ssd}
 use Rattle.protocol.specs.Reply.{done}
-use Rattle.record.specs.Record.{labelIn, windowIn, largestStamp}
+use Rattle.record.specs.Record.{labelIn, windowIn}
 use Rattle.protocol.specs.Box.{Box, Result, refusing, left}
 use Rattle.protocol.specs.Plan.{step, formats, mends, lowestPage, stepping, storesMeta, plan}
 use Rattle.protocol.specs.Perform.{formatStore, formatState, perform}
@@ -77,22 +78,22 @@ module _ (ssd hdd t : List ℕ) (r : Record) where
     unfolding test plan
     step-formats d e = formats-left ssd hdd t r d ∙ performs step x (formats d)
         (before-ready (Formatting d) e refl
-        ∙ first-no _ stampsSpent [] (ap (λ (p : Phase). storesMeta (stepping r p) && leb largestStamp (r .newest)) e) ∙ end _)
+        ∙ first-no _ stampsSpent [] (ap (λ (p : Phase). storesMeta (stepping r p) && leb (largestStamp (labelIn r)) (r .newest)) e) ∙ end _)
         (ap (stepping r) e)
 
     module _ (e : r .phase ≡ Recovering) where
-      pub step-spent : leb largestStamp (r .newest) ≡ true → left (refusing 13 x) (x .images) ≡ stepOf ssd hdd t r
+      pub step-spent : leb (largestStamp (labelIn r)) (r .newest) ≡ true → left (refusing 13 x) (x .images) ≡ stepOf ssd hdd t r
       unfolding test plan
       step-spent s = refused-as step x stampsSpent
           (before-ready Recovering e refl
-          ∙ first-yes _ stampsSpent [] (ap (λ (p : Phase). storesMeta (stepping r p) && leb largestStamp (r .newest)) e ∙ s))
+          ∙ first-yes _ stampsSpent [] (ap (λ (p : Phase). storesMeta (stepping r p) && leb (largestStamp (labelIn r)) (r .newest)) e ∙ s))
 
-      pub step-mends : leb largestStamp (r .newest) ≡ false
+      pub step-mends : leb (largestStamp (labelIn r)) (r .newest) ≡ false
           → left (perform (mends (lowestPage (windowIn r))) x) (x .images) ≡ stepOf ssd hdd t r
       unfolding test plan
       step-mends s = performs step x (mends (lowestPage (windowIn r)))
           (before-ready Recovering e refl
-          ∙ first-no _ stampsSpent [] (ap (λ (p : Phase). storesMeta (stepping r p) && leb largestStamp (r .newest)) e ∙ s) ∙ end _)
+          ∙ first-no _ stampsSpent [] (ap (λ (p : Phase). storesMeta (stepping r p) && leb (largestStamp (labelIn r)) (r .newest)) e ∙ s) ∙ end _)
           (ap (stepping r) e)
 
 module _ (ssd hdd t : List ℕ) (r : Record) (S : SoundBox ssd hdd 4096 t r) where

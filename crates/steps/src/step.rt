@@ -4,11 +4,11 @@ use layout::Slot;
 use layout::Window;
 use layout::numbers::least;
 use layout::places;
+use layout::stamps;
 use maintenance::format;
 use moves::answers;
 use protocol::Answer;
 use protocol::Outcome;
-use record::LARGEST_STAMP;
 use record::Phase;
 use record::Record;
 use record::state;
@@ -20,7 +20,7 @@ ghost use lib.ListN.{length};
 ghost use Rattle.pages.specs.Pages.{putPage};
 ghost use Rattle.layout.specs.MetaPage.{rowsOn};
 ghost use Rattle.protocol.specs.Metadata.{storePlace, metaBytes};
-ghost use Rattle.record.specs.Record.{largestStamp, labelIn, windowIn, withStamp};
+ghost use Rattle.record.specs.Record.{labelIn, windowIn, withStamp};
 ghost use Rattle.protocol.specs.Recovery.{offPage};
 ghost use Rattle.protocol.specs.Plan.{lowestPage};
 ghost use Rattle.protocol.specs.Perform.{mendedAt};
@@ -30,6 +30,7 @@ ghost use Rattle.judging.specs.Fits.{FitsRecord};
 ghost use Rattle.protocol.specs.declared.Answer.the-variants.{Done};
 ghost use Rattle.protocol.specs.declared.Stored.the-variants.{Ssd};
 ghost use Rattle.layout.specs.Window.{windowMost, slotsIn, windowFrom, ZeroPast};
+ghost use Rattle.layout.specs.Stamps.{largestStamp};
 ghost use Rattle.steps.specs.Pending.{moreOff, phaseAt};
 
 // The lowest-numbered metadata page with a pending slot.
@@ -104,7 +105,7 @@ fn mend(ssd: &mut [u8], table: &[u32], state: Record) -> Outcome
     requires { ⌜ FitsRecord (length (now ssd)) (length (now table)) state ⌝ }
     requires { ⌜ recordTest state ≡ true ⌝ }
     requires { ⌜ 1 ≤ state .count ⌝ }
-    requires { ⌜ state .newest < largestStamp ⌝ }
+    requires { ⌜ state .newest < largestStamp (labelIn state) ⌝ }
     ensures { λ q. ⌜ (q ≡ record { answer = Done; state = withStamp (mendedAt (lowestPage (windowIn state)) state) (state .newest + 1); stored = Ssd (storePlace (labelIn state) (now (ssd .entry)) (lowestPage (windowIn state))) }) × (now (ssd .exit) ≡ putPage (now (ssd .entry)) (storePlace (labelIn state) (now (ssd .entry)) (lowestPage (windowIn state))) (metaBytes (labelIn state) (state .newest + 1) (windowIn (mendedAt (lowestPage (windowIn state)) state)) (rowsOn (lowestPage (windowIn state)) (now (table .entry))))) ⌝ }
 {
     let p = lowest_page(state::window_of(state));
@@ -125,7 +126,8 @@ pub fn step(ssd: &mut [u8], hdd: &[u8], table: &[u32], state: Record) -> Outcome
         Phase::Ready => answers::refused(6, state),
         Phase::Formatting(done) => format::format_step(ssd, table, state, done),
         Phase::Recovering => {
-            if LARGEST_STAMP <= state.newest {
+            let top = stamps::largest_stamp(state.label);
+            if top <= state.newest {
                 return answers::refused(13, state);
             }
             mend(ssd, table, state)

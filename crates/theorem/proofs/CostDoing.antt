@@ -15,6 +15,7 @@ use Rattle.layout.specs.declared.Slot.{Slot}
 use Rattle.layout.specs.declared.Block.{Block}
 use Rattle.layout.specs.declared.Label.{Label}
 use Rattle.layout.specs.Places.{metaOf, metaPlace, dataPlace, blockPlace}
+use Rattle.layout.specs.Stamps.{openingBound}
 use Rattle.layout.proofs.PlaceLaws.{meta-of-low, page-place, meta-within, data-within}
 use Rattle.layout.proofs.Booleans.{Told, told, told-true, told-false, clash}
 use Rattle.record.specs.declared.Record.{Record}
@@ -129,7 +130,7 @@ module _ (im jm : Images) (z : Sizes im jm) (t : List ℕ) (r : Record) where
                     refl,
                     (
                       refl,
-                      (refl, (ap (λ (m : Move). storesMeta m && leb 4294967232 (r .newest)) (offering-alike (conditionOf t b)), tt)),
+                      (refl, (ap (λ (m : Move). storesMeta m && leb (openingBound (labelIn r)) (r .newest)) (offering-alike (conditionOf t b)), tt)),
                     ),
                   ),
                 ),

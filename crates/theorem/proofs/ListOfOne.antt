@@ -1,5 +1,5 @@
 -- A list of one block is the offer of it, the answer apart (document 02, N3).
-use Prim.Native.Nat.{ℕ, _-_}
+use Prim.Native.Nat.{ℕ}
 use mathlib.Core.Path.{_≡_, refl, ap, _∙_}
 use mathlib.Core.Bool.{Bool, true, false, not, _&&_}
 use mathlib.Core.List.{List, [], _∷_, _++_}
@@ -7,9 +7,10 @@ use mathlib.Core.Option.{Option, some, none}
 use lib.Dec.{leb}
 use borrow.Author.Tests.{leb-false}
 use Rattle.layout.specs.declared.Block.{Block}
+use Rattle.layout.specs.Stamps.{openingBound}
 use Rattle.layout.proofs.Booleans.{Told, told, told-true, told-false, clash}
 use Rattle.record.specs.declared.Record.{Record}
-use Rattle.record.specs.Record.{largestStamp}
+use Rattle.record.specs.Record.{labelIn}
 use Rattle.protocol.specs.Rows.{openRows}
 use Rattle.protocol.specs.declared.Condition.{Condition}
 use Rattle.protocol.specs.Reply.{dealt, nothingToDo, done, refused}
@@ -153,16 +154,16 @@ module _ (b : Block) (caller : ℕ) (x : Box) where
         → (judged (offer b caller) x ≡ none → Alike (perform w x) (perform v x))
         → Alike (effectOf (offerList (b .0 ∷ []) caller) x) (effectOf (offer b caller) x)
     unfolding test plan firstOf
-    moved {v} {w} e f g h = go (told (storesMeta v && leb (largestStamp - 63) (x .state .newest)))
+    moved {v} {w} e f g h = go (told (storesMeta v && leb (openingBound (labelIn (x .state))) (x .state .newest)))
       where
-        t13 : test stampsSpent (offer b caller) x ≡ (storesMeta v && leb (largestStamp - 63) (x .state .newest))
-        t13 = ap (λ (m : Move). storesMeta m && leb (largestStamp - 63) (x .state .newest)) e
+        t13 : test stampsSpent (offer b caller) x ≡ (storesMeta v && leb (openingBound (labelIn (x .state))) (x .state .newest))
+        t13 = ap (λ (m : Move). storesMeta m && leb (openingBound (labelIn (x .state))) (x .state .newest)) e
 
-        u13 : test stampsSpent (offerList (b .0 ∷ []) caller) x ≡ (storesMeta v && leb (largestStamp - 63) (x .state .newest))
-        u13 = ap (λ (m : Move). storesMeta m && leb (largestStamp - 63) (x .state .newest)) f
-            ∙ ap (λ (m : Bool). m && leb (largestStamp - 63) (x .state .newest)) g
+        u13 : test stampsSpent (offerList (b .0 ∷ []) caller) x ≡ (storesMeta v && leb (openingBound (labelIn (x .state))) (x .state .newest))
+        u13 = ap (λ (m : Move). storesMeta m && leb (openingBound (labelIn (x .state))) (x .state .newest)) f
+            ∙ ap (λ (m : Bool). m && leb (openingBound (labelIn (x .state))) (x .state .newest)) g
 
-        go : Told (storesMeta v && leb (largestStamp - 63) (x .state .newest))
+        go : Told (storesMeta v && leb (openingBound (labelIn (x .state))) (x .state .newest))
             → Alike (effectOf (offerList (b .0 ∷ []) caller) x) (effectOf (offer b caller) x)
         go (told-true d) = refused-alike stampsSpent (asked-last ∙ first-yes t stampsSpent [] (t13 ∙ d)) (list-last ∙ first-yes u stampsSpent [] (u13 ∙ d))
         go (told-false d) =

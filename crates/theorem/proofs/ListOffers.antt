@@ -14,6 +14,7 @@ use Rattle.layout.specs.declared.Slot.{Slot}
 use Rattle.layout.specs.declared.Block.{Block}
 use Rattle.layout.specs.Places.{metaOf, metaPlace, ssdLength, hddLength}
 use Rattle.layout.specs.Window.{arrayOf}
+use Rattle.layout.specs.Stamps.{openingBound}
 use Rattle.layout.proofs.PlaceLaws.{meta-of-low, page-place, meta-within}
 use Rattle.layout.proofs.Booleans.{Told, told, told-true, told-false, clash, and-of, or-neither}
 use Rattle.record.specs.declared.Record.{Record}
@@ -171,7 +172,7 @@ module _ (x : Box) (on : x .state .phase ≡ Ready) (caller : ℕ) (known : ltb 
         → boxAfter (resultOf (offer b caller) (twin im m z)) ≡ twin im′ m′ y → Step im m z b (some y)
     stops : Ends z (resultOf (offer b caller) (twin im m z) .said) → Step im m z b none
 
-  module _ (im : Images) (m : ℕ) (z : Offered) (I : Sized im) (L : Legal (offeredBox x z)) (spare : m < 4294967232) (b : Block) where
+  module _ (im : Images) (m : ℕ) (z : Offered) (I : Sized im) (L : Legal (offeredBox x z)) (spare : m < openingBound (labelIn (x .state))) (b : Block) where
     abbrev y : Box
     y = twin im m z
 
@@ -216,7 +217,7 @@ module _ (x : Box) (on : x .state .phase ≡ Ready) (caller : ℕ) (known : ltb 
                   A .few-open,
                   (
                     A .some-shut,
-                    (rw (lt-leb 4294967232 m spare) (and-false (storesMeta (plan (offer b caller) y))), tt),
+                    (rw (lt-leb (openingBound (labelIn (x .state))) m spare) (and-false (storesMeta (plan (offer b caller) y))), tt),
                   ),
                 ),
               ),
@@ -293,7 +294,7 @@ module _ (x : Box) (on : x .state .phase ≡ Ready) (caller : ℕ) (known : ltb 
     taken-all : oneByOne (take count blocks) caller (twin im m z) .taken ≡ true
     ends : count < length blocks → Ends y (resultOf (offer (record { 0 = getD blocks count 0 }) caller) (twin images stamp y) .said)
 
-  alike : (blocks : List ℕ) (im : Images) (m : ℕ) (z : Offered) → Sized im → Legal (offeredBox x z) → m + length blocks ≤ 4294967232
+  alike : (blocks : List ℕ) (im : Images) (m : ℕ) (z : Offered) → Sized im → Legal (offeredBox x z) → m + length blocks ≤ openingBound (labelIn (x .state))
       → Alike im m z blocks (offersFrom x caller z blocks)
   unfolding offersFrom oneByOne
   alike [] im m z I L h = record {
@@ -308,7 +309,7 @@ module _ (x : Box) (on : x .state .phase ≡ Ready) (caller : ℕ) (known : ltb 
   }
   alike (b ∷ blocks) im m z I L h = go (alike blocks) (step im m z I L (omega arith) (record { 0 = b }))
     where
-      go : ((im : Images) (m : ℕ) (z : Offered) → Sized im → Legal (offeredBox x z) → m + length blocks ≤ 4294967232
+      go : ((im : Images) (m : ℕ) (z : Offered) → Sized im → Legal (offeredBox x z) → m + length blocks ≤ openingBound (labelIn (x .state))
           → Alike im m z blocks (offersFrom x caller z blocks)) → {o : Option Offered} → Step im m z (record { 0 = b }) o
           → Alike im m z (b ∷ blocks) (elim o [ none ↦ z | some y ↦ offersFrom x caller y blocks ])
       go rest (stops e) = record {
@@ -411,7 +412,7 @@ module _ (x : Box) (L : Legal x) (on : x .state .phase ≡ Ready) (caller : ℕ)
   ended z e W (elsewhere s q h d) = by-page s q (W .page q h) d
 
   module _ (blocks : List ℕ) (n m : ℕ) (j : judged (offerList blocks caller) x ≡ none) (said : resultOf (offerList blocks caller) x .said ≡ dealt n)
-      (h : m + length blocks ≤ 4294967232) where
+      (h : m + length blocks ≤ openingBound (labelIn (x .state))) where
     z : Offered
     z = offersFrom x caller (notYet x) blocks
 

@@ -1,5 +1,5 @@
 -- Every page that a call stores is 4,096 bytes; every metadata page among them keeps the page's rule, and says table, window and stamp.
-use Prim.Native.Nat.{ℕ, zero, suc, _+_, _-_, _^_, _<_}
+use Prim.Native.Nat.{ℕ, zero, suc, _+_, _^_, _<_}
 use mathlib.Core.Path.{_≡_, refl, sym, ap, subst, _∙_}
 use mathlib.Core.Logic.{_≢_}
 use mathlib.Core.Bool.{Bool, true, false, _&&_}
@@ -18,6 +18,8 @@ use Rattle.layout.specs.LabelPage.{encodeLabel}
 use Rattle.layout.specs.MetaPage.{encodeMeta, rowsOn}
 use Rattle.protocol.specs.Metadata.{storePlace, metaBytes}
 use Rattle.layout.specs.PageRule.{PageRule}
+use Rattle.layout.specs.Stamps.{largestStamp, openingBound}
+use Rattle.layout.proofs.StampLaws.{stamp-fits}
 use Rattle.layout.proofs.PlaceLaws.{page-place, meta-not-label, metas-one, meta-below-data, data-within}
 use Rattle.layout.proofs.LabelLaws.{length-encode}
 use Rattle.layout.proofs.RuleLaws.{page-rule}
@@ -25,7 +27,7 @@ use Rattle.record.specs.declared.Record.{Record}
 use Rattle.record.specs.declared.Phase.{Phase}
 use Rattle.record.specs.declared.Phase.the-variants.{Formatting, Recovering, Ready}
 use Rattle.protocol.specs.Reply.{Reply, done}
-use Rattle.record.specs.Record.{labelIn, windowIn, withHand, withPhase, withStamp, largestStamp}
+use Rattle.record.specs.Record.{labelIn, windowIn, withHand, withPhase, withStamp}
 use Rattle.protocol.specs.Box.{Box, Image, ssdImage, hddImage, Store, Effect}
 use Rattle.protocol.specs.Recovery.{offPage}
 use Rattle.protocol.specs.Plan.{Call, step, grown, announces, lands, mends, formats, lowestPage, stepping, plan, storesMeta, Move}
@@ -122,7 +124,7 @@ data Serving : Phase → Type 0 where
 
 -- a metadata store
 confirmed-stores : (l : Label) → Limits l → (r : Record) → labelIn r ≡ l → (table : List ℕ) → length table ≡ tableLength l → Rows l table
-    → r .newest < largestStamp
+    → r .newest < largestStamp (labelIn r)
     → Window (l .slots) (nums (windowIn r)) → (ph : Phase) → Serving ph → (q : ℕ) (said : Reply) (ssd : List ℕ)
     → Stores l ph (confirmed q said r table ssd)
 unfolding confirmed storePlace metaBytes
@@ -133,7 +135,7 @@ confirmed-stores l K r e table size R n W ph v q said ssd =
       place = metaPlace k q;
       bytes = encodeMeta (r .newest + 1) (windowIn r) (rowsOn q table);
     })) e)
-    (meta-stored l K table size R (r .newest + 1) (omega arith) (windowIn r) W (λ z. absurd (omega arith)) q ph
+    (meta-stored l K table size R (r .newest + 1) (omega (arith, stamp-fits (labelIn r))) (windowIn r) W (λ z. absurd (omega arith)) q ph
     (withStamp r (r .newest + 1)) (go v) (unfold windowIn in refl))
   where
     go : {h : Phase} → Serving h → r .newest + 1 ≡ stampStored h (r .newest + 1)
@@ -161,7 +163,7 @@ module _ (x : Box) (L : Legal x) (on : x .state .phase ≡ Ready) where
   serving = rw on ready
 
   announces-stores : (said : Reply) {q : ℕ} {t : List ℕ} {hand : Slot} {w : List Slot} {cs : List ℕ} → Openings x q t hand w cs
-      → x .state .newest < largestStamp - 63 → Stores lab (x .state .phase) (perform (announces said q t hand w cs) x)
+      → x .state .newest < openingBound (labelIn (x .state)) → Stores lab (x .state .phase) (perform (announces said q t hand w cs) x)
   unfolding perform
   announces-stores said {q} {t} {hand} {w} {cs} O spare =
       let T = openings-sound O S in
@@ -194,7 +196,7 @@ module _ (x : Box) (L : Legal x) where
   unfolding windowIn
   mended-window q = take-array (offPage q (windowIn (x .state)))
 
-  mends-stores : x .state .phase ≡ Recovering → x .state .newest < largestStamp
+  mends-stores : x .state .phase ≡ Recovering → x .state .newest < largestStamp (labelIn (x .state))
       → Stores (labelIn (x .state)) (x .state .phase) (perform (mends (lowestPage (windowIn (x .state)))) x)
   unfolding perform
   mends-stores on n =
@@ -247,7 +249,7 @@ module _ (x : Box) (L : Legal x) where
           (length-encode (labelIn (x .state))) (λ p h z. meta-not-label (labelIn (x .state)) p (sym z))
       go (told-false e) = one-store (labelIn (x .state)) (x .state .phase) (perform (formats (suc q)) x) q _ (rw (formatStore, e)) meta
 
-  step-stores : (ph : Phase) → x .state .phase ≡ ph → (storesMeta (stepping (x .state) ph) && leb largestStamp (x .state .newest)) ≡ false
+  step-stores : (ph : Phase) → x .state .phase ≡ ph → (storesMeta (stepping (x .state) ph) && leb (largestStamp (labelIn (x .state))) (x .state .newest)) ≡ false
       → Stores (labelIn (x .state)) (x .state .phase) (perform (stepping (x .state) ph) x)
   unfolding perform
   step-stores (Formatting d) on spent = formats-stores d on

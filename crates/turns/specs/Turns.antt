@@ -1,5 +1,5 @@
 -- The turn of an offer or a fetch that 3 to 7 do not refuse: decided with nothing changed, 13 apart; and what it leaves, performed.
-use Prim.Native.Nat.{ℕ, zero, suc, _-_, _<_}
+use Prim.Native.Nat.{ℕ, zero, suc, _<_}
 use mathlib.Core.Path.{_≡_}
 use mathlib.Core.Bool.{Bool, true, false}
 use mathlib.Core.List.{List}
@@ -10,9 +10,10 @@ use Rattle.layout.specs.declared.Block.{Block}
 use Rattle.layout.specs.declared.Label.{Label}
 use Rattle.layout.specs.Places.{tableLength}
 use Rattle.layout.specs.Window.{windowMost}
+use Rattle.layout.specs.Stamps.{openingBound}
 use Rattle.record.specs.declared.Record.{Record}
 use Rattle.record.specs.Callers.{importCaller, importMost, openBy}
-use Rattle.record.specs.Record.{labelIn, callersIn, largestStamp}
+use Rattle.record.specs.Record.{labelIn, callersIn}
 use Rattle.record.specs.Rule.{recordTest}
 use Rattle.protocol.specs.declared.Condition.{Condition}
 use Rattle.protocol.specs.declared.Condition.the-variants.{NotCached, Clean, Dirty, Writing, Fetching}
@@ -125,8 +126,8 @@ Performable (Opens s flags passed hand) table r = (s .0 < r .label .slots) × (r
 Performable (CopiesOut s passed) table r = (s .0 < r .label .slots) × (dirty (rowFlags table s) ≡ true)
 
 -- 13, "for an offer or fetch 4,294,967,232 or more"
-abbrev pub spent : ℕ → Bool
-spent newest = leb (largestStamp - windowMost) newest
+abbrev pub spent : Label → ℕ → Bool
+spent l newest = leb (openingBound l) newest
 
 -- the table once so many slots were passed, from the hand on: they lose their used flags
 abbrev pub tableAfter : ℕ → Box → List ℕ
@@ -137,7 +138,7 @@ abbrev pub turned : Turn → Block → ℕ → Box → Effect
 turned (Refused n) b caller x = refusing n x
 turned Passes b caller x = perform (stay overwrite) x
 turned (Opens s flags passed hand) b caller x =
-    elim (spent (x .state .newest)) [
+    elim (spent (labelIn (x .state)) (x .state .newest)) [
       | true ↦ refusing (numberOf stampsSpent) x
       | false ↦ perform (opens (x .state) s b caller flags (tableAfter passed x) hand) x
     ]

@@ -2,10 +2,10 @@
 use layout::Label;
 use layout::Slot;
 use layout::WINDOW;
+use layout::stamps;
 use protocol::Condition;
 use record::IMPORT;
 use record::IMPORT_MOST;
-use record::LARGEST_STAMP;
 use record::Record;
 use record::window;
 use sweeping::Swept;
@@ -140,10 +140,10 @@ pub fn fetch_at(l: Label, table: &[u32], hand: Slot, number: u32, condition: Con
 }
 
 // Whether 13 refuses an offer or a fetch that would open a slot.
-pub fn is_spent(newest: u32) -> bool
-    ensures { λ r. ⌜ r ≡ spent newest ⌝ }
+pub fn is_spent(l: Label, newest: u32) -> bool
+    ensures { λ r. ⌜ r ≡ spent l newest ⌝ }
 {
-    LARGEST_STAMP - (WINDOW as u32) <= newest
+    stamps::opening_bound(l) <= newest
 }
 
 // The turn of a caller's offer of a block in this condition, while so many rows are writing.

@@ -7,7 +7,6 @@ use mathlib.Core.List.{List, [], _∷_, _++_, List·Memᴰ}
 use native.Mathlib.Omega.{arith}
 use lib.ListN.{length}
 use lib.Dec.{eqb}
-use Rattle.record.specs.Record.{largestStamp}
 use Rattle.laws.proofs.model.Base.{upd, has, metaNo, without, off, Window}
 
 abbrev pub Page : Type 0
@@ -68,6 +67,8 @@ revived false r = shut r
 pub record Model : Type 0 where
   pub slots : ℕ
   pub blocks : ℕ
+  -- the largest stamp
+  pub top : ℕ
   pub row : ℕ → Row
   pub entry : ℕ → Row
   pub hdd : ℕ → Page
@@ -94,6 +95,7 @@ stored q r w x =
     record {
       slots = x .slots;
       blocks = x .blocks;
+      top = x .top;
       row = r;
       entry = λ t. cond (eqb (metaNo t) q) (r t) (x .entry t);
       hdd = x .hdd;
@@ -117,6 +119,7 @@ landed s d x =
     record {
       slots = x .slots;
       blocks = x .blocks;
+      top = x .top;
       row = upd (x .row) s (shut (x .row s));
       entry = x .entry;
       hdd = x .hdd;
@@ -134,6 +137,7 @@ copied s x =
     record {
       slots = x .slots;
       blocks = x .blocks;
+      top = x .top;
       row = upd (x .row) s (cleaned (x .row s));
       entry = x .entry;
       hdd = upd (x .hdd) (blockOf (x .row s)) (x .slotPage s);
@@ -155,6 +159,7 @@ reopened x =
     record {
       slots = x .slots;
       blocks = x .blocks;
+      top = x .top;
       row = λ t. revived (has (x .storedWindow) t) (x .entry t);
       entry = x .entry;
       hdd = x .hdd;
@@ -173,6 +178,7 @@ mended q x =
     record {
       slots = x .slots;
       blocks = x .blocks;
+      top = x .top;
       row = x .row;
       entry = λ t. cond (eqb (metaNo t) q) (x .row t) (x .entry t);
       hdd = x .hdd;
@@ -213,7 +219,7 @@ pub record Ready (x : Model) (p : Plain) : Type 0 where
   pub loose : (b : ℕ) → ((s : ℕ) → valid (x .row s) ≡ true → has (x .storedWindow) s ≡ false → blockOf (x .row s) ≢ b) → List·Memᴰ (x .hdd b) (p .may b)
   pub stamps : x .stamp ≡ x .newest
   pub short : length (x .window) + count (x .unconfirmed) ≤ length (x .storedWindow)
-  pub budget : x .newest + length (x .storedWindow) ≤ largestStamp
+  pub budget : x .newest + length (x .storedWindow) ≤ x .top
 
 -- what links the rows and the window of a ready box to the stored entries: all that finding a block after a cut asks of them
 pub record Linked (x : Model) : Type 0 where
@@ -241,7 +247,7 @@ pub record Stored (x : Model) (p : Plain) : Type 0 where
   pub kept-clean : (s : ℕ) → valid (x .entry s) ≡ true → has (x .storedWindow) s ≡ false → dirtyRow (x .entry s) ≡ false → x .hdd (blockOf (x .entry s)) ≡ x .slotPage s
   pub loose : (b : ℕ) → ((s : ℕ) → valid (x .entry s) ≡ true → has (x .storedWindow) s ≡ false → blockOf (x .entry s) ≢ b) → List·Memᴰ (x .hdd b) (p .may b)
   pub may-page : (b : ℕ) → List·Memᴰ (p .page b) (p .may b)
-  pub budget : x .stamp + length (x .storedWindow) ≤ largestStamp
+  pub budget : x .stamp + length (x .storedWindow) ≤ x .top
 
 -- the rows are what a reopening makes of the entries
 abbrev pub Revived : Model → Type 0
@@ -260,6 +266,7 @@ pub record Mending (x : Model) (p : Plain) : Type 0 where
 pub record Same (x y : Model) : Type 0 where
   pub slots : x .slots ≡ y .slots
   pub blocks : x .blocks ≡ y .blocks
+  pub top : x .top ≡ y .top
   pub row : (s : ℕ) → x .row s ≡ y .row s
   pub entry : (s : ℕ) → x .entry s ≡ y .entry s
   pub hdd : (b : ℕ) → x .hdd b ≡ y .hdd b
@@ -276,6 +283,7 @@ same-path x y S =
     λ i. record {
       slots = S .slots i;
       blocks = S .blocks i;
+      top = S .top i;
       row = λ s. S .row s i;
       entry = λ s. S .entry s i;
       hdd = λ b. S .hdd b i;

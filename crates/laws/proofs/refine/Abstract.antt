@@ -13,6 +13,7 @@ use Rattle.layout.specs.Places.{Limits, metaPages, dataPlace, ssdLength, hddLen
 use Rattle.layout.specs.LabelPage.{encodeLabel}
 use Rattle.layout.specs.MetaPage.{stampOf}
 use Rattle.layout.specs.PageRule.{pageTest}
+use Rattle.layout.specs.Stamps.{largestStamp}
 use Rattle.record.specs.declared.Phase.{Phase}
 use Rattle.record.specs.declared.Phase.the-variants.{Recovering, Ready}
 use Rattle.record.specs.Callers.{openBy, namedPlaces, callersTest}
@@ -61,6 +62,7 @@ unfoldable pub abs : Label → Core → Model
 abs l k = record {
   slots = l .slots;
   blocks = l .blocks;
+  top = largestStamp l;
   row = rowAt (k .table);
   entry = entryRow l (metasOf l (k .ssd));
   hdd = λ b. pageAt (k .hdd) b;

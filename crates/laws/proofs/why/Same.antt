@@ -9,6 +9,7 @@ use lib.Dec.{leb, ltb}
 use borrow.Author.Tests.{leb-true, le-leb, ltb-true, lt-ltb, eqb-true, eq-eqb}
 use Rattle.layout.specs.declared.Block.{Block}
 use Rattle.layout.specs.Places.{labelOf}
+use Rattle.layout.specs.Stamps.{largestStamp}
 use Rattle.layout.proofs.PlaceLaws.{within}
 use Rattle.layout.proofs.Booleans.{clash}
 use Rattle.layout.proofs.RuleLaws.{_⇔_}
@@ -114,7 +115,7 @@ module _ (x : Box) where
 
 -- each test says what the documents say
 pub same : (c : Call) (x : Box) → Says (λ r. test r c x) (chain c) (Why c x)
-unfolding test
+unfolding test largestStamp
 same (format slots blocks) x = none-same (within (labelOf slots blocks)) ▸ none-same (lengths-same (labelOf slots blocks) x) ▸ end
 same reopen x =
     let l = labelAt (x .images .ssd) in

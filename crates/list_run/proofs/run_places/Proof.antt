@@ -8,6 +8,7 @@ use Rattle.layout.specs.declared.Block.{Block}
 use Rattle.layout.specs.declared.Slot.{Slot}
 use Rattle.layout.specs.Places.{metaOf}
 use Rattle.record.specs.declared.Record.{Record}
+use Rattle.record.specs.Record.{labelIn}
 use Rattle.record.proofs.RecordLaws.{parts, joined-is}
 use Rattle.turns.specs.declared.turn.Turn.{Turn}
 use Rattle.turns.specs.declared.turn.Turn.the-variants.{Opens}
@@ -143,7 +144,7 @@ returns c =
     let l = at d .loop in
     let a = start d .args in
     let T : Turn = d .decide .result in
-    let n : endBy T (l .page) (l .running .newest) ≢ 0 = λ z. c .if1 .taken (e .end-by .ensures ∙ z) in
+    let n : endBy (labelIn (l .running)) T (l .page) (l .running .newest) ≢ 0 = λ z. c .if1 .taken (e .end-by .ensures ∙ z) in
     let q = run-ends (before d) (a .caller) (block d) (l .table) T n
     ∙ ap (λ (m : ℕ). record { state = l .running; page = l .page; places = l .j; end = m }) (sym (e .end-by .ensures)) in
     ends-there (c .if1 .taken)
@@ -167,7 +168,7 @@ loop-again c =
     let o = c .before in
     let d = o .before .before in
     let l = at d .loop in
-    let e = goes-passes (d .decide .result) (l .page) (l .running .newest) (c .match .keys2) (sym (o .before .end-by .ensures) ∙ o .if1 .left) in (
+    let e = goes-passes (labelIn (l .running)) (d .decide .result) (l .page) (l .running .newest) (c .match .keys2) (sym (o .before .end-by .ensures) ∙ o .if1 .left) in (
       refl,
       goes-further refl (subst (Step d) e (dealt d)),
       l .inv .2,
@@ -227,8 +228,8 @@ loop-again-2 c =
     let s : Slot = g .0 in
     let to : Slot = g .1 .1 .1 .0 in
     let F = l .inv .1 .kept .fair in
-    let z : endOf (l .page) (l .running .newest) (metaOf s) ≡ 0 =
-    subst (λ (T : Turn). endBy T (l .page) (l .running .newest) ≡ 0) (t .turn .given .1) (sym (o .before .end-by .ensures) ∙ o .if1 .left) in
+    let z : endOf (labelIn (l .running)) (l .page) (l .running .newest) (metaOf s) ≡ 0 =
+    subst (λ (T : Turn). endBy (labelIn (l .running)) T (l .page) (l .running .newest) ≡ 0) (t .turn .given .1) (sym (o .before .end-by .ensures) ∙ o .if1 .left) in
     let r = joined-is (l .running) (parts (l .running) (F .record-kept)) s (a .caller) to (opens t .1) in
     let q = ap (λ (m : ℕ). openedIf m (before d) s (a .caller) to) z
     ∙ (λ i. record { state = sym r i; page = sym (c .meta-of .ensures) i + 1; places = l .j + 1; end = 0 }) in

@@ -1,10 +1,13 @@
 use mathlib.Core.Path.{_∙_}
+use native.Mathlib.Omega.{arith}
 use borrow.Author.Needs.{needs}
+use Rattle.layout.proofs.StampLaws.{stamp-fits}
+use Rattle.record.specs.Record.{labelIn}
 use Rattle.moves.proofs.confirm.Statement.{statement}
 use Rattle.moves.proofs.confirm.Tie as tie
 
 add-stamp : tie.Need-add-stamp
-add-stamp c = search needs
+add-stamp c = omega (arith, stamp-fits (labelIn (c .before .before .before .args .state)))
 
 store-meta-requires : tie.Need-store-meta-requires
 store-meta-requires c κs = search needs

@@ -85,7 +85,7 @@ open-slot-requires c κs =
     let e = k .before .before in
     let s = entry (e .before .before) in
     let d = doable s _ (e .before .before .before .turn2 .given .1) in
-    let n = leb-false 4294967232 (s .args .state .newest) (sym (e .before .is-spent .ensures) ∙ e .if1 .left) in
+    let n = leb-false _ (s .args .state .newest) (sym (e .before .is-spent .ensures) ∙ e .if1 .left) in
     rw (k .clear-used .ensures) (fits s _, (s .pre .1 .1 .0, (d .1, (omega (arith, n), d .0))))
 
 enum-known-turn-3 : tie.Need-enum-known-turn-3

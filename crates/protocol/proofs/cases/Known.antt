@@ -38,6 +38,7 @@ use Rattle.pages.specs.Words.{leBytes, leNumber}
 use Rattle.layout.specs.LabelPage.{after, allZero, decodeLabel, digits, encodeLabel, labelText, number, numberFrom}
 use Rattle.layout.specs.MetaPage.{countOf, decodeEntry, encodeMeta, entryBytes, entryPart, firsts, rowsBytes, rowsFrom, slotAt, slotsBytes, stampOf, windowOf}
 use Rattle.layout.specs.PageRule.{countTest, distinct, entriesFrom, entriesTest, entryTest, inRange, legalFlags, listed, pageTest, pairTest, passes, windowTest, zeroTest}
+use Rattle.layout.specs.Stamps.{largestStamp}
 use Rattle.protocol.specs.Sweep.{sweepFrom}
 use Rattle.protocol.specs.Recovery.{allOpenIn, blockIn, eachLegal, entryIn, metasOf, newestFrom, noneTwice, offPage, pagesTest, recover, recoverFrom, stampIn, stampsDiffer}
 use Rattle.protocol.specs.Metadata.{readMeta, storePlace, metaBytes}
@@ -225,7 +226,7 @@ pub record Checked : Type 0 where
 unfoldable pub known : Label → List Event → List Block → Box → Checked
 unfolding sameLabel within storeWithin testKnown judgedKnown effectKnown reopensKnown struckKnown movedKnown shownKnown readsKnown
     diskFrom unformatted metaPage labelPage pages pageAt putPage zeroPage padded pagePart leBytes leNumber withinLimits metaPages metaSpan
-    metaPlace dataPlace ssdLength digits
+    metaPlace dataPlace ssdLength largestStamp digits
     labelText encodeLabel after numberFrom number allZero decodeLabel slotsBytes entryBytes rowsBytes encodeMeta stampOf countOf slotAt
     firsts windowOf entryPart decodeEntry rowsFrom countTest zeroTest listed distinct inRange windowTest legalFlags pairTest entryTest
     entriesFrom entriesTest passes pageTest windowIn arrayOf without slotFrom conditionOf closedSlots sweepFrom lowestFrom plan highest

@@ -6,7 +6,6 @@ use mathlib.Core.List.{[], _∷_, _++_}
 use native.Mathlib.Omega.{arith}
 use lib.ListN.{length, length-append}
 use lib.Dec.{eqb}
-use Rattle.record.specs.Record.{largestStamp}
 use Rattle.layout.proofs.Booleans.{Told, told, told-true, told-false}
 use Rattle.laws.proofs.model.Base.{upd, metaNo}
 use Rattle.laws.proofs.model.Model.{Row, Model, Plain, Ready, same-path, stored, opened}
@@ -17,6 +16,7 @@ unfoldable pub restamped : ℕ → Model → Model
 restamped n x = record {
   slots = x .slots;
   blocks = x .blocks;
+  top = x .top;
   row = x .row;
   entry = x .entry;
   hdd = x .hdd;
@@ -29,7 +29,7 @@ restamped n x = record {
   recovering = x .recovering;
 }
 
-restamped-ready : (n : ℕ) (x : Model) (p : Plain) → Ready x p → n + length (x .storedWindow) ≤ largestStamp → Ready (restamped n x) p
+restamped-ready : (n : ℕ) (x : Model) (p : Plain) → Ready x p → n + length (x .storedWindow) ≤ x .top → Ready (restamped n x) p
 unfolding restamped
 restamped-ready n x p R h = record {
   phase = R .phase;
@@ -61,22 +61,20 @@ pub data Chain (q : ℕ) (x : Model) : Model → Type 0 where
 
 module _ (q : ℕ) (x : Model) (p : Plain) (R : Ready x p) where
   pub chain-ready : {y : Model} → Chain q x y → Ready y p
-  chain-ready none-yet = restamped-ready 0 x p R (omega (arith, R .stored-window-rule .fits))
+  chain-ready none-yet = restamped-ready 0 x p R (omega (arith, R .budget))
   chain-ready (one-more {y} c e o) = opens-ready y p (chain-ready c) o
 
-  -- as many stamps as slots were opened, so there are stamps left
+  -- as many stamps as slots were opened
   chain-count : {y : Model} → Chain q x y → y .newest + length (x .window) ≡ length (y .window)
   unfolding restamped stored
   chain-count none-yet = omega arith
   chain-count (one-more c e o) = simp length-append (omega (arith, chain-count c))
 
-  pub chain-spare : {y : Model} → Chain q x y → y .newest < largestStamp - 63
-  chain-spare c = omega (arith, chain-count c, chain-ready c .window-rule .fits)
-
   -- what a chain leaves alone
   pub record Rest (y : Model) : Type 0 where
     pub slots : x .slots ≡ y .slots
     pub blocks : x .blocks ≡ y .blocks
+    pub top : x .top ≡ y .top
     pub entry : (t : ℕ) → eqb (metaNo t) q ≡ false → x .entry t ≡ y .entry t
     pub hdd : (b : ℕ) → x .hdd b ≡ y .hdd b
     pub slotPage : (s : ℕ) → x .slotPage s ≡ y .slotPage s
@@ -87,6 +85,7 @@ module _ (q : ℕ) (x : Model) (p : Plain) (R : Ready x p) where
   chain-rest none-yet = record {
     slots = refl;
     blocks = refl;
+    top = refl;
     entry = λ t h. refl;
     hdd = λ b. refl;
     slotPage = λ s. refl;
@@ -97,12 +96,17 @@ module _ (q : ℕ) (x : Model) (p : Plain) (R : Ready x p) where
       record {
         slots = K .slots;
         blocks = K .blocks;
+        top = K .top;
         entry = λ t h. K .entry t h
             ∙ sym (ap (λ (b : Bool). cond b (upd (y .row) s r t) (y .entry t)) (ap (λ (m : ℕ). eqb (metaNo t) m) e ∙ h));
         hdd = K .hdd;
         slotPage = K .slotPage;
         recovering = K .recovering;
       }
+
+  -- so there are stamps left
+  pub chain-spare : {y : Model} → Chain q x y → 126 < x .top → y .newest < y .top - 63
+  chain-spare c h = omega (arith, chain-count c, chain-ready c .window-rule .fits, chain-rest c .top)
 
   -- one store for all of them
   announced-same : {y : Model} (c : Chain q x y) (s : ℕ) (r : Row) → metaNo s ≡ q
@@ -113,6 +117,7 @@ module _ (q : ℕ) (x : Model) (p : Plain) (R : Ready x p) where
       same-path _ _ record {
         slots = K .slots;
         blocks = K .blocks;
+        top = K .top;
         row = λ t. refl;
         entry = λ t. at t (told (eqb (metaNo t) q));
         hdd = K .hdd;
@@ -130,8 +135,8 @@ module _ (q : ℕ) (x : Model) (p : Plain) (R : Ready x p) where
       at t (told-true h) = rw (e, h)
       at t (told-false h) = rw (e, h) (chain-rest c .entry t h)
 
-  pub announced-ready : {y : Model} → Chain q x y → {s : ℕ} {r : Row} → metaNo s ≡ q → Opens y s r → x .newest < largestStamp - 63
+  pub announced-ready : {y : Model} → Chain q x y → {s : ℕ} {r : Row} → metaNo s ≡ q → Opens y s r → x .newest < x .top - 63
       → Ready (stored q (upd (y .row) s r) (y .window ++ (s ∷ [])) x) p
   announced-ready {y} c {s} {r} e o h =
       let Y : Ready (opened s r y) p = opens-ready y p (chain-ready c) o in
-      rw (announced-same c s r e) (restamped-ready (suc (x .newest)) (opened s r y) p Y (omega (arith, Y .stored-window-rule .fits)))
+      rw (announced-same c s r e) (restamped-ready (suc (x .newest)) (opened s r y) p Y (omega (arith, Y .stored-window-rule .fits, chain-rest (one-more c e o) .top)))

@@ -6,7 +6,6 @@ use mathlib.Core.Bool.{Bool, true, false, cond}
 use mathlib.Core.List.{_∷_, List·Memᴰ, List·Memᴰ·head, List·Memᴰ·tail}
 use native.Mathlib.Decide.{ℕ-discrete}
 use lib.ListN.{length}
-use Rattle.record.specs.Record.{largestStamp}
 use Rattle.theorem.proofs.model.Reopened.{fixed}
 use Rattle.layout.proofs.Booleans.{clash}
 use Rattle.laws.proofs.model.Base.{upd, upd-same, upd-other}
@@ -38,7 +37,7 @@ pub record Opens (x : Model) (s : ℕ) (r : Row) : Type 0 where
   pub fresh : (t : ℕ) → t ≢ s → valid (x .row t) ≡ true → blockOf (x .row t) ≢ blockOf r
   pub slot-below : s < x .slots
   pub room : length (x .window) < 63
-  pub stamps-left : x .newest < largestStamp - 63
+  pub stamps-left : x .newest < x .top - 63
 
 pub record Copies (x : Model) (s : ℕ) : Type 0 where
   pub was-dirty : dirtyRow (x .row s) ≡ true

@@ -9,7 +9,6 @@ use native.Mathlib.Decide.{ℕ-discrete}
 use lib.ListN.{length, length-append}
 use lib.Dec.{eqb}
 use borrow.Author.Tests.{eqb-true}
-use Rattle.record.specs.Record.{largestStamp}
 use Rattle.layout.proofs.Booleans.{Told, told, told-true, told-false, clash}
 use Rattle.laws.proofs.model.Base.{upd, has, metaNo, upd-same, upd-other, has-snoc, has-snoc-other, eqb-same, Window, snoc-window}
 use Rattle.laws.proofs.model.Rows.{dirty-valid}
@@ -28,7 +27,7 @@ module _
     (below : s < x .slots)
     (in-disk : blockOf r < x .blocks)
     (room : length (x .window) < 63)
-    (stamps-left : x .newest < largestStamp - 63)
+    (stamps-left : x .newest < x .top - 63)
   where
     -- the entries after the store, at the slots of the page and at the others
     entry-here : (t : ℕ) → metaNo t ≡ metaNo s → (opened s r x) .entry t ≡ upd (x .row) s r t

@@ -11,10 +11,11 @@ use Rattle.layout.specs.declared.Slot.{Slot}
 use Rattle.layout.specs.declared.Block.{Block}
 use Rattle.layout.specs.declared.Label.{Label}
 use Rattle.layout.specs.Places.{metaPages}
+use Rattle.layout.proofs.StampLaws.{stamps-enough}
 use Rattle.layout.proofs.PlaceLaws.{meta-of-low}
 use Rattle.protocol.specs.Rows.{setRow, openRows}
 use Rattle.record.specs.Callers.{callerArray}
-use Rattle.record.specs.Record.{labelIn, windowIn, callersIn, largestStamp}
+use Rattle.record.specs.Record.{labelIn, windowIn, callersIn}
 use Rattle.protocol.specs.Box.{Box}
 use Rattle.laws.proofs.model.Base.{upd, metaNo}
 use Rattle.laws.proofs.model.Model as model
@@ -59,7 +60,7 @@ module _ {z : Box} {w : List Slot} {y : Model} {p : Plain} (S : Sound (labelIn (
       let r = held-row (S .legal) H in
       n (R .once t (s .0) v (ap model.valid (W .row (s .0)) ∙ r .0) (e ∙ sym (ap blockOf (W .row (s .0)) ∙ r .1)))
 
-  asks : y .newest < largestStamp - 63 → Opens y (s .0) row′
+  asks : y .newest < y .top - 63 → Opens y (s .0) row′
   asks spare = record {
     is-open = O .is-open;
     in-blocks = rw (O .block-is, W .blocks) (O .block-low);
@@ -108,6 +109,10 @@ module _ (l : Label) (k : Core) (S : Shape l k) (p : Plain) (R : model.Ready (ab
   unfolding metaNo
   page-of s low e = rw (← e) (meta-of-low l s low)
 
+  many : 126 < x .top
+  unfolding abs
+  many = omega (arith, stamps-enough l)
+
   -- the model shows the box and its window
   starts : Shows (boxOfCore l k) (windowIn (boxOfCore l k .state)) (restamped 0 x)
   unfolding restamped abs
@@ -137,7 +142,7 @@ module _ (l : Label) (k : Core) (S : Shape l k) (p : Plain) (R : model.Ready (ab
         slot = s .0;
         row = rowOf (b .0) (f % 8);
         on-page = e;
-        asked = asks sound Y starts O (chain-spare q x p R C);
+        asked = asks sound Y starts O (chain-spare q x p R C many);
         rows = row-after sound Y starts O;
         window = window-after sound Y starts O;
         hand-low = O .hand-low;
@@ -159,7 +164,7 @@ module _ (l : Label) (k : Core) (S : Shape l k) (p : Plain) (R : model.Ready (ab
         slot = s .0;
         row = rowOf (b .0) (f % 8);
         on-page = e;
-        asked = asks (rw grown-window T) Y W O (chain-spare q x p R C);
+        asked = asks (rw grown-window T) Y W O (chain-spare q x p R C many);
         rows = row-after (rw grown-window T) Y W O;
         window = window-after (rw grown-window T) Y W O;
         hand-low = O .hand-low;

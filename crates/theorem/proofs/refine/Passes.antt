@@ -14,8 +14,9 @@ use Rattle.layout.specs.declared.Label.{Label}
 use Rattle.layout.specs.PageRule.{listed}
 use Rattle.record.specs.declared.Phase.the-variants.{Ready}
 use Rattle.protocol.specs.Rows.{rowBlock, rowFlags, valid, dirty, writing}
-use Rattle.record.specs.Record.{windowIn, largestStamp}
+use Rattle.record.specs.Record.{windowIn}
 use Rattle.layout.specs.Window.{arrayOf}
+use Rattle.layout.specs.Stamps.{largestStamp}
 use Rattle.protocol.specs.Plan.{step, flush, lookUp, view, flushing, plan, storesMeta, Call}
 use Rattle.record.specs.Rule.{stepsTest}
 use Rattle.protocol.specs.Judge.{isEmpty, agreeTest, test, judged, lentTest, askedFirst}
@@ -101,7 +102,7 @@ module _ (l : Label) (k : Core) (S : Shape l k) (T : Sound l (k .table) (k .wind
 -- and its stamps
 module _ (l : Label) (k : Core) (S : Shape l k) (p : Plain) (R : model.Ready (abs l k) p) where
   -- a flush has a stamp left
-  flush-left : k .unconfirmed ≡ true → k .newest < largestStamp
+  flush-left : k .unconfirmed ≡ true → k .newest < largestStamp l
   unfolding abs
   flush-left u = omega (arith, R .budget, rw u at (R .short))
 
@@ -110,7 +111,7 @@ module _ (l : Label) (k : Core) (S : Shape l k) (p : Plain) (R : model.Ready (ab
   flush-judged = accepted flush (boxOfCore l k)
       (ready-first l k S (ready-sound l k S p R) (unfold abs in R .phase) flush refl refl) (go (told (k .unconfirmed)), tt)
     where
-      go : Told (k .unconfirmed) → (storesMeta (flushing (k .unconfirmed)) && leb largestStamp (k .newest)) ≡ false
+      go : Told (k .unconfirmed) → (storesMeta (flushing (k .unconfirmed)) && leb (largestStamp l) (k .newest)) ≡ false
       go (told-true u) = rw (u, lt-leb _ _ (flush-left u))
       go (told-false u) = rw u
 
@@ -160,7 +161,7 @@ module _ (l : Label) (k : Core) (S : Shape l k) (p : Plain) (M : Mending (abs l 
       (each-of (λ s block flags. not (writing flags)) 0 (k .table)
       (λ s h. rw (sym (at-open l (k .table) (S .rows) s (omega (arith, S .table-size))) ∙ shut-row s)))
 
-  pub mending-left : k .newest < largestStamp
+  pub mending-left : k .newest < largestStamp l
   unfolding abs
   mending-left = omega (
     arith,

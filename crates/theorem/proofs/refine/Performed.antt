@@ -17,12 +17,14 @@ use Rattle.layout.proofs.PlaceLaws.{data-within}
 use Rattle.layout.specs.MetaPage.{rowsOn}
 use Rattle.protocol.specs.Metadata.{storePlace, metaBytes}
 use Rattle.layout.specs.PageRule.{distinct}
+use Rattle.layout.specs.Stamps.{largestStamp}
+use Rattle.layout.proofs.StampLaws.{stamp-fits}
 use Rattle.record.specs.declared.Record.{Record}
 use Rattle.record.specs.declared.Phase.{Phase}
 use Rattle.protocol.specs.Reply.{Reply}
 use Rattle.protocol.specs.Rows.{rowFlags, setFlags, valid, writing, withUsed, withoutDirty}
 use Rattle.record.specs.Callers.{callerArray}
-use Rattle.record.specs.Record.{windowIn, callersIn, recordOf, putCallers, largestStamp}
+use Rattle.record.specs.Record.{windowIn, callersIn, recordOf, putCallers}
 use Rattle.record.specs.Window.{without, beside}
 use Rattle.protocol.specs.Box.{Box, left, boxAfter}
 use Rattle.protocol.specs.Recovery.{metasOf, Newest, newestOf, spentStamp, phaseOf, offPage}
@@ -66,6 +68,7 @@ module _ (l : Label) (k : Core) (S : Shape l k) where
       same-path _ _ record {
         slots = refl;
         blocks = refl;
+        top = refl;
         row = A .row;
         entry = λ s. refl;
         hdd = λ b. refl;
@@ -115,7 +118,7 @@ module _
     (k : Core)
     (S : Shape l k)
     (stamps : spentStamp l (k .ssd) ≡ k .newest)
-    (left-over : k .newest < largestStamp)
+    (left-over : k .newest < largestStamp l)
     (v : List ℕ)
     (size : length v ≡ tableLength l)
     (R : Rows l v)
@@ -132,7 +135,7 @@ module _
     newer = omega arith
 
     fits : k .newest + 1 < 2 ^ 32
-    fits = omega arith
+    fits = omega (arith, stamp-fits l)
 
     pub stored-shape : CallersKept r w cs → Shape l (storedCore l k v hand w cs p r)
     stored-shape C = record {
@@ -161,6 +164,7 @@ module _
         same-path _ _ record {
           slots = refl;
           blocks = refl;
+          top = refl;
           row = λ s. refl;
           entry = ents;
           hdd = λ b. refl;
@@ -180,6 +184,7 @@ module _
         same-path _ _ record {
           slots = refl;
           blocks = refl;
+          top = refl;
           row = λ s. ap (λ (t : List ℕ). rowAt t s) ev;
           entry = λ s. ents s ∙ ap (λ (t : List ℕ). cond (eqb (s / 240) p) (rowAt t s) (entryRow l (metasOf l (k .ssd)) s)) ev;
           hdd = λ b. refl;
@@ -324,6 +329,7 @@ module _
         same-path _ _ record {
           slots = refl;
           blocks = refl;
+          top = refl;
           row = landed-rows;
           entry = λ u. ap (λ (m : List (List ℕ)). entryRow l m u) landed-metas;
           hdd = λ b. refl;
@@ -415,6 +421,7 @@ module _
         same-path _ _ record {
           slots = refl;
           blocks = refl;
+          top = refl;
           row = rows-are;
           entry = λ u. refl;
           hdd = λ b. rw block-is (disk-page l (k .ssd) (k .hdd) (S .images) (getD v (2 * s) 0) block-low _ page-sized b);

@@ -1,5 +1,5 @@
 -- Each call of a ready box that is not refused leaves a ready box, and the reference disk agrees.
-use Prim.Native.Nat.{ℕ, _+_, _-_, _*_, _<_}
+use Prim.Native.Nat.{ℕ, _+_, _*_, _<_}
 use mathlib.Core.Path.{_≡_, refl, sym, ap, _∙_}
 use mathlib.Core.Bool.{Bool, true, false, cond, not, _&&_}
 use mathlib.Core.List.{List, [], _∷_, _++_}
@@ -15,6 +15,7 @@ use Rattle.layout.proofs.PlaceLaws.{meta-of-low}
 use Rattle.layout.specs.declared.Block.{Block}
 use Rattle.layout.specs.declared.Label.{Label}
 use Rattle.layout.specs.Places.{metaPages}
+use Rattle.layout.specs.Stamps.{largestStamp, openingBound}
 use Rattle.protocol.specs.Reply.{Reply, refused}
 use Rattle.protocol.specs.Rows.{rowFlags, valid, dirty, writing}
 use Rattle.protocol.specs.Box.{Effect, left, boxAfter}
@@ -22,7 +23,6 @@ use Rattle.protocol.specs.Recovery.{spentStamp}
 use Rattle.protocol.specs.Plan.{Call, Move, stay, uses, usesAll, announces, lands, copies, confirms}
 use Rattle.protocol.specs.Kinds.{Aim, aService, kind}
 use Rattle.protocol.specs.Perform.{confirmed, usedAll, perform}
-use Rattle.record.specs.Record.{largestStamp}
 use Rattle.protocol.specs.Judge.{Reason, judged, isReady}
 use Rattle.protocol.specs.Calls.{decided, effectOf}
 use Rattle.protocol.specs.ReferenceDisk.{Disk, durable, written, fedCall, fed}
@@ -121,7 +121,7 @@ module _ (l : Label) (k : Core) (S : Shape l k) (d : Disk) (p : Plain) (A : Agre
 
     -- slots of one page are opened
     module _ (z : Quiet a) (said : Reply) (n : refused said ≡ false) {q : ℕ} {t : List ℕ} {h : Slot} {w : List Slot} {cs : List ℕ}
-        (O : Openings (boxOfCore l k) q t h w cs) (spare : k .newest < largestStamp - 63) where
+        (O : Openings (boxOfCore l k) q t h w cs) (spare : k .newest < openingBound l) where
       E : Last l k S p R q t h w cs
       E = last l k S p R q O
 
@@ -211,7 +211,7 @@ module _ (l : Label) (k : Core) (S : Shape l k) (d : Disk) (p : Plain) (A : Agre
         lands-ready (abs l k) p R (lands-asks page H bl) (at-dirty l (k .table) (S .rows) s (H .low) ∙ y)
 
     -- a flush stores page 0
-    confirms-next : k .unconfirmed ≡ true → k .newest < largestStamp → Agrees l (fedCall (a .purpose) (a .block) d) (settle p)
+    confirms-next : k .unconfirmed ≡ true → k .newest < largestStamp l → Agrees l (fedCall (a .purpose) (a .block) d) (settle p)
         → Inv l (calledAs c (perform confirms (boxOfCore l k)) (worldOf l k d))
     unfolding perform confirmed
     confirms-next u h A′ =

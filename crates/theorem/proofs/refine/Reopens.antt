@@ -253,6 +253,7 @@ module _ (l : Label) (k : Core) (p : Plain) (K : ImagesKept l (k .ssd) (k .hdd))
       same-path _ _ record {
         slots = refl;
         blocks = refl;
+        top = refl;
         row = row-is;
         entry = λ s. refl;
         hdd = λ b. refl;

@@ -5,6 +5,7 @@ use native.Mathlib.Omega.{arith}
 use lib.ListN.{length, set, length-set}
 use lib.Seq.{getD-set-same}
 use borrow.Author.Tests.{leb-false}
+use Rattle.layout.proofs.StampLaws.{stamp-fits}
 use Rattle.protocol.specs.Rows.{rowFlags, setRow}
 use Rattle.import_run.specs.Runs.{opensIf}
 use native.Mathlib.Omega.{arith}
@@ -30,7 +31,8 @@ set-row-requires c κs = search needs
 add-next : tie.Need-add-next
 add-next c =
     let e = c .before .before .before .before .before .before .before .before .before .before in
-    omega (arith, leb-false 4294967232 (e .before .before .before .args .run .newest) (sym (e .before .is-spent .ensures) ∙ e .if1 .left))
+    let a = e .before .before .before .args in
+    omega (arith, stamp-fits (a .l), leb-false _ (a .run .newest) (sym (e .before .is-spent .ensures) ∙ e .if1 .left))
 
 add-next-2 : tie.Need-add-next-2
 add-next-2 c = search needs

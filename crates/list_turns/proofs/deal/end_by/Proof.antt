@@ -33,7 +33,7 @@ returns-3 c =
     let m = c .before in
     let t = m .before .before in
     let a = t .before .before .args in
-    rw (t .turn .given .1) (c .end-of .ensures ∙ ap (endOf (a .page) (a .newest)) (m .meta-of .ensures))
+    rw (t .turn .given .1) (c .end-of .ensures ∙ ap (endOf (a .l) (a .page) (a .newest)) (m .meta-of .ensures))
 
 returns-4 : tie.Need-returns-4
 returns-4 c = search needs

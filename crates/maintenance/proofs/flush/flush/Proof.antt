@@ -1,6 +1,8 @@
 use mathlib.Core.Path.{_≡_}
+use native.Mathlib.Omega.{arith}
 use lib.ListN.{length}
 use borrow.Author.Tests.{not-true, not-false, le-leb, lt-leb}
+use Rattle.layout.specs.Stamps.{largestStamp}
 use Rattle.record.specs.Record.{labelIn}
 use Rattle.protocol.specs.Plan.{flush}
 use Rattle.protocol.specs.Perform.{confirmed, perform}
@@ -48,22 +50,33 @@ returns-2 c =
     let a = start e .args in
     rw (c .answered .ensures) (flush-idle (a .ssd .now) (a .hdd .now) (a .table .now) (a .state) (passed e) (not-true _ (c .before .if2 .taken)))
 
+largest-stamp-requires : tie.Need-largest-stamp-requires
+largest-stamp-requires c κs = search needs
+
 refused-requires-2 : tie.Need-refused-requires-2
 refused-requires-2 c κs = search needs
 
 returns-3 : tie.Need-returns-3
 returns-3 c =
-    let e = c .before .before .before .before .before in
+    let n = c .before .before .before in
+    let e = n .before .before .before in
     let a = start e .args in
     rw (c .refused2 .ensures)
-    (flush-spent (a .ssd .now) (a .hdd .now) (a .table .now) (a .state) (passed e) (not-false _ (c .before .before .before .if2 .left)) (le-leb _ _ (c .before .if3 .taken)))
+    (flush-spent (a .ssd .now) (a .hdd .now) (a .table .now) (a .state) (passed e) (not-false _ (n .before .if2 .left))
+    (le-leb (largestStamp (labelIn (a .state))) _ (omega (arith, n .largest-stamp .ensures, c .before .if3 .taken))))
 
 confirm-requires : tie.Need-confirm-requires
 confirm-requires c κs =
-    let e = c .before .before .before .before .before in
+    let n = c .before .before .before in
+    let e = n .before .before .before in
     let a = start e .args in
-    let B = ready (a .ssd .now) (a .hdd .now) 4096 (a .table .now) (a .state) (passed e) in
-    (B .box .fits, (meta-of-low (labelIn (a .state)) (record { 0 = 0 }) (B .box .sound .limits .some-slot), c .before .if3 .left))
+    let B = ready (a .ssd .now) (a .hdd .now) 4096 (a .table .now) (a .state) (passed e) in (
+      B .box .fits,
+      (
+        meta-of-low (labelIn (a .state)) (record { 0 = 0 }) (B .box .sound .limits .some-slot),
+        omega (arith, n .largest-stamp .ensures, c .before .if3 .left),
+      ),
+    )
 
 same-length : tie.Need-same-length
 same-length c = search needs
@@ -71,11 +84,14 @@ same-length c = search needs
 returns-4 : tie.Need-returns-4
 unfolding confirmed perform
 returns-4 c =
-    let e = c .before .before .before .before .before .before .before .before in
+    let k = c .before .before .before .before in
+    let n = k .before .before in
+    let e = n .before .before .before in
     let a = start e .args in
     let z = c .before .before .confirm .ensures in
     rw (z .0, z .1)
-    (flush-done (a .ssd .now) (a .hdd .now) (a .table .now) (a .state) (passed e) (not-false _ (c .before .before .before .before .before .before .if2 .left)) (lt-leb _ _ (c .before .before .before .before .if3 .left)))
+    (flush-done (a .ssd .now) (a .hdd .now) (a .table .now) (a .state) (passed e) (not-false _ (n .before .if2 .left))
+    (lt-leb (largestStamp (labelIn (a .state))) _ (omega (arith, n .largest-stamp .ensures, k .if3 .left))))
 
 pub flush-spec : {M : Type 1} → statement M
 flush-spec =
@@ -86,6 +102,7 @@ flush-spec =
     returns
     answered-requires
     returns-2
+    largest-stamp-requires
     refused-requires-2
     returns-3
     confirm-requires

@@ -1,7 +1,10 @@
 use mathlib.Core.Path.{_≡_}
+use native.Mathlib.Omega.{arith}
 use lib.ListN.{length}
 use borrow.Author.Tests.{le-leb, lt-leb}
+use Rattle.layout.specs.Stamps.{largestStamp}
 use Rattle.layout.proofs.PlaceLaws.{within}
+use Rattle.record.specs.Record.{labelIn}
 use Rattle.protocol.specs.Plan.{step}
 use Rattle.protocol.specs.Perform.{confirmed, perform}
 use Rattle.protocol.specs.Calls.{boxOf}
@@ -59,22 +62,32 @@ format-step-requires c κs =
 enum-told-2 : tie.Need-enum-told-2
 enum-told-2 c = search needs
 
+largest-stamp-requires : tie.Need-largest-stamp-requires
+largest-stamp-requires c κs = search needs
+
 refused-requires-3 : tie.Need-refused-requires-3
 refused-requires-3 c κs = search needs
 
 returns-2 : tie.Need-returns-2
 returns-2 c =
-    let e = c .before .before .before .before .before in
+    let n = c .before .before .before in
+    let e = n .before .before .before in
     let a = start e .args in
     rw (c .refused3 .ensures)
-    (step-spent (a .ssd .now) (a .hdd .now) (a .table .now) (a .state) (passed e) (c .before .before .before .enum-told2 .given .1)
-    (le-leb _ _ (c .before .if2 .taken)))
+    (step-spent (a .ssd .now) (a .hdd .now) (a .table .now) (a .state) (passed e) (n .before .enum-told2 .given .1)
+    (le-leb (largestStamp (labelIn (a .state))) _ (omega (arith, n .largest-stamp .ensures, c .before .if2 .taken))))
 
 mend-requires : tie.Need-mend-requires
 mend-requires c κs =
-    let e = c .before .before .before .before .before in
-    let S = box e in
-    (S .fits, (S .record-kept, (some-pending _ _ _ _ S (c .before .before .before .enum-told2 .given .1), c .before .if2 .left)))
+    let n = c .before .before .before in
+    let e = n .before .before .before in
+    let S = box e in (
+      S .fits,
+      (
+        S .record-kept,
+        (some-pending _ _ _ _ S (n .before .enum-told2 .given .1), omega (arith, n .largest-stamp .ensures, c .before .if2 .left)),
+      ),
+    )
 
 returns-3 : tie.Need-returns-3
 returns-3 c =
@@ -101,13 +114,14 @@ same-length-2 c = search needs
 returns-5 : tie.Need-returns-5
 unfolding confirmed perform
 returns-5 c =
-    let e = c .before .before .before .before .before .before .before .before in
+    let k = c .before .before .before .before in
+    let n = k .before .before in
+    let e = n .before .before .before in
     let a = start e .args in
     let z = c .before .before .mend .ensures in
     rw (z .0, z .1)
-    (step-mends (a .ssd .now) (a .hdd .now) (a .table .now) (a .state) (passed e)
-    (c .before .before .before .before .before .before .enum-told2 .given .1)
-    (lt-leb _ _ (c .before .before .before .before .if2 .left)))
+    (step-mends (a .ssd .now) (a .hdd .now) (a .table .now) (a .state) (passed e) (n .before .enum-told2 .given .1)
+    (lt-leb (largestStamp (labelIn (a .state))) _ (omega (arith, n .largest-stamp .ensures, k .if2 .left))))
 
 pub step-spec : {M : Type 1} → statement M
 step-spec =
@@ -121,6 +135,7 @@ step-spec =
     enum-known-phase
     format-step-requires
     enum-told-2
+    largest-stamp-requires
     refused-requires-3
     returns-2
     mend-requires
