@@ -1,12 +1,10 @@
--- What an answer becomes at the C interface: the result code, and what the words, the slot and the place of a page become.
+-- What an answer becomes at the C interface: the result code, and what the slot and the place of a page become.
 use Prim.Native.Nat.{ℕ, _*_}
 use mathlib.Core.List.{List, [], _∷_}
-use Rattle.record.specs.declared.Record.{Record}
 use Rattle.protocol.specs.declared.Stored.{Stored}
 use Rattle.protocol.specs.declared.Stored.the-variants.{Nothing, Ssd, Hdd}
 use Rattle.protocol.specs.Reply.{Reply, refusal, answer, dealt}
 use Rattle.c_answers.specs.declared.Place.{Place}
-use Rattle.c_record.specs.Words.{wordsOf}
 
 -- a refusal's number, or the answer's result code
 abbrev pub codeOf : Reply → ℕ
@@ -27,12 +25,6 @@ dealtAfter (refusal n) before = before
 dealtAfter (answer n s) before = before
 dealtAfter (dealt n) before = n
 
--- the packed record, or what was there before a refusal
-abbrev pub wordsAfter : Reply → Record → List ℕ → List ℕ
-wordsAfter (refusal n) r before = before
-wordsAfter (answer n s) r before = wordsOf r
-wordsAfter (dealt n) r before = wordsOf r
-
 -- page i of image 1, the SSD, or of image 2, the HDD
 abbrev pub pageOf : ℕ → ℕ → Place
 pageOf image i = record { image = image; offset = 4096 * i }
@@ -48,11 +40,3 @@ abbrev pub placeAfter : Reply → Stored → Place → Place
 placeAfter (refusal n) stored before = before
 placeAfter (answer n s) stored before = placeOf stored
 placeAfter (dealt n) stored before = placeOf stored
-
--- what a call's answer and record make of the words, and its result code
-pub record Closed : Type 0 where
-  pub code : ℕ
-  pub words : List ℕ
-
-abbrev pub closedBy : Reply → Record → List ℕ → Closed
-closedBy said r words = record { code = codeOf said; words = wordsAfter said r words }

@@ -21,7 +21,8 @@ use Rattle.protocol.specs.Judge.{Reason, judged}
 use Rattle.protocol.specs.Calls.{decided, effectOf, leaves, resultOf, boxOf, listWordsOf}
 use Rattle.c_answers.specs.declared.Place.{Place}
 use Rattle.c_record.specs.Words.{wordsOf, unpacked, isRecord}
-use Rattle.c_answers.specs.Codes.{codeOf, closedBy, slotAfter, dealtAfter, placeAfter}
+use Rattle.c_answers.specs.Codes.{codeOf, slotAfter, dealtAfter, placeAfter}
+use Rattle.c_closing.specs.Closing.{closedBy}
 use Rattle.c_record.proofs.RoundTrip.{words-kept}
 use Rattle.ferjulm.specs.Calls.{kept, leftBy, cCall, cSlot, cDealt, cPlace, cFresh}
 use Rattle.ferjulm.specs.List.{cLocated}

@@ -1,5 +1,5 @@
 -- A result code tells a refusal from an answer: 1 to 99 are refusals, which change nothing; 0 and from 101 on are answers, of
--- which 101 and 108 to 111 carry a slot.
+-- which 101 and 108 to 111 carry a slot, and 113 is an import's cost alone, where the import would meet a refusal.
 use Prim.Native.Nat.{ℕ, _≤_}
 use mathlib.Core.Path.{_≡_, refl}
 use mathlib.Core.Bool.{true, false, _&&_, _||_}
@@ -11,6 +11,9 @@ use Rattle.record.specs.declared.Record.{Record}
 use Rattle.protocol.specs.declared.Answer.{Answer}
 use Rattle.protocol.specs.declared.Answer.the-variants.{Refused, Announced, Overwrite, CopiedOut, Looked, NothingToDo, Done, Dealt}
 use Rattle.protocol.specs.declared.Condition.the-variants.{NotCached, Clean, Dirty, Writing, Fetching}
+use Rattle.protocol.specs.declared.Cost.{Cost}
+use Rattle.protocol.specs.declared.Cost.the-variants.{Refused as Unanswered, Counted, Met}
+use Rattle.protocol.specs.declared.Counts.{Counts}
 use Rattle.protocol.specs.declared.Stored.{Stored}
 use Rattle.protocol.specs.Reply.{Reply, refusal, answer, dealt, replyOf, refused}
 use Rattle.protocol.specs.Box.{Box, left}
@@ -21,6 +24,7 @@ use Rattle.layout.proofs.Booleans.{clash}
 use Rattle.laws.proofs.why.Answers.{plan-answers}
 use Rattle.c_answers.specs.declared.Place.{Place}
 use Rattle.c_answers.specs.Codes.{codeOf, slotAfter, dealtAfter, placeAfter}
+use Rattle.c_closing.specs.Counts.{CostNumbers, costCode, numbersAfter}
 use Rattle.ferjulm.specs.Calls.{kept, leftBy}
 
 pub record IsRefusal (code : ℕ) : Type 0 where
@@ -124,3 +128,26 @@ dealt-code (Looked (Fetching s)) before h = refl
 dealt-code NothingToDo before h = refl
 dealt-code Done before h = refl
 dealt-code (Dealt n) before h = clash refl h
+
+-- an import's cost that meets a refusal has 113, which no call's answer has
+pub met-code : (n place : ℕ) (counts : Counts) (a : Answer) → refused (replyOf a) ≡ false
+    → (costCode (Met n place counts) ≡ 113) × (eqb (codeOf (replyOf a)) 113 ≡ false)
+met-code n place counts (Refused m) h = clash refl h
+met-code n place counts (Announced s) h = (refl, refl)
+met-code n place counts Overwrite h = (refl, refl)
+met-code n place counts CopiedOut h = (refl, refl)
+met-code n place counts (Looked NotCached) h = (refl, refl)
+met-code n place counts (Looked (Clean s)) h = (refl, refl)
+met-code n place counts (Looked (Dirty s)) h = (refl, refl)
+met-code n place counts (Looked (Writing s)) h = (refl, refl)
+met-code n place counts (Looked (Fetching s)) h = (refl, refl)
+met-code n place counts NothingToDo h = (refl, refl)
+met-code n place counts Done h = (refl, refl)
+met-code n place counts (Dealt m) h = (refl, refl)
+
+-- the number and the place of a refusal met change with 113 alone
+pub cost-code : (a : Cost) (before : CostNumbers) → eqb (costCode a) 113 ≡ false
+    → (numbersAfter a before .number ≡ before .number) × (numbersAfter a before .place ≡ before .place)
+cost-code (Unanswered n) before h = (refl, refl)
+cost-code (Counted counts) before h = (refl, refl)
+cost-code (Met n place counts) before h = clash refl h

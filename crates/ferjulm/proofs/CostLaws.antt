@@ -8,7 +8,8 @@ use Rattle.protocol.specs.declared.Cost.{Cost}
 use Rattle.protocol.specs.declared.Cost.the-variants.{Refused}
 use Rattle.protocol.specs.Cost.{CostLeft, costOf}
 use Rattle.c_record.specs.Words.{unpacked, isRecord}
-use Rattle.ferjulm.specs.Cost.{CostNumbers, CCost, costAfter, cCost}
+use Rattle.c_closing.specs.Counts.{CostNumbers, CCost, costAfter}
+use Rattle.ferjulm.specs.Cost.{cCost}
 
 module _ (ssd hdd table words blocks : List ℕ) (caller : ℕ) (scratch : List ℕ) (before : CostNumbers) where
   pub no-cost : isRecord words ≡ false → costAfter (Refused 3) scratch before ≡ cCost ssd hdd table words blocks caller scratch before

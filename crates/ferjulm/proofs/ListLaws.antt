@@ -44,9 +44,9 @@ use Rattle.stored.specs.Stored.{numberedOf}
 use Rattle.stored.proofs.StoredLaws.{found, newest-bounded}
 use Rattle.stored.proofs.RuleLaws.{passed}
 use Rattle.c_record.specs.Words.{recordWords, wordsOf, unpacked, isRecord, recordIn}
-use Rattle.c_answers.specs.Codes.{wordsAfter}
+use Rattle.c_closing.specs.Closing.{wordsAfter}
 use Rattle.c_record.proofs.WordLaws.{window-length, callers-length}
-use Rattle.c_answers.proofs.ClosedLaws.{record-length}
+use Rattle.c_closing.proofs.ClosedLaws.{record-length}
 use Rattle.c_record.proofs.RoundTrip.{Whole, packed-is, unpacked-is, unpacked-packed}
 use Rattle.ferjulm.specs.Calls.{Left, kept, leftBy, resultBy, leftIn, cCall, cFresh}
 use Rattle.ferjulm.specs.Lists.{cServed, cMade, cRun, reaches, withIf, reached, boxIn, ranFrom, RunsAlike}

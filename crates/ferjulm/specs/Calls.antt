@@ -13,7 +13,8 @@ use Rattle.protocol.specs.Judge.{labelTest}
 use Rattle.protocol.specs.Calls.{resultOf, boxOf}
 use Rattle.c_answers.specs.declared.Place.{Place}
 use Rattle.c_record.specs.Words.{recordWords, unpacked, recordIn}
-use Rattle.c_answers.specs.Codes.{codeOf, slotAfter, dealtAfter, placeAfter, wordsAfter}
+use Rattle.c_answers.specs.Codes.{codeOf, slotAfter, dealtAfter, placeAfter}
+use Rattle.c_closing.specs.Closing.{wordsAfter}
 
 pub record Left : Type 0 where
   pub code : ℕ

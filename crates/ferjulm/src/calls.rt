@@ -1,6 +1,7 @@
 // The calls but a view: the words are judged and unpacked, the box's call is made, and what it leaves is packed.
 use c_answers::answers;
-use c_answers::closing;
+use c_closing::closing;
+use c_closing::fresh;
 use c_record::RECORD_WORDS;
 use c_record::words;
 use layout::Block;
@@ -28,10 +29,7 @@ pub extern "C" fn ferjulm_format(
 {
     let l = places::label(slots, blocks);
     if words.len() != RECORD_WORDS {
-        if places::within_limits(l) {
-            return 3;
-        }
-        return 1;
+        return fresh::unheld(l);
     }
     let number = format::begin(l, ssd.len(), hdd.len(), table);
     if number != 0 {
@@ -62,11 +60,7 @@ pub extern "C" fn ferjulm_offer(
     }
     let state = words::unpack(words);
     let outcome = write_path::offer::offer(ssd, hdd, table, state, Block(block), caller);
-    let answer = outcome.answer;
-    *slot = answers::slot_of(answer, *slot);
-    let stored = outcome.stored;
-    closing::name(image, offset, answer, stored);
-    closing::closed(words, outcome)
+    closing::ended_at(words, slot, image, offset, outcome)
 }
 
 // Lands a page for a block.
@@ -88,10 +82,7 @@ pub extern "C" fn ferjulm_land(
     }
     let state = words::unpack(words);
     let outcome = write_path::land::land(ssd, hdd, table, state, Block(block), page);
-    let answer = outcome.answer;
-    let stored = outcome.stored;
-    closing::name(image, offset, answer, stored);
-    closing::closed(words, outcome)
+    closing::ended(words, image, offset, outcome)
 }
 
 // Fetches a block, for a caller.
@@ -114,11 +105,7 @@ pub extern "C" fn ferjulm_fetch(
     }
     let state = words::unpack(words);
     let outcome = read_path::fetch::fetch(ssd, hdd, table, state, Block(block), caller);
-    let answer = outcome.answer;
-    *slot = answers::slot_of(answer, *slot);
-    let stored = outcome.stored;
-    closing::name(image, offset, answer, stored);
-    closing::closed(words, outcome)
+    closing::ended_at(words, slot, image, offset, outcome)
 }
 
 // Lands a fetch.
@@ -139,10 +126,7 @@ pub extern "C" fn ferjulm_land_fetch(
     }
     let state = words::unpack(words);
     let outcome = read_path::land_fetch::land_fetch(ssd, hdd, table, state, Block(block));
-    let answer = outcome.answer;
-    let stored = outcome.stored;
-    closing::name(image, offset, answer, stored);
-    closing::closed(words, outcome)
+    closing::ended(words, image, offset, outcome)
 }
 
 // Looks a block up. The record stays as it is, so the words are only read.
@@ -185,10 +169,7 @@ pub extern "C" fn ferjulm_write_back(
     }
     let state = words::unpack(words);
     let outcome = maintenance::write_back::write_back(ssd, hdd, table, state, Block(block));
-    let answer = outcome.answer;
-    let stored = outcome.stored;
-    closing::name(image, offset, answer, stored);
-    closing::closed(words, outcome)
+    closing::ended(words, image, offset, outcome)
 }
 
 // Flushes.
@@ -208,10 +189,7 @@ pub extern "C" fn ferjulm_flush(
     }
     let state = words::unpack(words);
     let outcome = maintenance::flush::flush(ssd, hdd, table, state);
-    let answer = outcome.answer;
-    let stored = outcome.stored;
-    closing::name(image, offset, answer, stored);
-    closing::closed(words, outcome)
+    closing::ended(words, image, offset, outcome)
 }
 
 // Makes a step, of a format or of mending.
@@ -231,10 +209,7 @@ pub extern "C" fn ferjulm_step(
     }
     let state = words::unpack(words);
     let outcome = steps::step::step(ssd, hdd, table, state);
-    let answer = outcome.answer;
-    let stored = outcome.stored;
-    closing::name(image, offset, answer, stored);
-    closing::closed(words, outcome)
+    closing::ended(words, image, offset, outcome)
 }
 
 // The number of a reopening with words that can't hold a record.

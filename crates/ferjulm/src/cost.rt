@@ -1,43 +1,9 @@
 // What an import would cost: stores counted, in a lent scratch table.
+use c_closing::counts;
 use c_record::words;
 use import_cost::cost;
-use protocol::Cost;
 ghost use mathlib.Core.Path.{_≡_};
-ghost use mathlib.Core.List.{[]};
-ghost use Rattle.ferjulm.specs.Cost.{costAfter, cCost};
-
-// The code that a refusal which the run meets has.
-const MEETS: u32 = 113;
-
-// Hands the answer out: its code, and the lent numbers.
-fn hand_out(
-    answer: Cost,
-    copies: &mut u32,
-    metadata: &mut u32,
-    landings: &mut u32,
-    number: &mut u32,
-    place: &mut u32,
-) -> u32
-    ensures { λ r. ⌜ record { code = r; scratch = []; numbers = record { copies = now (copies .exit); metadata = now (metadata .exit); landings = now (landings .exit); number = now (number .exit); place = now (place .exit) } } ≡ costAfter answer [] (record { copies = now (copies .entry); metadata = now (metadata .entry); landings = now (landings .entry); number = now (number .entry); place = now (place .entry) }) ⌝ }
-{
-    match answer {
-        Cost::Refused(n) => n,
-        Cost::Counted(counts) => {
-            *copies = counts.copies;
-            *metadata = counts.metadata;
-            *landings = counts.landings;
-            0
-        }
-        Cost::Met(n, at, counts) => {
-            *copies = counts.copies;
-            *metadata = counts.metadata;
-            *landings = counts.landings;
-            *number = n;
-            *place = at;
-            MEETS
-        }
-    }
-}
+ghost use Rattle.ferjulm.specs.Cost.{cCost};
 
 // Counts the stores that an import of the blocks by a caller would make, by kind: 0, or 113 where it would meet a refusal, with that number
 // and its place in the list; or the question is refused, which leaves everything. The scratch table becomes what the import would leave of the
@@ -64,5 +30,5 @@ pub extern "C" fn ferjulm_cost(
     }
     let state = words::unpack(words);
     let answer = cost::cost(ssd, hdd, table, state, blocks, caller, scratch);
-    hand_out(answer, copies, metadata, landings, number, place)
+    counts::hand_out(answer, copies, metadata, landings, number, place)
 }

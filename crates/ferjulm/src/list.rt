@@ -1,6 +1,6 @@
 // Lists of blocks: looked up, and offered as one.
 use c_answers::answers;
-use c_answers::closing;
+use c_closing::closing;
 use c_record::words;
 ghost use mathlib.Core.Path.{_≡_};
 ghost use lib.ListN.{length};
@@ -49,9 +49,5 @@ pub extern "C" fn ferjulm_offer_list(
     }
     let state = words::unpack(words);
     let outcome = list_offer::offer_list(ssd, hdd, table, state, blocks, caller);
-    let answer = outcome.answer;
-    *dealt = answers::dealt_of(answer, *dealt);
-    let stored = outcome.stored;
-    closing::name(image, offset, answer, stored);
-    closing::closed(words, outcome)
+    closing::ended_list(words, dealt, image, offset, outcome)
 }

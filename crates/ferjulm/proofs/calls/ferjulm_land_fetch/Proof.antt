@@ -3,7 +3,7 @@ use mathlib.Core.Bool.{true}
 use borrow.Author.Tests.{not-true, not-false}
 use Rattle.protocol.specs.Plan.{landFetch}
 use Rattle.c_record.specs.Words.{isRecord}
-use Rattle.c_answers.proofs.ClosedLaws.{record-length}
+use Rattle.c_closing.proofs.ClosedLaws.{record-length}
 use Rattle.ferjulm.proofs.CodeLaws.{barred, past}
 use borrow.Author.Needs.{needs}
 use Rattle.ferjulm.proofs.calls.ferjulm_land_fetch.Statement.{statement}
@@ -32,11 +32,10 @@ unpack-requires c κs = record-length _ (legal (c .before))
 land-fetch-requires : tie.Need-land-fetch-requires
 land-fetch-requires c κs = search needs
 
-name-requires : tie.Need-name-requires
-name-requires c κs = search needs
-
-closed-requires : tie.Need-closed-requires
-closed-requires c κs = record-length _ (legal (c .before .before .before .before .before .before .before .before .before .before .before .before .before))
+ended-requires : tie.Need-ended-requires
+ended-requires c κs =
+    let p = c .before .before .before .before .before .before .before in
+    record-length _ (legal (p .before .before .before .before .before))
 
 same-length-2 : tie.Need-same-length-2
 same-length-2 c = search needs
@@ -50,15 +49,14 @@ same-length-4 c = search needs
 returns-2 : tie.Need-returns-2
 returns-2 c =
     let q = c .before .before in
-    let m = q .before .before in
-    let p = m .before .before .before .before .before .before .before in
+    let p = q .before .before .before .before .before .before .before .before in
     let o = p .land-fetch in
     let u = p .before .before .before in
     let e = u .before .before in
     let a = e .before .before .before .before .before .before .before .args in
     let k = past (landFetch (record { 0 = a .block })) (a .ssd .now) (a .hdd .now) (a .table .now) (a .words .now)
     (u .unpack .result) (o .result) (u .unpack .ensures) (o .ensures) (legal e) in
-    (k .left (q .closed .ensures), k .place _ (m .name .ensures))
+    (k .left (q .ended .ensures .0), k .place _ (q .ended .ensures .1))
 
 pub ferjulm-land-fetch-spec : {M : Type 1} → statement M
 ferjulm-land-fetch-spec =
@@ -69,8 +67,7 @@ ferjulm-land-fetch-spec =
     returns
     unpack-requires
     land-fetch-requires
-    name-requires
-    closed-requires
+    ended-requires
     same-length-2
     same-length-3
     same-length-4

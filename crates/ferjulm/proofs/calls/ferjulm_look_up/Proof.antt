@@ -4,7 +4,7 @@ use borrow.Author.Tests.{not-true, not-false}
 use Rattle.protocol.specs.Plan.{lookUp}
 use Rattle.protocol.specs.Calls.{boxOf}
 use Rattle.c_record.specs.Words.{isRecord}
-use Rattle.c_answers.proofs.ClosedLaws.{record-length}
+use Rattle.c_closing.proofs.ClosedLaws.{record-length}
 use Rattle.ferjulm.proofs.CodeLaws.{look-up-state, barred, past}
 use borrow.Author.Needs.{needs}
 use Rattle.ferjulm.proofs.calls.ferjulm_look_up.Statement.{statement}

@@ -2,8 +2,8 @@ use mathlib.Core.Path.{_≡_, sym, _∙_}
 use mathlib.Core.Bool.{true}
 use borrow.Author.Tests.{not-true, not-false}
 use Rattle.c_record.specs.Words.{isRecord}
-use Rattle.c_answers.proofs.ClosedLaws.{record-length}
-use Rattle.ferjulm.specs.Cost.{CostNumbers}
+use Rattle.c_closing.proofs.ClosedLaws.{record-length}
+use Rattle.c_closing.specs.Counts.{CostNumbers}
 use Rattle.ferjulm.proofs.CostLaws.{no-cost, on-cost}
 use native.Mathlib.Omega.{arith}
 use borrow.Author.Needs.{needs}

@@ -5,7 +5,7 @@ use borrow.Author.Tests.{not-true, not-false}
 use Rattle.protocol.specs.Plan.{lookUpList}
 use Rattle.protocol.specs.Calls.{boxOf}
 use Rattle.c_record.specs.Words.{isRecord}
-use Rattle.c_answers.proofs.ClosedLaws.{record-length}
+use Rattle.c_closing.proofs.ClosedLaws.{record-length}
 use Rattle.ferjulm.proofs.CodeLaws.{list-state, located-barred, located-past, barred, past}
 use borrow.Author.Needs.{needs}
 use Rattle.ferjulm.proofs.list.ferjulm_look_up_list.Statement.{statement}

@@ -3,7 +3,7 @@ use mathlib.Core.Bool.{true}
 use borrow.Author.Tests.{not-true, not-false}
 use Rattle.protocol.specs.Plan.{offerList}
 use Rattle.c_record.specs.Words.{isRecord}
-use Rattle.c_answers.proofs.ClosedLaws.{record-length}
+use Rattle.c_closing.proofs.ClosedLaws.{record-length}
 use Rattle.ferjulm.proofs.CodeLaws.{barred, past}
 use borrow.Author.Needs.{needs}
 use Rattle.ferjulm.proofs.list.ferjulm_offer_list.Statement.{statement}
@@ -36,16 +36,10 @@ unpack-requires c κs = record-length _ (legal (c .before))
 offer-list-requires : tie.Need-offer-list-requires
 offer-list-requires c κs = search needs
 
-dealt-of-requires : tie.Need-dealt-of-requires
-dealt-of-requires c κs = search needs
-
-name-requires : tie.Need-name-requires
-name-requires c κs = search needs
-
-closed-requires : tie.Need-closed-requires
-closed-requires c κs =
-    let t = c .before .before .before .before .before .before in
-    record-length _ (legal (t .before .before .before .before .before .before .before .before .before .before .before .before))
+ended-list-requires : tie.Need-ended-list-requires
+ended-list-requires c κs =
+    let p = c .before .before .before .before .before .before .before .before .before .before in
+    record-length _ (legal (p .before .before .before .before .before .before))
 
 same-length-2 : tie.Need-same-length-2
 same-length-2 c = search needs
@@ -62,16 +56,14 @@ same-length-5 c = search needs
 returns-2 : tie.Need-returns-2
 returns-2 c =
     let q = c .before .before in
-    let m = q .before .before in
-    let t = m .before .before .before in
-    let p = t .before .before .before .before .before .before .before .before in
+    let p = q .before .before .before .before .before .before .before .before .before .before .before in
     let o = p .offer-list in
     let u = p .before .before .before .before in
     let e = u .before .before in
     let a = start e .args in
     let k = past (offerList (a .blocks .now) (a .caller)) (a .ssd .now) (a .hdd .now) (a .table .now) (a .words .now)
     (u .unpack .result) (o .result) (u .unpack .ensures) (o .ensures) (legal e) in
-    (k .left (q .closed .ensures), k .places _ (t .dealt-of .ensures), k .place _ (m .name .ensures))
+    (k .left (q .ended-list .ensures .0), k .places _ (q .ended-list .ensures .1), k .place _ (q .ended-list .ensures .2))
 
 pub ferjulm-offer-list-spec : {M : Type 1} → statement M
 ferjulm-offer-list-spec =
@@ -82,9 +74,7 @@ ferjulm-offer-list-spec =
     returns
     unpack-requires
     offer-list-requires
-    dealt-of-requires
-    name-requires
-    closed-requires
+    ended-list-requires
     same-length-2
     same-length-3
     same-length-4

@@ -2,7 +2,7 @@ use mathlib.Core.Path.{_≡_, sym, _∙_}
 use mathlib.Core.Bool.{true}
 use borrow.Author.Tests.{not-true, not-false}
 use Rattle.c_record.specs.Words.{isRecord}
-use Rattle.c_answers.proofs.ClosedLaws.{record-length}
+use Rattle.c_closing.proofs.ClosedLaws.{record-length}
 use Rattle.ferjulm.proofs.MapLaws.{no-map, on-map}
 use borrow.Author.Needs.{needs}
 use Rattle.ferjulm.proofs.map.ferjulm_map.Statement.{statement}

@@ -1,9 +1,9 @@
 use mathlib.Core.Path.{sym, _∙_}
 use Rattle.protocol.specs.Reply.{replyOf}
-use Rattle.c_answers.proofs.ClosedLaws.{refused-closed, answered-closed}
+use Rattle.c_closing.proofs.ClosedLaws.{refused-closed, answered-closed}
 use borrow.Author.Needs.{needs}
-use Rattle.c_answers.proofs.closing.closed.Statement.{statement}
-use Rattle.c_answers.proofs.closing.closed.Tie as tie
+use Rattle.c_closing.proofs.closing.closed.Statement.{statement}
+use Rattle.c_closing.proofs.closing.closed.Tie as tie
 
 code-of-requires : tie.Need-code-of-requires
 code-of-requires c κs = search needs

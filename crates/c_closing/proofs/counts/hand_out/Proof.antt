@@ -1,7 +1,7 @@
 use native.Mathlib.Omega.{arith}
 use borrow.Author.Needs.{needs}
-use Rattle.ferjulm.proofs.cost.hand_out.Statement.{statement}
-use Rattle.ferjulm.proofs.cost.hand_out.Tie as tie
+use Rattle.c_closing.proofs.counts.hand_out.Statement.{statement}
+use Rattle.c_closing.proofs.counts.hand_out.Tie as tie
 
 enum-known-answer : tie.Need-enum-known-answer
 enum-known-answer c = search needs

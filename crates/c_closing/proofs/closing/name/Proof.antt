@@ -1,9 +1,9 @@
 use mathlib.Core.Path.{sym, _∙_}
 use Rattle.protocol.specs.Reply.{replyOf}
-use Rattle.c_answers.proofs.ClosedLaws.{refused-place, answered-place}
+use Rattle.c_closing.proofs.ClosedLaws.{refused-place, answered-place}
 use borrow.Author.Needs.{needs}
-use Rattle.c_answers.proofs.closing.name.Statement.{statement}
-use Rattle.c_answers.proofs.closing.name.Tie as tie
+use Rattle.c_closing.proofs.closing.name.Statement.{statement}
+use Rattle.c_closing.proofs.closing.name.Tie as tie
 
 is-refused-requires : tie.Need-is-refused-requires
 is-refused-requires c κs = search needs

@@ -11,8 +11,9 @@ use Rattle.protocol.specs.declared.Stored.{Stored}
 use Rattle.protocol.specs.Reply.{Reply, refusal, answer, dealt, refused}
 use Rattle.layout.proofs.Booleans.{clash, and-parts}
 use Rattle.c_record.specs.Words.{wordsOf, isRecord}
 use Rattle.c_answers.specs.declared.Place.{Place}
-use Rattle.c_answers.specs.Codes.{codeOf, closedBy, placeOf, placeAfter}
+use Rattle.c_answers.specs.Codes.{codeOf, placeOf, placeAfter}
+use Rattle.c_closing.specs.Closing.{closedBy}
 
 -- a refusal leaves the words and the place
 pub refused-closed : (said : Reply) (r : Record) (words : List ℕ) (code : ℕ) → code ≡ codeOf said → refused said ≡ true
