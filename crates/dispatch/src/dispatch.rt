@@ -1,11 +1,11 @@
 // Any call, by its value: what it does is what the lists of demand 3 make of it.
 use crate::Request;
+use fetch_path::fetch;
+use fetch_path::land_fetch;
 use maintenance::flush;
 use maintenance::format;
 use maintenance::write_back;
 use protocol::Outcome;
-use read_path::fetch;
-use read_path::land_fetch;
 use read_path::look_up;
 use read_path::look_up_list;
 use record::Record;

@@ -104,7 +104,7 @@ pub extern "C" fn ferjulm_fetch(
         return 3;
     }
     let state = words::unpack(words);
-    let outcome = read_path::fetch::fetch(ssd, hdd, table, state, Block(block), caller);
+    let outcome = fetch_path::fetch::fetch(ssd, hdd, table, state, Block(block), caller);
     closing::ended_at(words, slot, image, offset, outcome)
 }
 
@@ -125,7 +125,7 @@ pub extern "C" fn ferjulm_land_fetch(
         return 3;
     }
     let state = words::unpack(words);
-    let outcome = read_path::land_fetch::land_fetch(ssd, hdd, table, state, Block(block));
+    let outcome = fetch_path::land_fetch::land_fetch(ssd, hdd, table, state, Block(block));
     closing::ended(words, image, offset, outcome)
 }
 

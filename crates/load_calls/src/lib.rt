@@ -1,10 +1,10 @@
 // The call that a draw of a load begins with, repeated past a copy-out (document 02, N10).
 use draws::Kind;
+use fetch_path::fetch;
 use layout::Block;
 use maintenance::flush;
 use protocol::Answer;
 use protocol::Outcome;
-use read_path::fetch;
 use read_path::look_up;
 use record::Record;
 use write_path::offer;

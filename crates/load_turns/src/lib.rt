@@ -1,8 +1,8 @@
 // A draw of a load, made on the box and on the plain disk beside it (document 02, N10).
 use c_answers::answers;
 use draws::Kind;
+use fetch_path::land_fetch;
 use layout::Block;
-use read_path::land_fetch;
 use record::Record;
 use write_path::land;
 ghost use mathlib.Core.Path.{_≡_};

@@ -13,8 +13,8 @@ use Rattle.judging.proofs.SlotLaws.{flags-low}
 use Rattle.judging.proofs.ServedLaws.{Served, served}
 use Rattle.judging.proofs.CallLaws.{land-fetch-wrong, land-fetch-is}
 use borrow.Author.Needs.{needs}
-use Rattle.read_path.proofs.land_fetch.land_fetch.Statement.{statement}
-use Rattle.read_path.proofs.land_fetch.land_fetch.Tie as tie
+use Rattle.fetch_path.proofs.land_fetch.land_fetch.Statement.{statement}
+use Rattle.fetch_path.proofs.land_fetch.land_fetch.Tie as tie
 
 -- 3 to 7 are passed
 abbrev start : tie.Else1 → tie.Start

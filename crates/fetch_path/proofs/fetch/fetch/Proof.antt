@@ -10,8 +10,8 @@ use Rattle.judging.proofs.ServedLaws.{Served, served}
 use Rattle.turns.proofs.TurnLaws.{seen}
 use Rattle.performing.proofs.PerformLaws.{fetch-performs, fetch-turned}
 use borrow.Author.Needs.{needs}
-use Rattle.read_path.proofs.fetch.fetch.Statement.{statement}
-use Rattle.read_path.proofs.fetch.fetch.Tie as tie
+use Rattle.fetch_path.proofs.fetch.fetch.Statement.{statement}
+use Rattle.fetch_path.proofs.fetch.fetch.Tie as tie
 
 -- 3 to 7 are passed
 abbrev start : tie.Else1 → tie.Start
