@@ -28,7 +28,8 @@ use Rattle.laws.proofs.refine.Entries.{rows-block, rows-flags}
 use Rattle.stored.specs.Stored.{labelIf}
 use Rattle.fields.specs.Fields.{refusedKey, field, refusalText}
 use Rattle.stored.proofs.ReopenLaws as reopens
-use Rattle.list_image.specs.Listing.{headText, fateText, entryText, dropped, lineIf, lineOf, imageText, listingOf}
+use Rattle.list_text.specs.ListText.{headText, fateText, entryText}
+use Rattle.list_image.specs.Listing.{dropped, lineIf, lineOf, imageText, listingOf}
 use Rattle.list_image.specs.Agrees.{Beside, SameRefusal, SameFate, SameFates}
 use Rattle.list_image.proofs.ImageLaws.{unlabelled, wrong-length, bad-pages, listed-as}
 

@@ -19,7 +19,8 @@ use Rattle.layout.specs.declared.Window.{Window}
 use Rattle.stored.specs.Stored.{labelIf}
 use Rattle.fields.specs.Fields.{refusalText}
 use Rattle.layout.specs.Window.{slotsIn, windowFrom}
-use Rattle.list_image.specs.Listing.{headText, lineOf, linesOf, imageText, textIf, judgedText, listingOf}
+use Rattle.list_text.specs.ListText.{headText}
+use Rattle.list_image.specs.Listing.{lineOf, linesOf, imageText, textIf, judgedText, listingOf}
 
 -- a slot's line after those of the slots before it
 pub lines-more : (w : List Slot) (pages : List (List ℕ)) (n : ℕ)

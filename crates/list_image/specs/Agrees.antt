@@ -15,7 +15,8 @@ use Rattle.protocol.specs.Recovery.{metasOf, entryIn, newestOf}
 use Rattle.protocol.specs.Box.{Result}
 use Rattle.stored.specs.Stored.{labelIf}
 use Rattle.fields.specs.Fields.{refusalText}
-use Rattle.list_image.specs.Listing.{entryText, lineOf, imageText, listingOf}
+use Rattle.list_text.specs.ListText.{entryText}
+use Rattle.list_image.specs.Listing.{lineOf, imageText, listingOf}
 
 -- an SSD image of at most 64 KiB, with an HDD and a table of the label's lengths, where it has a label
 pub record Beside (ssd hdd table : List ℕ) : Type 0 where

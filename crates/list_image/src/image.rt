@@ -45,7 +45,7 @@ fn put_image(page: &mut [u8], ssd: &[u8], l: Label) -> usize
 {
     let found = image::newest(ssd, l);
     let pending = image::pending(ssd, l, found.at);
-    let at = lines::put_head(page, l, found.stamp, pending.count);
+    let at = list_text::put_head(page, l, found.stamp, pending.count);
     put_lines(page, at, ssd, l, pending)
 }
 

@@ -1,11 +1,11 @@
 use mathlib.Core.List.{append-assoc}
 use Rattle.layout.specs.LabelPage.{layoutLine}
-use Rattle.list_image.specs.Listing.{headText}
+use Rattle.list_text.specs.ListText.{headText}
 use Rattle.fields.proofs.WrittenLaws.{written-text, written-more, written-as}
 use native.Mathlib.Omega.{arith}
 use borrow.Author.Needs.{needs}
-use Rattle.list_image.proofs.lines.put_head.Statement.{statement}
-use Rattle.list_image.proofs.lines.put_head.Tie as tie
+use Rattle.list_text.proofs.put_head.Statement.{statement}
+use Rattle.list_text.proofs.put_head.Tie as tie
 
 slice-aggregate-put-text : tie.Need-slice-aggregate-put-text
 slice-aggregate-put-text c = search needs

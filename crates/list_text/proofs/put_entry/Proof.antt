@@ -1,10 +1,10 @@
 use mathlib.Core.List.{append-assoc}
-use Rattle.list_image.specs.Listing.{entryText}
+use Rattle.list_text.specs.ListText.{entryText}
 use Rattle.fields.proofs.WrittenLaws.{written-more, written-as}
 use native.Mathlib.Omega.{arith}
 use borrow.Author.Needs.{needs}
-use Rattle.list_image.proofs.lines.put_entry.Statement.{statement}
-use Rattle.list_image.proofs.lines.put_entry.Tie as tie
+use Rattle.list_text.proofs.put_entry.Statement.{statement}
+use Rattle.list_text.proofs.put_entry.Tie as tie
 
 slice-aggregate-put-field : tie.Need-slice-aggregate-put-field
 slice-aggregate-put-field c = search needs

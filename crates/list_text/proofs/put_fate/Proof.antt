@@ -2,8 +2,8 @@ use mathlib.Core.Path.{refl}
 use Rattle.fields.proofs.WrittenLaws.{written-text, written-as}
 use native.Mathlib.Omega.{arith}
 use borrow.Author.Needs.{needs}
-use Rattle.list_image.proofs.lines.put_fate.Statement.{statement}
-use Rattle.list_image.proofs.lines.put_fate.Tie as tie
+use Rattle.list_text.proofs.put_fate.Statement.{statement}
+use Rattle.list_text.proofs.put_fate.Tie as tie
 
 slice-aggregate-put-text : tie.Need-slice-aggregate-put-text
 slice-aggregate-put-text c = search needs
