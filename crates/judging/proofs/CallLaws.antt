@@ -84,18 +84,22 @@ module _ (ssd hdd t : List ℕ) (r : Record) (z : readyThen (length ssd) (length
   pub flush-idle : r .unconfirmed ≡ false → left (perform (stay nothingToDo) y) (y .images) ≡ flushOf ssd hdd t r
   unfolding test plan
   flush-idle u = performs flush y (stay nothingToDo)
-      (asked ∙ first-no _ stampsSpent [] (ap (λ (b : Bool). storesMeta (flushing b) && leb (largestStamp (labelIn r)) (r .newest)) u) ∙ end _)
+      (asked ∙ first-no _ stampsSpent [] (ap (λ (b : Bool). storesMeta (flushing b) && leb (largestStamp (labelIn r)) (r .newest)) u)
+      ∙ end _)
       (ap flushing u)
 
-  pub flush-spent : r .unconfirmed ≡ true → leb (largestStamp (labelIn r)) (r .newest) ≡ true → left (refusing 13 y) (y .images) ≡ flushOf ssd hdd t r
+  pub flush-spent : r .unconfirmed ≡ true → leb (largestStamp (labelIn r)) (r .newest) ≡ true → left (refusing 13 y) (y .images)
+      ≡ flushOf ssd hdd t r
   unfolding test plan
   flush-spent u s = refused-as flush y stampsSpent
       (asked ∙ first-yes _ stampsSpent [] (ap (λ (b : Bool). storesMeta (flushing b) && leb (largestStamp (labelIn r)) (r .newest)) u ∙ s))
 
-  pub flush-done : r .unconfirmed ≡ true → leb (largestStamp (labelIn r)) (r .newest) ≡ false → left (perform confirms y) (y .images) ≡ flushOf ssd hdd t r
+  pub flush-done : r .unconfirmed ≡ true → leb (largestStamp (labelIn r)) (r .newest) ≡ false → left (perform confirms y) (y .images)
+      ≡ flushOf ssd hdd t r
   unfolding test plan
   flush-done u s = performs flush y confirms
-      (asked ∙ first-no _ stampsSpent [] (ap (λ (b : Bool). storesMeta (flushing b) && leb (largestStamp (labelIn r)) (r .newest)) u ∙ s) ∙ end _)
+      (asked ∙ first-no _ stampsSpent [] (ap (λ (b : Bool). storesMeta (flushing b) && leb (largestStamp (labelIn r)) (r .newest)) u
+      ∙ s) ∙ end _)
       (ap flushing u)
 
 -- a list of blocks: what it leaves, and its words

@@ -67,7 +67,8 @@ module _ (x : Box) (L : Legal x) (on : x .state .phase ≡ Ready) (write : Bool)
     named = subst (λ (p : Phase). callersTest (namedPlaces p (length w)) (callerArray (beside s (windowIn (x .state)) (callersIn (x .state)))) ≡ true)
         (sym on) (leaves-test (windowIn (x .state)) (callersIn (x .state)) (callers-size x L) (callers-known x L) s (few x L));
     window-rule = subst (λ (z : List Slot). Window (x .state .label .slots) (nums z)) (sym closed-window) (closed-sound .rule);
-    ssd-size = length-put (x .images .ssd) page (dataPlace (labelIn (x .state)) s) (rw (L .ssd-size) (data-within (labelIn (x .state)) s low)) size
+    ssd-size = length-put (x .images .ssd) page (dataPlace (labelIn (x .state)) s)
+        (rw (L .ssd-size) (data-within (labelIn (x .state)) s low)) size
         ∙ L .ssd-size;
     hdd-size = L .hdd-size;
     table-size = closed-sound .size;

@@ -93,7 +93,8 @@ pub data Does (x : Box) : Aim → Move → Type 0 where
       → Does x a (uses s said)
   does-use-all : {a : Aim} {ss : List Slot} → Quiet a → Alike (labelIn (x .state)) (x .table) (usedAll ss (x .table)) → Does x a (usesAll ss)
   does-announce : {a : Aim} {said : Reply} {q : ℕ} {t : List ℕ} {h : Slot} {w : List Slot} {cs : List ℕ} → Quiet a
-      → refused said ≡ false → Openings x q t h w cs → x .state .newest < openingBound (labelIn (x .state)) → Does x a (announces said q t h w cs)
+      → refused said ≡ false → Openings x q t h w cs → x .state .newest < openingBound (labelIn (x .state))
+      → Does x a (announces said q t h w cs)
   does-copy : {a : Aim} {s : Slot} {said : Reply} {v : List ℕ} {hand : Slot} → Quiet a → refused said ≡ false → Copying x s v hand
       → Does x a (copies s said v hand)
   -- a write lands in its block's slot, open or dirty; a fetch in one that is open
@@ -103,7 +104,8 @@ pub data Does (x : Box) : Aim → Move → Type 0 where
       → writing (rowFlags (x .table) s) ≡ true → Does x a (lands false s (pageAt (x .images .hdd) (blockPlace (labelIn (x .state)) b)))
   -- a flush with nothing to confirm, and with something
   does-rest : {b : Block} {said : Reply} → refused said ≡ false → x .state .unconfirmed ≡ false → Does x (aims b toSettle) (stay said)
-  does-confirm : {b : Block} → x .state .unconfirmed ≡ true → x .state .newest < largestStamp (labelIn (x .state)) → Does x (aims b toSettle) confirms
+  does-confirm : {b : Block} → x .state .unconfirmed ≡ true → x .state .newest < largestStamp (labelIn (x .state))
+      → Does x (aims b toSettle) confirms
 
 -- it is no refusal
 pub does-said : {x : Box} {a : Aim} {m : Move} → Does x a m → refused (perform m x .said) ≡ false
@@ -322,7 +324,8 @@ module _ (x : Box) (L : Fit x) where
   writesBack b (is-writing s H w d) = does-nothing (λ d. refl) refl
   writesBack b (is-fetching s H w d) = does-nothing (λ d. refl) refl
 
-  flushes : (u : Bool) → x .state .unconfirmed ≡ u → (storesMeta (flushing u) && leb (largestStamp (labelIn (x .state))) (x .state .newest)) ≡ false
+  flushes : (u : Bool) → x .state .unconfirmed ≡ u → (storesMeta (flushing u) && leb (largestStamp (labelIn (x .state)))
+      (x .state .newest)) ≡ false
       → Does x (aims noBlock toSettle) (flushing u)
   flushes true e spent = does-confirm e (leb-false _ _ spent)
   flushes false e spent = does-rest refl e

@@ -120,7 +120,8 @@ module _ (x : Box) (L : Legal x) (S : Sound (labelIn (x .state)) (x .table) (win
 
   -- the first place alone, or all that were dealt with
   together-does : {a : Aim} → Quiet a → {first : Move} → Taken x first → (z : Offered) → RanTo z → (n : ℕ)
-      → (storesMeta (together n first z) && leb (openingBound (labelIn (x .state))) (x .state .newest)) ≡ false → Does x a (together n first z)
+      → (storesMeta (together n first z) && leb (openingBound (labelIn (x .state))) (x .state .newest)) ≡ false
+      → Does x a (together n first z)
   together-does q T z R zero spent = taken-does q T spent
   together-does q T z R (suc n) spent = announces-does q R (z .places) spent
 

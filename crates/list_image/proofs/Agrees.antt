@@ -162,7 +162,8 @@ module _ (w : List Slot) (s : Slot) (e : Entry) where
             }
 
 -- the rows of a reopened table
-row-of : (l : Label) (pages : List (List ℕ)) (spent : ℕ) (table : List ℕ) → table ≡ recover l pages spent .table → (s : Slot) → s .0 < l .slots
+row-of : (l : Label) (pages : List (List ℕ)) (spent : ℕ) (table : List ℕ) → table ≡ recover l pages spent .table → (s : Slot)
+    → s .0 < l .slots
     → (rowBlock table s .0 ≡ recovered (newestOf pages .window) s (entryIn pages s) .block .0)
     × (rowFlags table s ≡ recovered (newestOf pages .window) s (entryIn pages s) .flags)
 unfolding recover

@@ -232,16 +232,19 @@ module _ (ssd hdd t : List ℕ) (r : Record) (blocks : List ℕ) (caller : ℕ) 
           passed-leaves k =
               ap (λ (w : List ℕ). left (perform (stay (dealt (q .places))) (boxOf ssd hdd w r)) (x .images)) (E .untouched k) ∙ gone k
 
-          pub stored-leaves : q .page ≢ 0 → left (confirmed (q .page - 1) (dealt (q .places)) (q .state) v (x .images .ssd)) (x .images) ≡ resultOf c x
+          pub stored-leaves : q .page ≢ 0 → left (confirmed (q .page - 1) (dealt (q .places)) (q .state) v (x .images .ssd))
+              (x .images) ≡ resultOf c x
           unfolding perform
           stored-leaves k = go (q .page) refl
             where
-              go : (p : ℕ) → q .page ≡ p → left (confirmed (q .page - 1) (dealt (q .places)) (q .state) v (x .images .ssd)) (x .images) ≡ resultOf c x
+              go : (p : ℕ) → q .page ≡ p → left (confirmed (q .page - 1) (dealt (q .places)) (q .state) v (x .images .ssd))
+                  (x .images) ≡ resultOf c x
               go zero p = absurd (k p)
               go (suc p) m =
                   let f : q .page - 1 ≡ p = omega arith in
                   ap (λ (i : ℕ). left (confirmed i (dealt (q .places)) (q .state) v (x .images .ssd)) (x .images)) f
-                  ∙ ap (λ (s : Record). left (confirmed p (dealt (q .places)) s v (x .images .ssd)) (x .images)) (sym (E .state-is)) ∙ gone m
+                  ∙ ap (λ (s : Record). left (confirmed p (dealt (q .places)) s v (x .images .ssd)) (x .images)) (sym (E .state-is))
+                  ∙ gone m
 
           -- and its store is in order
           pub stamp-left : q .page ≢ 0 → q .state .newest < largestStamp (labelIn (q .state))

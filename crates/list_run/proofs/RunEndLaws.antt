@@ -35,7 +35,8 @@ module _ (n : ℕ) (r : Run) (s : Slot) where
 
 -- a turn by which the run ends
 module _ (r : Run) (caller : ℕ) (b : Block) (t : List ℕ) where
-  pub run-ends : (T : Turn) → endBy (labelIn (r .state)) T (r .page) (r .state .newest) ≢ 0 → runAfter T r caller ≡ ended (endBy (labelIn (r .state)) T (r .page) (r .state .newest)) r
+  pub run-ends : (T : Turn) → endBy (labelIn (r .state)) T (r .page) (r .state .newest) ≢ 0 → runAfter T r caller
+      ≡ ended (endBy (labelIn (r .state)) T (r .page) (r .state .newest)) r
   run-ends (Refused n) e = refl
   run-ends Passes e = absurd (e refl)
   run-ends (Opens s flags n hand) e = sym (opened-not _ r s caller hand e)
@@ -48,8 +49,10 @@ module _ (r : Run) (caller : ℕ) (b : Block) (t : List ℕ) where
   table-ends (CopiesOut s n) e = refl
 
 -- a turn that opens no slot, by which the run goes on: it passes
-pub goes-passes : (l : Label) (T : Turn) (page newest : ℕ) → OneOf (0 ∷ 1 ∷ 3 ∷ []) (tagOf the-type T) → endBy l T page newest ≡ 0 → T ≡ Passes
+pub goes-passes : (l : Label) (T : Turn) (page newest : ℕ) → OneOf (0 ∷ 1 ∷ 3 ∷ []) (tagOf the-type T) → endBy l T page newest ≡ 0 → T
+    ≡ Passes
 goes-passes l (Refused n) page newest k e = absurd (omega arith)
 goes-passes l Passes page newest k e = refl
-goes-passes l (Opens s flags n hand) page newest k e = absurd (⊎-elim (λ w. omega arith) (λ v. ⊎-elim (λ w. omega arith) (λ w. omega arith) v) k)
+goes-passes l (Opens s flags n hand) page newest k e = absurd
+    (⊎-elim (λ w. omega arith) (λ v. ⊎-elim (λ w. omega arith) (λ w. omega arith) v) k)
 goes-passes l (CopiesOut s n) page newest k e = absurd (omega arith)

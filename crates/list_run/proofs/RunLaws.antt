@@ -359,19 +359,24 @@ module _ (t₀ : List ℕ) (r₀ : Record) (blocks words : List ℕ) (caller : �
 
       opens-by : there ≡ dealtWith z (opens (run .state) s b caller f (clearedFrom n (labelIn (run .state)) t (run .state .hand)) hand)
           → Stepped j (runAfter (Opens s f n hand) run caller) (tableAfterTurn (Opens s f n hand) run b t)
-      opens-by e = go (told (onPage (pageOf (run .page)) (metaOf s))) (ℕ-discrete (run .page) 0) (told (spent (labelIn (run .state)) (run .state .newest)))
+      opens-by e = go (told (onPage (pageOf (run .page)) (metaOf s))) (ℕ-discrete (run .page) 0)
+          (told (spent (labelIn (run .state)) (run .state .newest)))
         where
-          at : (m : ℕ) → m ≡ endOf (labelIn (run .state)) (run .page) (run .state .newest) (metaOf s) → Stepped j (openedIf m run s caller hand) (rowIf m run b s f n t)
+          at : (m : ℕ) → m ≡ endOf (labelIn (run .state)) (run .page) (run .state .newest) (metaOf s)
+              → Stepped j (openedIf m run s caller hand) (rowIf m run b s f n t)
               → Stepped j (runAfter (Opens s f n hand) run caller) (tableAfterTurn (Opens s f n hand) run b t)
           at m k p = subst (λ (d : ℕ). Stepped j (openedIf d run s caller hand) (rowIf d run b s f n t)) k p
 
           by : {d : Bool} → onPage (pageOf (run .page)) (metaOf s) ≡ d → there ≡ elim d [ true ↦ some y | false ↦ none ]
           by k = e ∙ ap (λ (d : Bool). elim d [ true ↦ some y | false ↦ none ]) k
 
-          go : Told (onPage (pageOf (run .page)) (metaOf s)) → Dec (run .page ≡ 0) → Told (spent (labelIn (run .state)) (run .state .newest))
+          go : Told (onPage (pageOf (run .page)) (metaOf s)) → Dec (run .page ≡ 0)
+              → Told (spent (labelIn (run .state)) (run .state .newest))
               → Stepped j (runAfter (Opens s f n hand) run caller) (tableAfterTurn (Opens s f n hand) run b t)
-          go (told-false k) p u = at 1 (end-other (labelIn (run .state)) (run .state .newest) (metaOf s) (run .page) k) (stop 1 (λ w. omega arith) (λ w. omega arith) (by k))
-          go (told-true k) (no p) u = at 0 (end-again (labelIn (run .state)) (run .state .newest) (metaOf s) (run .page) k p) (joins (by k) (G .kept .stamps p))
+          go (told-false k) p u = at 1 (end-other (labelIn (run .state)) (run .state .newest) (metaOf s) (run .page) k)
+              (stop 1 (λ w. omega arith) (λ w. omega arith) (by k))
+          go (told-true k) (no p) u = at 0 (end-again (labelIn (run .state)) (run .state .newest) (metaOf s) (run .page) k p)
+              (joins (by k) (G .kept .stamps p))
           go (told-true k) (yes p) (told-true u) = at 13 (end-spent (labelIn (run .state)) (run .state .newest) (metaOf s) (run .page) p u)
               (spends (by k) p (sym spent-is ∙ u))
           go (told-true k) (yes p) (told-false u) = at 0 (end-first (labelIn (run .state)) (run .state .newest) (metaOf s) (run .page) p u)

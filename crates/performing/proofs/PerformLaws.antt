@@ -102,7 +102,8 @@ module _ (c : Call) (x : Box) (b : Block) (caller flags : ℕ) (size : length (x
     (j : judged c x ≡ firstOf (importFull ∷ windowFull ∷ allOpen ∷ stampsSpent ∷ []) (λ q. test q c x))
     (e17 : test importFull c x ≡ importOpen caller (x .state))
     (e11 : test windowFull c x ≡ leb 63 (openRows (x .table))) (e12 : test allOpen c x ≡ allWriting (x .table))
-    (e13 : test stampsSpent c x ≡ (storesMeta (plan c x) && spent (labelIn (x .state)) (x .state .newest))) (p : plan c x ≡ sweeps x b caller flags) where
+    (e13 : test stampsSpent c x ≡ (storesMeta (plan c x) && spent (labelIn (x .state)) (x .state .newest)))
+    (p : plan c x ≡ sweeps x b caller flags) where
   abbrev l : Label
   l = labelIn (x .state)
 
@@ -186,7 +187,8 @@ module _ (ssd hdd t : List ℕ) (r : Record) (b : Block) (caller : ℕ)
           ∙ first-no _ importFull _ (ap (λ (k : Condition). opensAnother toWrite k && importOpen caller r) e)
           ∙ first-no _ windowFull _ (ap (λ (k : Condition). opensAnother toWrite k && leb 63 (openRows t)) e)
           ∙ first-no _ allOpen _ (ap (λ (k : Condition). not (isCached k) && allWriting t) e)
-          ∙ first-no _ stampsSpent _ (ap (λ (k : Condition). storesMeta (offering x b caller k) && spent (labelIn r) (r .newest)) e) ∙ end _)
+          ∙ first-no _ stampsSpent _ (ap (λ (k : Condition). storesMeta (offering x b caller k) && spent (labelIn r) (r .newest)) e)
+          ∙ end _)
           (ap (offering x b caller) e)
       go (Writing s) e = refuses (offer b caller) x slotOpen (asked ∙ first-yes _ slotOpen _ (ap isOpen e))
       go (Fetching s) e = refuses (offer b caller) x slotOpen (asked ∙ first-yes _ slotOpen _ (ap isOpen e))

@@ -142,7 +142,8 @@ pub record Safe (made : Label) (w : World) : Type 0 where
   pub reads : isReady (w .box .state .phase) ≡ true → (b : Block) → b .0 < ownLabel w .blocks → readOf (w .box) b ≡ w .disk .page b
   -- "a closed slot named by look-up holds the same"
   pub looks : isReady (w .box .state .phase) ≡ true → (b : Block) → b .0 < ownLabel w .blocks
-      → (s : Slot) → slotSaid (resultOf (lookUp b) (w .box) .said) ≡ some s → pageAt (w .box .images .ssd) (dataPlace (ownLabel w) s) ≡ w .disk .page b
+      → (s : Slot) → slotSaid (resultOf (lookUp b) (w .box) .said) ≡ some s → pageAt (w .box .images .ssd) (dataPlace (ownLabel w) s)
+      ≡ w .disk .page b
   -- "after a finished reopening each block reads as nothing but" one of its contents
   pub allowed : (e : Event) → Fits e w → finishes e w ≡ true → (b : Block) → b .0 < ownLabel w .blocks
       → MayBe (before e w .disk) b (readOf (apply e w .box) b)

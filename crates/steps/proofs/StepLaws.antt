@@ -93,7 +93,8 @@ module _ (ssd hdd t : List ℕ) (r : Record) where
       unfolding test plan
       step-mends s = performs step x (mends (lowestPage (windowIn r)))
           (before-ready Recovering e refl
-          ∙ first-no _ stampsSpent [] (ap (λ (p : Phase). storesMeta (stepping r p) && leb (largestStamp (labelIn r)) (r .newest)) e ∙ s) ∙ end _)
+          ∙ first-no _ stampsSpent [] (ap (λ (p : Phase). storesMeta (stepping r p) && leb (largestStamp (labelIn r)) (r .newest)) e
+          ∙ s) ∙ end _)
           (ap (stepping r) e)
 
 module _ (ssd hdd t : List ℕ) (r : Record) (S : SoundBox ssd hdd 4096 t r) where

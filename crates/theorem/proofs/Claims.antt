@@ -257,7 +257,8 @@ step-allowed l w I f b h = at-core (λ v. finished step (resultOf step (v .box))
             (I .agrees)
             (rw (mended-core-abs l (I .core) (I .shape) (I .plain) M r) (mended-here l (I .core) (I .shape) (I .plain) M r)) done (b .0) h)
 
-memory-allowed : (l : Label) (j : Memory) (v : World) → Held l v → finished reopen (resultOf reopen (withMemory j (v .box))) ≡ true → (b : Block)
+memory-allowed : (l : Label) (j : Memory) (v : World) → Held l v → finished reopen (resultOf reopen (withMemory j (v .box))) ≡ true
+    → (b : Block)
     → b .0 < l .blocks → MayBe (v .disk) b (readOf (reopened j v .box) b)
 memory-allowed l j v H f b h =
     let r = refused (resultOf reopen (withMemory j (v .box)) .said) in

@@ -130,7 +130,14 @@ module _ (im jm : Images) (z : Sizes im jm) (t : List ℕ) (r : Record) where
                     refl,
                     (
                       refl,
-                      (refl, (ap (λ (m : Move). storesMeta m && leb (openingBound (labelIn r)) (r .newest)) (offering-alike (conditionOf t b)), tt)),
+                      (
+                        refl,
+                        (
+                          ap (λ (m : Move). storesMeta m && leb (openingBound (labelIn r)) (r .newest))
+                              (offering-alike (conditionOf t b)),
+                          tt,
+                        ),
+                      ),
                     ),
                   ),
                 ),

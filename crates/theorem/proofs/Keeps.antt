@@ -120,7 +120,8 @@ module _ (l : Label) (k : Core) (S : Shape l k) (p : Plain) (M : Mending (abs l 
         block = sym (at-block l (k .table) (S .rows) s (n .low) v) ∙ n .blocked;
         stored-dirty = sym (at-dirty l (k .table) (S .rows) s (n .low)) ∙ ap dirtyRow row-shut ∙ shut-dirty (entryRow l (metasOf l (k .ssd)) s)
             ∙ dirty-entry l k p (S .images) (M .images) s (n .low)
-            ∙ ap (λ (a : Label). dirty (entryIn (metasOf a (k .ssd)) (record { 0 = s }) .flags)) (sym (label-is l k p (S .images) (M .images)));
+            ∙ ap (λ (a : Label). dirty (entryIn (metasOf a (k .ssd)) (record { 0 = s }) .flags))
+            (sym (label-is l k p (S .images) (M .images)));
         closed = sym (at-open l (k .table) (S .rows) s (n .low)) ∙ n .shut-row;
       }
 

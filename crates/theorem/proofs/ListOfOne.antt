@@ -159,7 +159,8 @@ module _ (b : Block) (caller : ℕ) (x : Box) where
         t13 : test stampsSpent (offer b caller) x ≡ (storesMeta v && leb (openingBound (labelIn (x .state))) (x .state .newest))
         t13 = ap (λ (m : Move). storesMeta m && leb (openingBound (labelIn (x .state))) (x .state .newest)) e
 
-        u13 : test stampsSpent (offerList (b .0 ∷ []) caller) x ≡ (storesMeta v && leb (openingBound (labelIn (x .state))) (x .state .newest))
+        u13 : test stampsSpent (offerList (b .0 ∷ []) caller) x
+            ≡ (storesMeta v && leb (openingBound (labelIn (x .state))) (x .state .newest))
         u13 = ap (λ (m : Move). storesMeta m && leb (openingBound (labelIn (x .state))) (x .state .newest)) f
             ∙ ap (λ (m : Bool). m && leb (openingBound (labelIn (x .state))) (x .state .newest)) g
 

@@ -172,7 +172,8 @@ module _ (x : Box) (on : x .state .phase ≡ Ready) (caller : ℕ) (known : ltb 
         → boxAfter (resultOf (offer b caller) (twin im m z)) ≡ twin im′ m′ y → Step im m z b (some y)
     stops : Ends z (resultOf (offer b caller) (twin im m z) .said) → Step im m z b none
 
-  module _ (im : Images) (m : ℕ) (z : Offered) (I : Sized im) (L : Legal (offeredBox x z)) (spare : m < openingBound (labelIn (x .state))) (b : Block) where
+  module _ (im : Images) (m : ℕ) (z : Offered) (I : Sized im) (L : Legal (offeredBox x z))
+      (spare : m < openingBound (labelIn (x .state))) (b : Block) where
     abbrev y : Box
     y = twin im m z
 
@@ -294,7 +295,8 @@ module _ (x : Box) (on : x .state .phase ≡ Ready) (caller : ℕ) (known : ltb 
     taken-all : oneByOne (take count blocks) caller (twin im m z) .taken ≡ true
     ends : count < length blocks → Ends y (resultOf (offer (record { 0 = getD blocks count 0 }) caller) (twin images stamp y) .said)
 
-  alike : (blocks : List ℕ) (im : Images) (m : ℕ) (z : Offered) → Sized im → Legal (offeredBox x z) → m + length blocks ≤ openingBound (labelIn (x .state))
+  alike : (blocks : List ℕ) (im : Images) (m : ℕ) (z : Offered) → Sized im → Legal (offeredBox x z)
+      → m + length blocks ≤ openingBound (labelIn (x .state))
       → Alike im m z blocks (offersFrom x caller z blocks)
   unfolding offersFrom oneByOne
   alike [] im m z I L h = record {

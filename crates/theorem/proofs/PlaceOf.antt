@@ -179,7 +179,8 @@ module _ (l : Label) (k : Core) (S : Shape l k) (p : Plain) (St : Stored (abs l 
       ap (λ (a : Label). placeIf (isReady (phaseFor (k .recovering))) a (boxOfCore l k) (record { 0 = b })) (label-is l k p (S .images) St)
       ∙ go (isReady (phaseFor (k .recovering))) refl T
     where
-      go : (r : Bool) → isReady (phaseFor (k .recovering)) ≡ r → Tied (abs l k) → placeIf r l (boxOfCore l k) (record { 0 = b }) ≡ modelPlace l k b
+      go : (r : Bool) → isReady (phaseFor (k .recovering)) ≡ r → Tied (abs l k) → placeIf r l (boxOfCore l k) (record { 0 = b })
+          ≡ modelPlace l k b
       go true e (by-ready on W L) = ready-place (linked-legible l k S p St (ready-off (k .recovering) e) W L)
       go true e (by-mending on rows) = clash {b = k .recovering} (unfold abs in on) (ready-off (k .recovering) e)
       go false e (by-ready on W L) = clash {b = k .recovering} (unready-on (k .recovering) e) (unfold abs in on)

@@ -188,7 +188,8 @@ module _ (x : Box) (L : Legal x) (on : x .state .phase ≡ Ready) where
       lands-elsewhere lab (x .state .phase) false _ _ x refl (length-page (x .images .hdd) (blockPlace lab b) (omega (arith, L .hdd-size, bl)))
   does-stores (does-rest n u) = λ s g. no-store g
   does-stores (does-confirm u n) =
-      confirmed-stores lab (L .limits) (x .state) refl (x .table) (S .size) (S .legal) n (S .rule) (x .state .phase) serving 0 done (x .images .ssd)
+      confirmed-stores lab (L .limits) (x .state) refl (x .table) (S .size) (S .legal) n (S .rule) (x .state .phase) serving 0 done
+      (x .images .ssd)
 
 -- a step
 module _ (x : Box) (L : Legal x) where
@@ -249,7 +250,8 @@ module _ (x : Box) (L : Legal x) where
           (length-encode (labelIn (x .state))) (λ p h z. meta-not-label (labelIn (x .state)) p (sym z))
       go (told-false e) = one-store (labelIn (x .state)) (x .state .phase) (perform (formats (suc q)) x) q _ (rw (formatStore, e)) meta
 
-  step-stores : (ph : Phase) → x .state .phase ≡ ph → (storesMeta (stepping (x .state) ph) && leb (largestStamp (labelIn (x .state))) (x .state .newest)) ≡ false
+  step-stores : (ph : Phase) → x .state .phase ≡ ph → (storesMeta (stepping (x .state) ph) && leb (largestStamp (labelIn (x .state)))
+      (x .state .newest)) ≡ false
       → Stores (labelIn (x .state)) (x .state .phase) (perform (stepping (x .state) ph) x)
   unfolding perform
   step-stores (Formatting d) on spent = formats-stores d on

@@ -168,7 +168,8 @@ loop-again c =
     let o = c .before in
     let d = o .before .before in
     let l = at d .loop in
-    let e = goes-passes (labelIn (l .running)) (d .decide .result) (l .page) (l .running .newest) (c .match .keys2) (sym (o .before .end-by .ensures) ∙ o .if1 .left) in (
+    let e = goes-passes (labelIn (l .running)) (d .decide .result) (l .page) (l .running .newest) (c .match .keys2)
+    (sym (o .before .end-by .ensures) ∙ o .if1 .left) in (
       refl,
       goes-further refl (subst (Step d) e (dealt d)),
       l .inv .2,
@@ -229,7 +230,8 @@ loop-again-2 c =
     let to : Slot = g .1 .1 .1 .0 in
     let F = l .inv .1 .kept .fair in
     let z : endOf (labelIn (l .running)) (l .page) (l .running .newest) (metaOf s) ≡ 0 =
-    subst (λ (T : Turn). endBy (labelIn (l .running)) T (l .page) (l .running .newest) ≡ 0) (t .turn .given .1) (sym (o .before .end-by .ensures) ∙ o .if1 .left) in
+    subst (λ (T : Turn). endBy (labelIn (l .running)) T (l .page) (l .running .newest) ≡ 0) (t .turn .given .1)
+    (sym (o .before .end-by .ensures) ∙ o .if1 .left) in
     let r = joined-is (l .running) (parts (l .running) (F .record-kept)) s (a .caller) to (opens t .1) in
     let q = ap (λ (m : ℕ). openedIf m (before d) s (a .caller) to) z
     ∙ (λ i. record { state = sym r i; page = sym (c .meta-of .ensures) i + 1; places = l .j + 1; end = 0 }) in

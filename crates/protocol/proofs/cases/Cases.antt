@@ -290,11 +290,13 @@ P1-size =
     ∙ sized-usual .ssd-size
     ∙ ssd-bytes
 
-format-run : (l : Label) (x : Box) → metaSpan (labelOf (l .slots) (l .blocks)) ≡ 1 → formatted (l .slots) (l .blocks) x ≡ run (formats l) (startOf l x) .box
+format-run : (l : Label) (x : Box) → metaSpan (labelOf (l .slots) (l .blocks)) ≡ 1 → formatted (l .slots) (l .blocks) x
+    ≡ run (formats l) (startOf l x) .box
 unfolding formatted steps run called
 format-run l x e = ap (λ (m : ℕ). steps (m + 2) (boxAfter (resultOf (format (l .slots) (l .blocks)) x))) e
 
-start-fresh : (l : Label) (text : List ℕ) → metaSpan (labelOf (l .slots) (l .blocks)) ≡ 1 → Holds (script (formatted-as l text)) → start l .box ≡ fresh l text
+start-fresh : (l : Label) (text : List ℕ) → metaSpan (labelOf (l .slots) (l .blocks)) ≡ 1 → Holds (script (formatted-as l text))
+    → start l .box ≡ fresh l text
 unfolding start
 start-fresh l text e h = format-run l (unformatted l) e ∙ box-after l (formats l) [] (startOf l (unformatted l)) ∙ ap boxOf h
 

@@ -192,8 +192,11 @@ named s h = ap (λ (n : ℕ). entryIn (metasOf two (mending .images .ssd)) (reco
         go (inr e) = clash e refl
 
 pub outside : Outside (mending .images) (record { 0 = 0 }) × Outside (mending .images) (record { 0 = 1 })
-outside =
-    (λ s h e. omega (arith, named s (rw label-is at h), rw label-is at e), λ s h e. omega (arith, named s (rw label-is at h), rw label-is at e))
+outside = (
+  λ s h e. omega (arith, named s (rw label-is at h), rw label-is at e),
+  λ s h e. omega
+      (arith, named s (rw label-is at h), rw label-is at e),
+)
 
 pub inside : Outside (mending .images) (record { 0 = 2 }) → ⊥
 unfolding known textOf

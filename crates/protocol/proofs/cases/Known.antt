@@ -230,7 +230,8 @@ unfolding sameLabel within storeWithin testKnown judgedKnown effectKnown reopens
     labelText encodeLabel after numberFrom number allZero decodeLabel slotsBytes entryBytes rowsBytes encodeMeta stampOf countOf slotAt
     firsts windowOf entryPart decodeEntry rowsFrom countTest zeroTest listed distinct inRange windowTest legalFlags pairTest entryTest
     entriesFrom entriesTest passes pageTest windowIn arrayOf without slotFrom conditionOf closedSlots sweepFrom lowestFrom plan highest
-    readMeta storePlace metaBytes metasOf entryIn newestFrom eachLegal stampIn stampsDiffer blockIn noneTwice allOpenIn pagesTest recover recoverFrom offPage confirmed
+    readMeta storePlace metaBytes metasOf entryIn newestFrom eachLegal stampIn stampsDiffer blockIn noneTwice allOpenIn pagesTest recover
+    recoverFrom offPage confirmed
     usedAll perform labelTest zeroSlots recordTest rowTest eachRow eachPlace rowsTest openRows test firstOf
     beside openBy callerArray callersIn placed offersFrom names namesOnce
 known l es bs x =

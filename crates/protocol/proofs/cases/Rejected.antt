@@ -217,7 +217,8 @@ was-there = place-slot unstored (record { 0 = 1 }) refl ∙ ap slotSaid slot-sai
 
 must-keep : Safe one (startOf one unstored) → Kept (call reopen) [] (record { 0 = 1 }) (startOf one unstored)
 unfolding listed
-must-keep S = S .keeps (call reopen) tt own (record { 0 = 1 }) (omega arith) (λ s h. clash (rw (S .stored-label, window-none) at h) refl) [] tt tt
+must-keep S = S .keeps (call reopen) tt own (record { 0 = 1 }) (omega arith)
+    (λ s h. clash (rw (S .stored-label, window-none) at h) refl) [] tt tt
 
 pub loses-slot : Safe one (startOf one unstored) → ⊥
 unfolding run

@@ -139,4 +139,5 @@ module _ (q : ℕ) (x : Model) (p : Plain) (R : Ready x p) where
       → Ready (stored q (upd (y .row) s r) (y .window ++ (s ∷ [])) x) p
   announced-ready {y} c {s} {r} e o h =
       let Y : Ready (opened s r y) p = opens-ready y p (chain-ready c) o in
-      rw (announced-same c s r e) (restamped-ready (suc (x .newest)) (opened s r y) p Y (omega (arith, Y .stored-window-rule .fits, chain-rest (one-more c e o) .top)))
+      rw (announced-same c s r e) (restamped-ready (suc (x .newest)) (opened s r y) p Y
+      (omega (arith, Y .stored-window-rule .fits, chain-rest (one-more c e o) .top)))

@@ -245,7 +245,8 @@ module _ (l : Label) (ssd hdd : List ℕ) (L : Limits l) (hs : length ssd ≡ ss
       rw n (rw e at (gets-page (suc (metaSpan l))))
 
   -- metadata page p is stored by the step after p + 1 others
-  pub format-meta : (k p : ℕ) → p < metaSpan l → p + 1 < k → pageAt (formatSsd l ssd k) (metaPlace l p) ≡ metaBytes l 0 [] (rowsOn p (freeTable l))
+  pub format-meta : (k p : ℕ) → p < metaSpan l → p + 1 < k → pageAt (formatSsd l ssd k) (metaPlace l p)
+      ≡ metaBytes l 0 [] (rowsOn p (freeTable l))
   format-meta zero p h q = absurd (omega arith)
   format-meta (suc zero) p h q = absurd (omega arith)
   format-meta (suc (suc d)) p h q = go (ℕ-discrete p d) (format-meta (suc d) p h)

@@ -64,7 +64,8 @@ module _ (l : Label) (k : Core) (S : Shape l k) (p : Plain) (d : Disk) (A : Agre
       over e =
           let R = over-ready (abs l k) p M (unfold abs in e) in
           subst (λ (z : Bool). Agrees l (fed step false (readsIf z (boxOfCore l k)) d) (fixed (abs l k)))
-          (sym (ap (λ (r : Bool). isReady (phaseFor r)) e)) (settled-agrees (λ b h. read-view l k S (ready-legible l k S (fixed (abs l k)) R) b h))
+          (sym (ap (λ (r : Bool). isReady (phaseFor r)) e)) (settled-agrees
+          (λ b h. read-view l k S (ready-legible l k S (fixed (abs l k)) R) b h))
         where
           settled-agrees : ((b : ℕ) → b < l .blocks → readOf (boxOfCore l k) (record { 0 = b }) ≡ seen.view (abs l k) b)
               → Agrees l (durable (readOf (boxOfCore l k))) (fixed (abs l k))

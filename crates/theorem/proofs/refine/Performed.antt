@@ -146,11 +146,13 @@ module _
       callers = C;
     }
 
-    ents : (s : ℕ) → entryRow l (metasOf l (putPage (k .ssd) (storePlace l (k .ssd) p) (metaBytes l (k .newest + 1) w (rowsOn p v)))) s ≡ cond (eqb (s / 240) p)
+    ents : (s : ℕ) → entryRow l (metasOf l (putPage (k .ssd) (storePlace l (k .ssd) p)
+        (metaBytes l (k .newest + 1) w (rowsOn p v)))) s ≡ cond (eqb (s / 240) p)
         (rowAt v s) (entryRow l (metasOf l (k .ssd)) s)
     ents = put-entry l (k .ssd) (k .hdd) (S .images) v size R (k .newest + 1) fits newer w W p p-page
 
-    dats : (s : ℕ) → pageAt (putPage (k .ssd) (storePlace l (k .ssd) p) (metaBytes l (k .newest + 1) w (rowsOn p v))) (dataPlace l (record { 0 = s })) ≡ pageAt (k .ssd)
+    dats : (s : ℕ) → pageAt (putPage (k .ssd) (storePlace l (k .ssd) p) (metaBytes l (k .newest + 1) w (rowsOn p v)))
+        (dataPlace l (record { 0 = s })) ≡ pageAt (k .ssd)
         (dataPlace l (record { 0 = s }))
     dats = put-page l (k .ssd) (k .hdd) (S .images) v size R (k .newest + 1) fits newer w W p p-page
 

@@ -250,16 +250,19 @@ module _
       pages = new-pages;
     }
 
-    pub put-entry : (s : ℕ) → entryRow l (metasOf l (putPage ssd (storePlace l ssd p) (metaBytes l t w (rowsOn p table)))) s ≡ cond (eqb (s / 240) p)
+    pub put-entry : (s : ℕ) → entryRow l (metasOf l (putPage ssd (storePlace l ssd p) (metaBytes l t w (rowsOn p table)))) s
+        ≡ cond (eqb (s / 240) p)
         (rowAt table s) (entryRow l (metasOf l ssd) s)
     unfolding new page
     put-entry = new-entry
 
-    pub put-newest : newestOf (metasOf l (putPage ssd (storePlace l ssd p) (metaBytes l t w (rowsOn p table)))) ≡ record { stamp = t; window = w }
+    pub put-newest : newestOf (metasOf l (putPage ssd (storePlace l ssd p) (metaBytes l t w (rowsOn p table))))
+        ≡ record { stamp = t; window = w }
     unfolding new page
     put-newest = new-newest
 
-    pub put-page : (s : ℕ) → pageAt (putPage ssd (storePlace l ssd p) (metaBytes l t w (rowsOn p table))) (dataPlace l (record { 0 = s })) ≡ pageAt ssd
+    pub put-page : (s : ℕ) → pageAt (putPage ssd (storePlace l ssd p) (metaBytes l t w (rowsOn p table)))
+        (dataPlace l (record { 0 = s })) ≡ pageAt ssd
         (dataPlace l (record { 0 = s }))
     unfolding new page
     put-page s = new-else (dataPlace l (record { 0 = s }))

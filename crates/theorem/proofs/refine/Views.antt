@@ -96,7 +96,8 @@ module _ (l : Label) (k : Core) (S : Shape l k) (R : Legible l k) (b : ℕ) (b-l
     where
       go : {o : Option ℕ} → Found (rowAt (k .table)) (l .slots) b o
           → (viewAt (abs l k) b o ≡ cond (writing (getD (k .table) (2 * s + 1) 0)) (pageAt (k .hdd) b)
-          (pageAt (k .ssd) (dataPlace l (record { 0 = s })))) × (shutAt (abs l k) o ≡ cond (writing (getD (k .table) (2 * s + 1) 0)) none (some s))
+          (pageAt (k .ssd) (dataPlace l (record { 0 = s })))) × (shutAt (abs l k) o
+          ≡ cond (writing (getD (k .table) (2 * s + 1) 0)) none (some s))
       go (Found.nowhere h) = absurd (h s (H .low) (both s H .held) (both s H .blocked))
       go (Found.at t i v e) =
           let q : t ≡ s = one s t (both s H) v e in

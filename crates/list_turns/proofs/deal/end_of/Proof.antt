@@ -16,7 +16,8 @@ returns c =
 returns-2 : tie.Need-returns-2
 returns-2 c =
     let a = c .before .before .before .args in
-    end-again (a .l) (a .newest) (a .p) (a .page) (sym (c .before .before .on-page .ensures) ∙ not-false _ (c .before .if1 .left)) (c .if2 .taken)
+    end-again (a .l) (a .newest) (a .p) (a .page) (sym (c .before .before .on-page .ensures) ∙ not-false _ (c .before .if1 .left))
+    (c .if2 .taken)
 
 is-spent-requires : tie.Need-is-spent-requires
 is-spent-requires c κs = search needs
