@@ -31,7 +31,7 @@ use Rattle.protocol.specs.Perform.{landedFlags}
 use Rattle.protocol.specs.Judge.{agreeTest, rowsTest}
 use Rattle.laws.proofs.model.Base.{upd, upd-same, upd-other, has}
 use Rattle.laws.proofs.model.Model.{openRow}
-use Rattle.laws.proofs.refine.Flags.{rowOf, Flags, f0, f1, f3, f5, f7, f9, f11, f13, f15, LegalRow, flags-legal}
+use Rattle.laws.proofs.refine.Flags.{rowOf, Flags, f0, f1, f3, f5, f7, f9, f11, f13, f15, LegalRow, flags-legal, cleaned-flags}
 use Rattle.laws.proofs.refine.Tables.{rowAt, Rows, at-open, set-at, set-rows, length-row}
 use Rattle.laws.proofs.refine.Windows.{nums}
 use Rattle.laws.proofs.refine.Conditions.{Located, at, nowhere, located}
@@ -115,19 +115,6 @@ clean-opened f9 v w d = inr refl
 clean-opened f11 v w d = clash {b = true} refl d
 clean-opened f13 v w d = clash {b = true} refl w
 clean-opened f15 v w d = clash {b = true} refl w
-
--- flags that a sweep took, without dirty
-cleaned-flags : {f : ℕ} → Flags f → writing f ≡ false → used f ≡ false
-    → (writing (withoutDirty f) ≡ false) × (used (withoutDirty f) ≡ false) × (dirty (withoutDirty f) ≡ false)
-cleaned-flags f0 w u = (refl, refl, refl)
-cleaned-flags f1 w u = (refl, refl, refl)
-cleaned-flags f3 w u = (refl, refl, refl)
-cleaned-flags f5 w u = clash {b = true} refl w
-cleaned-flags f7 w u = clash {b = true} refl w
-cleaned-flags f9 w u = clash {b = true} refl u
-cleaned-flags f11 w u = clash {b = true} refl u
-cleaned-flags f13 w u = clash {b = true} refl w
-cleaned-flags f15 w u = clash {b = true} refl w
 
 -- a sweep from such a slot takes it
 sweeps-first : (l : Label) (t : List ℕ) (s : Slot) → 0 < l .slots → writing (rowFlags t s) ≡ false → used (rowFlags t s) ≡ false

@@ -24,7 +24,7 @@ use Rattle.protocol.specs.Judge.{Reason, judged}
 use Rattle.protocol.specs.Calls.{decided, effectOf, resultOf}
 use Rattle.protocol.specs.Beside.{CopiesOnce}
 use Rattle.layout.proofs.Booleans.{clash}
-use Rattle.laws.proofs.refine.Flags.{Flags, f0, f1, f3, f5, f7, f9, f11, f13, f15}
+use Rattle.laws.proofs.refine.Flags.{cleaned-flags}
 use Rattle.laws.proofs.refine.Sweeps.{Alike, alike-same, Swept, took, swept}
 use Rattle.laws.proofs.Accepted.{Legal, service-legal}
 
@@ -97,19 +97,6 @@ left-by x b c e =
     go : {m : Move} → CopyingOut x b m → boxAfter (resultOf (offer b c) x) ≡ boxAfter (left (perform m x) (x .images)) → Left x b c
     go (swept-dirty v q d) h = record { victim = v; took-it = q; was-dirty = d; box-is = h }
 
--- flags that a sweep took, without dirty
-taken-flags : {f : ℕ} → Flags f → writing f ≡ false → used f ≡ false
-    → (writing (withoutDirty f) ≡ false) × (used (withoutDirty f) ≡ false) × (dirty (withoutDirty f) ≡ false)
-taken-flags f0 w u = (refl, refl, refl)
-taken-flags f1 w u = (refl, refl, refl)
-taken-flags f3 w u = (refl, refl, refl)
-taken-flags f5 w u = clash {b = true} refl w
-taken-flags f7 w u = clash {b = true} refl w
-taken-flags f9 w u = clash {b = true} refl u
-taken-flags f11 w u = clash {b = true} refl u
-taken-flags f13 w u = clash {b = true} refl w
-taken-flags f15 w u = clash {b = true} refl w
-
 -- a sweep that begins at such a slot takes it
 sweep-first : (l : Label) (t : List ℕ) (s : Slot) → 0 < l .slots → writing (rowFlags t s) ≡ false → used (rowFlags t s) ≡ false
     → sweep l t s ≡ some (record { slot = s; table = t })
@@ -136,7 +123,7 @@ module _ (b : Block) (c : ℕ) (x : Box) (L : Legal x) (v : Victim) (low : v .sl
   not-again : Left x′ b c → ⊥
   unfolding x′ perform
   not-again G =
-      let f = taken-flags (A .legal (v .slot .0) low .flags) w u in
+      let f = cleaned-flags (A .legal (v .slot .0) low .flags) w u in
       let t : List ℕ = setFlags (v .table) (v .slot) (withoutDirty (rowFlags (v .table) (v .slot))) in
       let e = sweep-first (labelIn (x .state)) t (v .slot) (L .limits .some-slot) (ap writing flags-are ∙ f .0)
       (ap used flags-are ∙ f .1) in

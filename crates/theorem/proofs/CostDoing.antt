@@ -28,7 +28,7 @@ use Rattle.protocol.specs.declared.Condition.the-variants.{NotCached, Clean, Di
 use Rattle.protocol.specs.declared.Stored.{Stored}
 use Rattle.protocol.specs.declared.Stored.the-variants.{Nothing, Ssd, Hdd}
 use Rattle.protocol.specs.Reply.{Reply, refusal, answer, dealt, refused}
-use Rattle.protocol.specs.Rows.{rowBlock, rowFlags, valid, dirty}
+use Rattle.protocol.specs.Rows.{rowBlock, rowFlags}
 use Rattle.protocol.specs.Box.{Images, Box, Image, ssdImage, hddImage, Store, applied, storedOf, Effect, refusing}
 use Rattle.protocol.specs.Condition.{conditionOf, takesWrite}
 use Rattle.protocol.specs.Plan.{Call, offer, land, ask, cost, Move, offering, landing, plan, storesMeta}
@@ -39,7 +39,7 @@ use Rattle.protocol.specs.Judge.{Reason, numberOf, slotOpen, windowFull, import
 use Rattle.protocol.specs.Calls.{decided, effectOf, resultOf}
 use Rattle.protocol.specs.Cost.{PageKind, copyOut, metadata, data-page, imageKind, pageKind, countsWith, noStores, countsAfter, Tally, tallied, tallies, isCopiedOut, repeats, offersTo, landsUnless, imports, CostLeft, metOr, costFrom, notStarted, costBy, costIn}
 use Rattle.protocol.specs.Beside.{Made, kindsStored, makesOf, makes, joins, makesIf, offersReally, importsReally, Meeting, Import, importThen, importAll, isKind, howMany, countsOf, answerBy, AsDoing, CostIsDoing}
-use Rattle.laws.proofs.refine.Flags.{Flags, f0, f1, f3, f5, f7, f9, f11, f13, f15}
+use Rattle.laws.proofs.refine.Flags.{dirty-holds}
 use Rattle.laws.proofs.refine.Conditions.{Stands, absent, is-clean, is-dirty, is-writing, is-fetching}
 use Rattle.laws.proofs.Judged.{passed, refuses, does}
 use Rattle.laws.proofs.Accepted.{Legal, service-legal}
@@ -74,18 +74,6 @@ first-alike [] f g h = refl
 first-alike (r ∷ rs) f g h =
     ap (λ (b : Bool). elim b [ true ↦ some r | false ↦ firstOf rs f ]) (h .0)
     ∙ ap (λ (o : Option Reason). elim (g r) [ true ↦ some r | false ↦ o ]) (first-alike rs f g (h .1))
-
--- a dirty row holds a block
-dirty-valid : {f : ℕ} → Flags f → dirty f ≡ true → valid f ≡ true
-dirty-valid f0 d = clash {b = false} d refl
-dirty-valid f1 d = refl
-dirty-valid f3 d = refl
-dirty-valid f5 d = refl
-dirty-valid f7 d = refl
-dirty-valid f9 d = refl
-dirty-valid f11 d = refl
-dirty-valid f13 d = refl
-dirty-valid f15 d = refl
 
 module _ (im jm : Images) (z : Sizes im jm) (t : List ℕ) (r : Record) where
   abbrev x : Box
@@ -173,7 +161,7 @@ module _ (im jm : Images) (z : Sizes im jm) (t : List ℕ) (r : Record) where
         ssd-size = z .ssd-size;
         hdd-size = z .hdd-size
             ∙ sym (length-put (jm .hdd) _ (blockPlace l (rowBlock v s))
-            (omega (arith, L .hdd-size, C .alike .legal (s .0) (C .low) .low (dirty-valid (C .alike .legal (s .0) (C .low) .flags) (C .is-dirty))))
+            (omega (arith, L .hdd-size, C .alike .legal (s .0) (C .low) .low (dirty-holds (C .alike .legal (s .0) (C .low) .flags) (C .is-dirty))))
             (W _ refl));
       };
     }

@@ -10,11 +10,11 @@ use borrow.Author.Tests.{lt-ltb, le-ltb}
 use Rattle.layout.specs.declared.Slot.{Slot}
 use Rattle.layout.specs.declared.Label.{Label}
 use Rattle.layout.specs.Places.{tableLength}
-use Rattle.protocol.specs.Rows.{rowBlock, rowFlags, valid, dirty, writing, allWriting}
+use Rattle.protocol.specs.Rows.{rowBlock, rowFlags, dirty, writing, allWriting}
 use Rattle.protocol.specs.Sweep.{nextSlot, Victim, sweep}
 use Rattle.layout.proofs.Booleans.{Told, told, told-true, told-false, clash}
 use Rattle.laws.proofs.model.Model.{dirtyRow, openRow}
-use Rattle.laws.proofs.refine.Flags.{Flags, f0, f1, f3, f5, f7, f9, f11, f13, f15}
+use Rattle.laws.proofs.refine.Flags.{dirty-holds}
 use Rattle.laws.proofs.refine.Tables.{Rows, at-dirty, at-open, each-get, each-of}
 use Rattle.laws.proofs.refine.Sweeps.{alike-same, next-low, swept}
 use Rattle.sweeping.specs.declared.Swept.{Swept}
@@ -92,21 +92,10 @@ pub record Found (l : Label) (t : List ℕ) (s : Slot) : Type 0 where
   pub low : s .0 < l .slots
   pub shut : writing (rowFlags t s) ≡ false
 
-dirty-valid : {f : ℕ} → Flags f → dirty f ≡ true → valid f ≡ true
-dirty-valid f0 e = clash e refl
-dirty-valid f1 e = clash e refl
-dirty-valid f3 e = refl
-dirty-valid f5 e = clash e refl
-dirty-valid f7 e = refl
-dirty-valid f9 e = clash e refl
-dirty-valid f11 e = refl
-dirty-valid f13 e = clash e refl
-dirty-valid f15 e = refl
-
 -- a dirty row's block is the label's
 pub dirty-block : (l : Label) (t : List ℕ) → Rows l t → (s : Slot) → s .0 < l .slots → dirty (rowFlags t s) ≡ true
     → rowBlock t s .0 < l .blocks
-dirty-block l t R s h d = let r = R (s .0) h in r .low (dirty-valid (r .flags) d)
+dirty-block l t R s h d = let r = R (s .0) h in r .low (dirty-holds (r .flags) d)
 
 -- the table once n slots were passed: its rows, but for used flags
 pub record Passed (l : Label) (t v : List ℕ) : Type 0 where

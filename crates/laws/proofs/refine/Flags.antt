@@ -123,6 +123,31 @@ flags-legal f11 = (refl, refl, refl)
 flags-legal f13 = (refl, refl, refl)
 flags-legal f15 = (refl, refl, refl)
 
+-- a dirty row holds a block
+pub dirty-holds : {f : ℕ} → Flags f → dirty f ≡ true → valid f ≡ true
+dirty-holds f0 d = clash {b = false} d refl
+dirty-holds f1 d = refl
+dirty-holds f3 d = refl
+dirty-holds f5 d = refl
+dirty-holds f7 d = refl
+dirty-holds f9 d = refl
+dirty-holds f11 d = refl
+dirty-holds f13 d = refl
+dirty-holds f15 d = refl
+
+-- flags that a sweep took, without dirty
+pub cleaned-flags : {f : ℕ} → Flags f → writing f ≡ false → used f ≡ false
+    → (writing (withoutDirty f) ≡ false) × (used (withoutDirty f) ≡ false) × (dirty (withoutDirty f) ≡ false)
+cleaned-flags f0 w u = (refl, refl, refl)
+cleaned-flags f1 w u = (refl, refl, refl)
+cleaned-flags f3 w u = (refl, refl, refl)
+cleaned-flags f5 w u = clash {b = true} refl w
+cleaned-flags f7 w u = clash {b = true} refl w
+cleaned-flags f9 w u = clash {b = true} refl u
+cleaned-flags f11 w u = clash {b = true} refl u
+cleaned-flags f13 w u = clash {b = true} refl w
+cleaned-flags f15 w u = clash {b = true} refl w
+
 pub legal-row : (l : Label) (b f : ℕ) → rowTest l b f ≡ true → LegalRow l b f
 unfolding rowTest pairTest
 legal-row l b f e =
