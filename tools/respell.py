@@ -98,9 +98,7 @@ def turned(text, rows, fields, code):
     for m in WORD.finditer(text):
         word = m.group(0)
         new = rows.get(word)
-        if new is None and "'" in word:
-            continue
-        if new is None:
+        if new is None or code.endswith(".rt") and word == word.lower() and "-" not in word:
             continue
         behind = text[m.start() - 1 : m.start()] == "."
         if behind and word not in fields and not re.search(r"(?:^|[\s({,])(?!c\.|s\.)[A-Z][\w']*\.$", text[max(0, m.start() - 60) : m.start()]):

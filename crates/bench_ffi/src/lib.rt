@@ -1,4 +1,6 @@
 // What rust/bench measures, for Rust to call.
+#![tactic(auto)]
+
 ghost use Rattle.std.specs.Prelude.{◌≡◌, ◌≤◌, ◌%◌, length, take, replicate};
 ghost use Rattle.pages.specs.Pages.{put_page, Holds};
 ghost use Rattle.layout.specs.MetaPage.{encode_meta};

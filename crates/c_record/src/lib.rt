@@ -1,4 +1,6 @@
 // The record as C has it: words.
+#![tactic(auto)]
+
 pub mod words;
 
 // The number of the record's words.

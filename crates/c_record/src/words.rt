@@ -118,7 +118,7 @@ fn steps_word(phase: Phase) -> u32
 }
 
 // The word of unsettled.
-fn flag_word_lem(unconfirmed: bool) -> u32
+fn flag_word(unconfirmed: bool) -> u32
     ensures { result ≡ flag_word unconfirmed }
 {
     if unconfirmed {
@@ -164,7 +164,7 @@ pub fn pack(words: &mut [u32], r: Record)
     let callers = r.callers;
     let phase_at = phase_word(phase);
     let steps = steps_word(phase);
-    let unconfirmed = flag_word_lem(r.unconfirmed);
+    let unconfirmed = flag_word(r.unconfirmed);
     words[0] = l.slots;
     words[1] = l.blocks;
     words[2] = hand.0;

@@ -1,11 +1,13 @@
 // The draws of a load (document 02, N10): the next state, what it picks, and the page that it lands.
+#![tactic(auto)]
+
 ghost use Rattle.std.specs.Prelude.{◌≡◌, length};
 ghost use Rattle.draws.specs.Draws.{drawn, kind_of, block_of, draw_page};
 
 use layout::Block;
 
 // What a draw does.
-#[derive(Drop)]
+#[derive(Clone, Copy)]
 pub enum Kind {
     Write,
     Fetch,

@@ -1,11 +1,13 @@
 // Lines of a key and a number, written over the bytes from an offset on; the offset after them comes back. What the listing and the
 // load share.
+#![tactic(auto)]
+
 ghost use Rattle.std.specs.Prelude.{◌≡◌, ◌+◌, ◌≤◌, length};
 ghost use Rattle.fields.specs.Written.{Written};
 ghost use Rattle.fields.specs.Fields.{field, refusal_text};
 
 // A text of at most a page: its bytes, zero past its length.
-#[derive(Drop)]
+#[derive(Clone, Copy)]
 pub struct Text {
     pub bytes: [u8; 4096],
     pub len: usize,

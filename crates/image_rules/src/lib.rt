@@ -1,4 +1,6 @@
 // Number 5 of a reopening: the rule of each page, and the rules between pages.
+#![tactic(auto)]
+
 pub mod twice;
 
 ghost use Rattle.std.specs.Prelude.{◌≡◌, true, false, not, ◌&&◌, ◌||◌, ◌+◌, ◌≤◌, ◌<◌, length, drop, eqb};
@@ -68,7 +70,7 @@ pub fn stamps_differ(ssd: &[u8], l: Label) -> bool
 }
 
 // Whether stored flags are valid and writing.
-fn is_open_is(flags: u32) -> bool
+fn is_open(flags: u32) -> bool
     ensures { result ≡ (valid flags && writing flags) }
 {
     if flags % 2 != 1 {

@@ -1,6 +1,8 @@
 // An import of a list of blocks, run in memory (document 02, N8): each block is offered, once more after a copy-out, and landed (place), one
 // after the other (list). Stores are counted and no image is touched: the table is a scratch table. Between places nothing is open that was
 // not before, so of the record hand and newest stamp alone change.
+#![tactic(auto)]
+
 pub mod list;
 pub mod place;
 
@@ -8,7 +10,7 @@ use layout::Slot;
 
 // Where a run stands: the hand, the newest stamp, the stores so far by kind, and the number of the refusal that it met, or 0. No record is
 // passed, which would be copied.
-#[derive(Drop)]
+#[derive(Clone, Copy)]
 pub struct Run {
     pub hand: Slot,
     pub newest: u32,

@@ -1,4 +1,6 @@
 // Judging what a call is lent: document 01's numbers 3 to 7, least first, and document 02's 18 between 6 and 7.
+#![tactic(auto)]
+
 ghost use Rattle.std.specs.Prelude.{◌≡◌, true, false, not, length};
 ghost use Rattle.layout.specs.Places.{table_length};
 ghost use Rattle.protocol.specs.declared.Condition.TheVariants.{NotCached};
@@ -13,7 +15,7 @@ use record::{IMPORT, Phase, Record};
 use table::{condition, rows};
 
 // What judging finds: the least number of a refusal, or 0 and then the block's condition and how many rows are writing.
-#[derive(Drop)]
+#[derive(Clone, Copy)]
 pub struct Judged {
     pub number: u32,
     pub condition: Condition,

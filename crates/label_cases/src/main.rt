@@ -1,4 +1,6 @@
 // Builds label pages, legal and not, and prints what each decodes to.
+#![tactic(auto)]
+
 ghost use Rattle.std.specs.Prelude.{◌≤◌, length};
 
 use layout::{LabelRead, places};

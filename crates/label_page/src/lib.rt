@@ -1,4 +1,6 @@
 // The label page, written and read.
+#![tactic(auto)]
+
 ghost use Rattle.std.specs.Prelude.{◌≡◌, true, ◌&&◌, [], ◌∷◌, ◌++◌, ◌+◌, ◌≤◌, ◌<◌, length, drop};
 ghost use Rattle.pages.specs.Pages.{padded};
 ghost use Rattle.layout.specs.Places.{label_of, within_limits};
@@ -8,7 +10,7 @@ ghost use Rattle.label_page.specs.LabelScan.{found, scanned_as, blocks_read};
 use layout::{Label, LabelRead, places, zeros};
 
 // A number that was read, with the offset of the bytes after its line.
-#[derive(Drop)]
+#[derive(Clone, Copy)]
 pub enum Scan {
     Number(u32, usize),
     Nothing,

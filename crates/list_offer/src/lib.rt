@@ -1,5 +1,7 @@
 // A list of blocks offered as one (document 02, N3): "treated as offers one after another". It is judged (scan_rule), run in memory place
 // after place (list_run), and stored once.
+#![tactic(auto)]
+
 ghost use Rattle.std.specs.Prelude.{◌≡◌, true, ◌≤◌, length};
 ghost use Rattle.layout.specs.Places.{hdd_length};
 ghost use Rattle.record.specs.Record.{label_in};

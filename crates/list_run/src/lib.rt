@@ -1,4 +1,6 @@
 // The run of a list in memory, place after place. It changes one record where it stands: a record that is passed is copied.
+#![tactic(auto)]
+
 ghost use Rattle.std.specs.Prelude.{◌≡◌, true, ◌≤◌, length};
 ghost use Rattle.protocol.specs.Judge.{names_once, scan_most};
 ghost use Rattle.record.specs.Callers.{import_caller};
@@ -14,7 +16,7 @@ use turns::turn::Turn;
 // The run of a list: the record that the places dealt with leave, the metadata page of the first slot announced plus 1, or 0 before there
 // is one, how many places were dealt with, and how it ended: 0 while it goes on, 1 before a place that is not dealt with, 13 where the
 // first slot to be announced has no stamp to spare.
-#[derive(Drop)]
+#[derive(Clone, Copy)]
 pub struct Run {
     pub state: Record,
     pub page: u32,

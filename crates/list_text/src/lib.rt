@@ -1,4 +1,6 @@
 // The lines of a listing as text, each written over the bytes from an offset on; the offset after them comes back.
+#![tactic(auto)]
+
 ghost use Rattle.std.specs.Prelude.{◌+◌, ◌≤◌, ◌≡◌, length};
 ghost use Rattle.fields.specs.Written.{Written};
 ghost use Rattle.list_text.specs.ListText.{fate_text, head_text, entry_text};

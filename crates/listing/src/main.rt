@@ -1,5 +1,7 @@
 // Reads an SSD image on standard input and prints its listing. A byte more than 64 KiB is read, so that a longer input
 // is seen to be longer.
+#![tactic(auto)]
+
 use libc::{STDIN_FILENO, STDOUT_FILENO};
 use list_image::image;
 

@@ -1,5 +1,7 @@
 // Reads a load's seed and number of draws on standard input and prints what the load comes to. No legal input has more than 22
 // bytes: of a longer one enough is read to see that it is longer.
+#![tactic(auto)]
+
 use libc::{STDIN_FILENO, STDOUT_FILENO};
 
 fn main() {

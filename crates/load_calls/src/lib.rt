@@ -1,4 +1,6 @@
 // The call that a draw of a load begins with, repeated past a copy-out (document 02, N10).
+#![tactic(auto)]
+
 ghost use Rattle.std.specs.Prelude.{◌≡◌};
 ghost use Rattle.protocol.specs.Reply.{reply_of};
 ghost use Rattle.protocol.specs.Calls.{leaves, result_of, box_of};

@@ -1,17 +1,19 @@
 // The input of a load (document 02, N10): its seed and its number of draws, each on a line.
+#![tactic(auto)]
+
 ghost use Rattle.std.specs.Prelude.{◌≡◌, ◌-◌, ◌^◌, ◌≤◌, ◌<◌, length, drop};
 ghost use Rattle.layout.specs.LabelPage.{number_from};
 ghost use Rattle.load_input.specs.LoadInput.{fitting, line, as_line, input_of};
 
 // A line that was read: its number, and the offset after it.
-#[derive(Drop)]
+#[derive(Clone, Copy)]
 pub enum Line {
     Value(u32, usize),
     NoLine,
 }
 
 // Seed and draws, or anything else.
-#[derive(Drop)]
+#[derive(Clone, Copy)]
 pub enum Input {
     Load(u32, u32),
     Illegal,

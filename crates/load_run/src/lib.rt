@@ -1,4 +1,6 @@
 // The run of a load (document 02, N10): P1's box, draws one after another, and how many blocks read as on the plain disk then.
+#![tactic(auto)]
+
 ghost use Rattle.std.specs.Prelude.{◌≡◌, length};
 ghost use Rattle.pages.specs.Pages.{page_at, Holds};
 ghost use Rattle.protocol.specs.Calls.{box_of};
@@ -14,7 +16,7 @@ use record::Record;
 use steps::step;
 
 // What a run leaves of the record, and how many draws were refused.
-#[derive(Drop)]
+#[derive(Clone, Copy)]
 pub struct Ran {
     pub state: Record,
     pub refusals: u32,

@@ -1,10 +1,12 @@
 // What a load comes to (document 02, N10): counted, and written as lines.
+#![tactic(auto)]
+
 ghost use Rattle.std.specs.Prelude.{◌≡◌, ◌<◌, length};
 ghost use Rattle.fields.specs.Written.{Written};
 ghost use Rattle.load_text.specs.LoadText.{counted, load_text};
 
 // What a load comes to.
-#[derive(Drop)]
+#[derive(Clone, Copy)]
 pub struct Counts {
     pub refusals: u32,
     pub equal: u32,

@@ -1,4 +1,6 @@
 // A draw of a load, made on the box and on the plain disk beside it (document 02, N10).
+#![tactic(auto)]
+
 ghost use Rattle.std.specs.Prelude.{◌≡◌, List, ℕ, length};
 ghost use Rattle.pages.specs.Pages.{Holds};
 ghost use Rattle.protocol.specs.Calls.{box_of};
@@ -14,7 +16,7 @@ use record::Record;
 use write_path::land;
 
 // What a draw leaves of the record, and whether it was refused.
-#[derive(Drop)]
+#[derive(Clone, Copy)]
 pub struct Turn {
     pub state: Record,
     pub refused: bool,

@@ -1,5 +1,7 @@
 // Metadata pages that are legal, and pages with one thing wrong, each judged on a line of its own. Slots 4 and blocks 8
 // unless a line says otherwise. Then pages that are read down to each row of the page table.
+#![tactic(auto)]
+
 ghost use Rattle.std.specs.Prelude.{◌≤◌, ◌<◌, ◌^◌};
 
 use layout::{Slot, WINDOW, Window, places};

@@ -1,4 +1,6 @@
 // What the calls do to table, record and images, once they are judged: what stores says where. answers builds what they return.
+#![tactic(auto)]
+
 pub mod answers;
 
 ghost use Rattle.std.specs.Prelude.{◌≡◌, true, ◌+◌, ◌-◌, ◌*◌, ◌%◌, ◌≤◌, ◌<◌, length};
@@ -25,7 +27,7 @@ use protocol::{Answer, Outcome, Stored};
 use record::{Record, state};
 
 // Where the rows of a metadata page end that begin at `start`.
-fn rows_end_is(len: usize, start: usize) -> usize
+fn rows_end(len: usize, start: usize) -> usize
     requires { (start ≤ len) × (len ≤ 115200) × (start % 2 ≡ 0) × (len % 2 ≡ 0) }
     ensures { (result ≡ rows_end len start) × (start ≤ result) × (result ≤ len) × (result ≤ start + 480) × (result % 2 ≡ 0) }
 {
@@ -43,7 +45,7 @@ pub fn store_meta(ssd: &mut [u8], table: &[u32], state: Record, stamp: u32, p: u
 {
     let l = state.label;
     let start = 480 * (p as usize);
-    let end = rows_end_is(table.len(), start);
+    let end = rows_end(table.len(), start);
     let page = page::encode_meta(stamp, state::window_of(state), &table[start..end]);
     let place = places::meta_place(l, p);
     pages::store(ssd, place, &page);

@@ -1,4 +1,6 @@
 // Judging a metadata page, row by row of document 01's page table and in its order.
+#![tactic(auto)]
+
 ghost use Rattle.std.specs.Prelude.{◌≡◌, ◌&&◌, ◌+◌, ◌^◌, ◌≤◌, ◌<◌, length, drop};
 ghost use Rattle.layout.specs.Places.{slot_on};
 ghost use Rattle.layout.specs.Window.{window_most};

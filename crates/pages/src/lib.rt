@@ -1,6 +1,8 @@
 // An image as pages of 4,096 bytes, and little-endian words.
 //
 // store, copy_page and clear_page are the only functions of the product that write the bytes of an image.
+#![tactic(auto)]
+
 ghost use Rattle.std.specs.Prelude.{◌≡◌, ℕ, ◌+◌, ◌*◌, ◌≤◌, ◌<◌, length};
 ghost use Rattle.pages.specs.Pages.{page_at, put_page, Holds, Cleared};
 ghost use Rattle.pages.specs.Parts.{part, page_part};

@@ -1,4 +1,6 @@
 // The turn of an offer or a fetch, performed on images, table and record.
+#![tactic(auto)]
+
 ghost use Rattle.std.specs.Prelude.{◌≡◌, true, length};
 ghost use Rattle.layout.specs.Places.{hdd_length};
 ghost use Rattle.record.specs.Record.{label_in};

@@ -1,9 +1,11 @@
 // The declared types of the box. What every call does is said in specs/, and crate theorem proves demand 3 of it.
+#![tactic(auto)]
+
 use layout::{Block, Slot};
 use record::Record;
 
 // What a call answers.
-#[derive(Drop)]
+#[derive(Clone, Copy)]
 pub enum Answer {
     Refused(u32),
     Announced(Slot),
@@ -16,7 +18,7 @@ pub enum Answer {
 }
 
 // Where a call stored: nowhere, or on a page of the SSD or of the HDD image, by its number.
-#[derive(Drop)]
+#[derive(Clone, Copy)]
 pub enum Stored {
     Nothing,
     Ssd(u32),
@@ -24,7 +26,7 @@ pub enum Stored {
 }
 
 // What a call returns: its answer, the record, and where it stored.
-#[derive(Drop)]
+#[derive(Clone, Copy)]
 pub struct Outcome {
     pub answer: Answer,
     pub state: Record,
@@ -32,7 +34,7 @@ pub struct Outcome {
 }
 
 // The stores that an import makes, by kind: copy-outs, metadata stores, and data stores, one for each landing.
-#[derive(Drop)]
+#[derive(Clone, Copy)]
 pub struct Counts {
     pub copies: u32,
     pub metadata: u32,
@@ -41,7 +43,7 @@ pub struct Counts {
 
 // What an import would cost: the question is refused by a number; its stores; or the number of the refusal that the run would meet, the
 // list place that meets it, counted from 0, and the stores up to it.
-#[derive(Drop)]
+#[derive(Clone, Copy)]
 pub enum Cost {
     Refused(u32),
     Counted(Counts),
@@ -49,7 +51,7 @@ pub enum Cost {
 }
 
 // A block's condition: where it is, and how. It is what a look-up answers.
-#[derive(Drop)]
+#[derive(Clone, Copy)]
 pub enum Condition {
     NotCached,
     Clean(Slot),

@@ -1,4 +1,6 @@
 // Document 01's record: its window, and every function that makes a record or changes one.
+#![tactic(auto)]
+
 use layout::{Label, Slot, WINDOW};
 
 pub mod state;
@@ -11,7 +13,7 @@ pub const IMPORT: u32 = 1;
 pub const IMPORT_MOST: u32 = 8;
 
 // Document 01's phase: formatting, with the number of steps done; mending; ready.
-#[derive(Drop)]
+#[derive(Clone, Copy)]
 pub enum Phase {
     Formatting(u32),
     Recovering,
@@ -20,7 +22,7 @@ pub enum Phase {
 
 // Document 01's record. `unconfirmed` is its "unsettled"; the window is an array and its length, `count`; `callers` names the caller of
 // each of its places (document 02, N7): 0 for people, 1 for the import.
-#[derive(Drop)]
+#[derive(Clone, Copy)]
 pub struct Record {
     pub label: Label,
     pub hand: Slot,

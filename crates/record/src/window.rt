@@ -10,7 +10,7 @@ use crate::IMPORT;
 use layout::{Slot, WINDOW, Window};
 
 // A window's slots, and the callers of their places.
-#[derive(Drop)]
+#[derive(Clone, Copy)]
 pub struct Places {
     pub slots: [Slot; WINDOW],
     pub callers: [u32; WINDOW],

@@ -1,4 +1,6 @@
 // The record's rule (document 01's table, number 3).
+#![tactic(auto)]
+
 ghost use Rattle.std.specs.Prelude.{◌≡◌, true, false, ◌&&◌, ◌+◌, ◌≤◌, ◌<◌, length, take, drop, eqb, leb};
 ghost use Rattle.layout.specs.PageRule.{listed, distinct, in_range};
 ghost use Rattle.layout.specs.Window.{window_most, slots_in};

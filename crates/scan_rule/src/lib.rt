@@ -1,4 +1,6 @@
 // Judging a list of blocks that is offered as one (document 02, N3): 15, and 18 of its caller.
+#![tactic(auto)]
+
 ghost use Rattle.std.specs.Prelude.{◌≡◌, not, ◌+◌, drop};
 ghost use Rattle.protocol.specs.Plan.{first_block};
 ghost use Rattle.protocol.specs.Judge.{names, names_once, scan_test};

@@ -1,8 +1,10 @@
 // What an SSD image holds: label, metadata pages, the newest window. (Crate image_rules judges it.)
+#![tactic(auto)]
+
 pub mod image;
 
 // The largest stamp, and the number of its page plus 1, or 0 where every stamp is 0.
-#[derive(Drop)]
+#[derive(Clone, Copy)]
 pub struct Newest {
     pub stamp: u32,
     pub at: u32,

@@ -1,9 +1,11 @@
 // The sweep for a slot (document 01), over the table: the slot that it takes is found with nothing changed; then used flags are cleared.
+#![tactic(auto)]
+
 pub mod sweep;
 
 // What a sweep takes: a slot, after so many were passed, which lose their used flags (all slots, where the first round met
 // no unused one); or no slot, since all are open.
-#[derive(Drop)]
+#[derive(Clone, Copy)]
 pub enum Swept {
     Took(layout::Slot, u32),
     Stuck,

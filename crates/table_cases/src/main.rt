@@ -1,4 +1,6 @@
 // The table's functions, and the judging of a box, on 57,600 rows; what each finds is printed.
+#![tactic(auto)]
+
 mod print;
 
 use layout::{Block, Slot, WINDOW, Window, places};

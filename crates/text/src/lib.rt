@@ -1,4 +1,6 @@
 // Text in bytes: fixed texts and decimal numbers, written over a part of a buffer.
+#![tactic(auto)]
+
 ghost use Rattle.std.specs.Prelude.{◌≡◌, [], ◌∷◌, ◌++◌, ◌+◌, ◌≤◌, ◌<◌, length};
 ghost use borrow.Rule.Slice.PartMut.{put_mid};
 ghost use Rattle.layout.specs.LabelPage.{decimal};

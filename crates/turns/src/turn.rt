@@ -13,7 +13,7 @@ use sweeping::{Swept, sweep};
 // What an offer or a fetch does: refused by a number (8, 10, 17, 11 or 12); passes, the answer being "overwrite"; opens a slot with these
 // flags, after so many slots were passed, which lose their used flags, and leaves the hand on the last one named; copies out a
 // slot, after so many were passed. Whoever performs it judges 13, where it opens.
-#[derive(Drop)]
+#[derive(Clone, Copy)]
 pub enum Turn {
     Refused(u32),
     Passes,

@@ -1,4 +1,6 @@
 // A load as text: what the program `load` prints for an input (document 02, N10).
+#![tactic(auto)]
+
 ghost use Rattle.std.specs.Prelude.{◌≡◌, length};
 ghost use Rattle.fields.specs.Written.{Written, text_of};
 ghost use Rattle.workload.specs.Workload.{counts_of, workload_of};
