@@ -1,0 +1,44 @@
+use Prim.Native.Nat.{◌≤◌, ◌-◌}
+use mathlib.Core.Path.{◌≡◌, sym, ap, ◌∙◌}
+use lib.ListN.{length, take, drop}
+use borrow.Author.Tests.{eq-eqb, ne_eqb}
+use Rattle.layout.specs.declared.Slot.{Slot}
+use Rattle.layout.proofs.Loops.{go_on, stop, length-mapped}
+use Rattle.protocol.specs.Rows.{row_flags, writing}
+use Rattle.record.specs.Window.{each_place, each_slot}
+use Rattle.record.proofs.WindowLaws.{each_left, row_in, window_end}
+use native.Mathlib.Omega.{arith}
+use Rattle.agreement.proofs.all_writing.Goals as goal
+
+pub bounds-table-k : goal.bounds-table-k
+bounds-table-k c =
+    let l = c.loop-i in
+    let s = c in
+    let all : length s.args.w.slots ≡ 63 = search (rules, length-mapped) in
+    row_in s.args.l s.args.table.now s.args.w.slots s.args.w.count l.i _ s.requires.table_len s.requires.w_value (omega arith)
+    (omega (arith, s.requires.count_le_window_most))
+
+pub returns-then-open-ne1 : goal.returns-then-open-ne1
+returns-then-open-ne1 c =
+    let l = c.loop-i in
+    let s = c in
+    let all : length s.args.w.slots ≡ 63 = search (rules, length-mapped) in
+    stop _ _ l.invariant.1 (each_left s.args.w.slots s.args.w.count l.i _ (omega arith) (omega (arith, s.requires.count_le_window_most)) _)
+    (ne_eqb _ _ c.if-open-ne1.true)
+
+pub loop-i-preserved : goal.loop-i-preserved
+loop-i-preserved c =
+    let l = c.loop-i in
+    let s = c in
+    let all : length s.args.w.slots ≡ 63 = search (rules, length-mapped) in (
+      omega arith,
+      go_on _ _ l.invariant.1
+          (each_left s.args.w.slots s.args.w.count l.i _ (omega arith) (omega (arith, s.requires.count_le_window_most)) _) (eq-eqb _ _ c.if-open-ne1.false),
+    )
+
+pub returns : goal.returns
+unfolding each_place
+returns c =
+    let l = c.loop-i in
+    let s = c in
+    sym (ap (each_slot _) (window_end s.args.w.slots s.args.w.count l.i (omega arith))) ∙ l.invariant.1

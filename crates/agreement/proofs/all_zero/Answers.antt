@@ -1,0 +1,55 @@
+use Prim.Native.Nat.{◌≤◌, ◌-◌}
+use mathlib.Core.Path.{◌≡◌, sym, ap, ◌∙◌}
+use mathlib.Core.Bool.{◌&&◌}
+use lib.ListN.{length, take, drop}
+use lib.Dec.{eqb}
+use borrow.Author.Tests.{not-true, not-false}
+use Rattle.layout.specs.declared.Slot.{Slot}
+use Rattle.layout.proofs.Loops.{go_on, stop, length-mapped}
+use Rattle.protocol.specs.Rows.{row_block, row_flags}
+use Rattle.record.specs.Window.{each_place, each_slot}
+use Rattle.record.proofs.WindowLaws.{each_left, row_in, block_in_lem, window_end}
+use native.Mathlib.Omega.{arith}
+use Rattle.agreement.proofs.all_zero.Goals as goal
+
+pub bounds-table-k : goal.bounds-table-k
+bounds-table-k c =
+    let l = c.loop-i in
+    let s = c in
+    let all : length s.args.w.slots ≡ 63 = search (rules, length-mapped) in
+    block_in_lem s.args.l s.args.table.now s.args.w.slots s.args.w.count l.i _ s.requires.table_len s.requires.w_value (omega arith)
+    (omega (arith, s.requires.count_le_window_most))
+
+pub bounds-table-k-in-loop-i : goal.bounds-table-k-in-loop-i
+bounds-table-k-in-loop-i c =
+    let l = c.loop-i in
+    let s = c in
+    let all : length s.args.w.slots ≡ 63 = search (rules, length-mapped) in
+    row_in s.args.l s.args.table.now s.args.w.slots s.args.w.count l.i _ s.requires.table_len s.requires.w_value (omega arith)
+    (omega (arith, s.requires.count_le_window_most))
+
+pub returns-then-not-is_zero : goal.returns-then-not-is_zero
+returns-then-not-is_zero c =
+    let l = c.loop-i in
+    let s = c in
+    let all : length s.args.w.slots ≡ 63 = search (rules, length-mapped) in
+    stop _ _ l.invariant.1 (each_left s.args.w.slots s.args.w.count l.i _ (omega arith) (omega (arith, s.requires.count_le_window_most)) _)
+    (sym c.is_zero.ensures ∙ not-true _ c.if-not-is_zero.true)
+
+pub loop-i-preserved : goal.loop-i-preserved
+loop-i-preserved c =
+    let l = c.loop-i in
+    let s = c in
+    let all : length s.args.w.slots ≡ 63 = search (rules, length-mapped) in (
+      omega arith,
+      go_on _ _ l.invariant.1
+          (each_left s.args.w.slots s.args.w.count l.i _ (omega arith) (omega (arith, s.requires.count_le_window_most)) _)
+          (sym c.is_zero.ensures ∙ not-false _ c.if-not-is_zero.false),
+    )
+
+pub returns : goal.returns
+unfolding each_place
+returns c =
+    let l = c.loop-i in
+    let s = c in
+    sym (ap (each_slot _) (window_end s.args.w.slots s.args.w.count l.i (omega arith))) ∙ l.invariant.1

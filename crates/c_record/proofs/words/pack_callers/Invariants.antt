@@ -1,0 +1,13 @@
+use Prim.Native.Nat.{◌-◌, ◌+◌}
+use mathlib.Core.Path.{◌≡◌, refl, ◌∙◌}
+use mathlib.Core.List.{◌++◌, append-nil}
+use lib.ListN.{length, take, drop_of_length-le}
+use Rattle.c_record.proofs.WordLaws.{Packed, packed_none, packed_more, packed_all}
+use native.Mathlib.Omega.{arith}
+use Rattle.c_record.proofs.words.pack_callers.Given as goal
+
+abbrev pub invariant-loop-i : goal.invariant-loop-i
+invariant-loop-i l = Packed l.initial.words 71 l.callers l.words l.i
+
+abbrev pub decreases-loop-i : goal.decreases-loop-i
+decreases-loop-i l = 63 - l.i

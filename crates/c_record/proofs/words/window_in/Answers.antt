@@ -1,0 +1,23 @@
+use Prim.Native.Nat.{◌-◌}
+use mathlib.Core.Path.{refl}
+use lib.ListN.{take, drop}
+use Rattle.c_record.specs.Words.{slots_of}
+use Rattle.c_record.proofs.WordLaws.{Filled, filled_more, filled-all, window-length, window_at}
+use native.Mathlib.Omega.{arith}
+use Rattle.c_record.proofs.words.window_in.Goals as goal
+
+pub loop-i-init : goal.loop-i-init
+loop-i-init c = record { most = omega arith; size = refl; same = refl }
+
+pub loop-i-preserved : goal.loop-i-preserved
+loop-i-preserved c =
+    let l = c.loop-i in
+    let s = c in
+    filled_more _ (window-length s.args.words.now s.requires) _ l.window l.i _
+    (window_at s.args.words.now s.requires l.i (omega arith)) l.invariant (omega arith)
+
+pub returns : goal.returns
+returns c =
+    let l = c.loop-i in
+    let s = c in
+    filled-all _ (window-length s.args.words.now s.requires) (record { 0 = 0 }) l.window l.i l.invariant (omega arith)

@@ -1,0 +1,42 @@
+use Prim.Native.Nat.{ℕ, ◌+◌, ◌-◌, ◌*◌, ◌≤◌}
+use mathlib.Core.Path.{◌≡◌, refl, ap, ◌∙◌}
+use lib.ListN.{length}
+use borrow.Rule.Slice.PartMut.{put_mid}
+use Rattle.pages.specs.Words.{le_bytes}
+use Rattle.draws.specs.Draws.{copies, draw_page}
+use Rattle.draws.proofs.DrawLaws.{filled_more, filled-all}
+use native.Mathlib.Omega.{arith}
+use Rattle.draws.proofs.fill_page.Goals as goal
+
+-- src/lib.rt:54:5
+pub loop-n-init : goal.loop-n-init
+unfolding copies
+loop-n-init c = (omega arith, refl, refl)
+
+-- src/lib.rt:54:5
+pub loop-n-preserved : goal.loop-n-preserved
+loop-n-preserved c =
+    let w = c in
+    let l = w.loop-n in
+    let s = w in
+    let k : 4 * l.n + 4 - 4 * l.n ≡ 4 = omega arith in (
+      omega arith,
+      search rules,
+      (λ i. put_mid (4 * l.n) (k i) (l.invariant.2 i) (w.write_word.ensures i))
+          ∙ filled_more s.args.page.now s.args.s l.n s.requires (omega (arith, w.loop-n-test.true)),
+    )
+
+-- src/lib.rt:49:1
+pub shape_of-page : goal.shape_of-page
+shape_of-page c = c.loop-n.invariant.1
+
+-- src/lib.rt:49:1
+pub returns : goal.returns
+unfolding draw_page
+returns c =
+    let l = c.loop-n in
+    let s = c in
+    let n : l.n ≡ 1024 = omega arith in
+    l.invariant.2
+    ∙ ap (λ (m : ℕ). put_mid 0 (4 * m) s.args.page.now (copies m (le_bytes 4 s.args.s))) n
+    ∙ filled-all s.args.page.now _ 4096 (omega (arith, s.requires))

@@ -1,0 +1,18 @@
+use Prim.Native.Nat.{◌%◌}
+use mathlib.Core.Path.{◌≡◌}
+use native.Mathlib.Omega.{arith}
+use Rattle.draws.proofs.kind_of.Goals as goal
+
+pub returns-then-k-eq0 : goal.returns-then-k-eq0
+returns-then-k-eq0 c = rw c.if-k-eq0.true
+
+pub returns-then-k-eq1 : goal.returns-then-k-eq1
+returns-then-k-eq1 c = rw c.if-k-eq1.true
+
+pub returns-then-k-eq2 : goal.returns-then-k-eq2
+returns-then-k-eq2 c = rw c.if-k-eq2.true
+
+pub returns : goal.returns
+returns c =
+    let e : c.args.s % 4 ≡ 3 = omega arith in
+    rw e

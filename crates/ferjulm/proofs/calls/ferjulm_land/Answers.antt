@@ -1,0 +1,40 @@
+use mathlib.Core.Path.{◌≡◌, sym, ◌∙◌}
+use mathlib.Core.Bool.{true}
+use borrow.Author.Tests.{not-true, not-false}
+use Rattle.protocol.specs.Plan.{land}
+use Rattle.c_record.specs.Words.{is_record}
+use Rattle.c_closing.proofs.ClosedLaws.{record_length}
+use Rattle.ferjulm.proofs.CodeLaws.{barred, past}
+use Rattle.ferjulm.proofs.calls.ferjulm_land.Goals as goal
+use Rattle.ferjulm.proofs.calls.ferjulm_land.Tie as tie
+
+pub returns-then-not-is_record : goal.returns-then-not-is_record
+returns-then-not-is_record c =
+    let r = c in
+    let a = r.args in
+    let b = barred (land (record { 0 = a.block }) a.page.now) a.ssd.now a.hdd.now a.table.now a.words.now (sym r.is_record.ensures ∙ not-true _ c.if-not-is_record.true) in
+    (b.left, b.place (record { image = a.image.now; offset = a.offset.now }))
+
+-- past the first test the words are a record
+legal : (c : tie.Else1) → is_record c.args.words.now ≡ true
+legal c = sym c.is_record.ensures ∙ not-false _ c.if-not-is_record.false
+
+pub unpack-state-requires : goal.unpack-state-requires
+unpack-state-requires c = record_length _ (legal c.before)
+
+pub ended-requires : goal.ended-requires
+ended-requires c =
+    let p = c in
+    record_length _ (legal p.before.before.before.before.before.before.before.before.before.before.before.before)
+
+pub returns : goal.returns
+returns c =
+    let q = c in
+    let p = q in
+    let o = p.land-outcome in
+    let u = p in
+    let e = u in
+    let a = e.args in
+    let k = past (land (record { 0 = a.block }) a.page.now) a.ssd.now a.hdd.now a.table.now a.words.now
+    u.unpack-state.result o.result u.unpack-state.ensures o.ensures (legal e) in
+    (k.left q.ended.ensures.0, k.place _ q.ended.ensures.1)

@@ -1,0 +1,37 @@
+use mathlib.Core.Path.{◌≡◌, sym, ◌∙◌}
+use mathlib.Core.Bool.{true}
+use borrow.Author.Tests.{not-true, not-false}
+use Rattle.protocol.specs.Plan.{lookUp}
+use Rattle.protocol.specs.Calls.{box_of}
+use Rattle.c_record.specs.Words.{is_record}
+use Rattle.c_closing.proofs.ClosedLaws.{record_length}
+use Rattle.ferjulm.proofs.CodeLaws.{look_up_state, barred, past}
+use Rattle.ferjulm.proofs.calls.ferjulm_look_up.Goals as goal
+use Rattle.ferjulm.proofs.calls.ferjulm_look_up.Tie as tie
+
+pub returns-then-not-is_record : goal.returns-then-not-is_record
+returns-then-not-is_record c =
+    let r = c in
+    let a = r.args in
+    let b = barred (lookUp (record { 0 = a.block })) a.ssd.now a.hdd.now a.table.now a.words.now (sym r.is_record.ensures ∙ not-true _ c.if-not-is_record.true) in
+    (b.left, b.slot a.slot.now)
+
+-- past the first test the words are a record
+legal : (c : tie.Else1) → is_record c.args.words.now ≡ true
+legal c = sym c.is_record.ensures ∙ not-false _ c.if-not-is_record.false
+
+pub unpack-state-requires : goal.unpack-state-requires
+unpack-state-requires c = record_length _ (legal c)
+
+pub returns : goal.returns
+returns c =
+    let t = c in
+    let p = t in
+    let o = p.look_up-outcome in
+    let u = p in
+    let e = u in
+    let a = e.args in
+    let x = box_of a.ssd.now a.hdd.now a.table.now u.unpack-state.result in
+    let k = past (lookUp (record { 0 = a.block })) a.ssd.now a.hdd.now a.table.now a.words.now
+    u.unpack-state.result o.result u.unpack-state.ensures o.ensures (legal e) in
+    (k.still (look_up_state (record { 0 = a.block }) x) c.code_of.ensures, k.slot _ t.slot_of.ensures)

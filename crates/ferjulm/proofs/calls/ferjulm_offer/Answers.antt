@@ -1,0 +1,40 @@
+use mathlib.Core.Path.{◌≡◌, sym, ◌∙◌}
+use mathlib.Core.Bool.{true}
+use borrow.Author.Tests.{not-true, not-false}
+use Rattle.protocol.specs.Plan.{offer}
+use Rattle.c_record.specs.Words.{is_record}
+use Rattle.c_closing.proofs.ClosedLaws.{record_length}
+use Rattle.ferjulm.proofs.CodeLaws.{barred, past}
+use Rattle.ferjulm.proofs.calls.ferjulm_offer.Goals as goal
+use Rattle.ferjulm.proofs.calls.ferjulm_offer.Tie as tie
+
+pub returns-then-not-is_record : goal.returns-then-not-is_record
+returns-then-not-is_record c =
+    let r = c in
+    let a = r.args in
+    let b = barred (offer (record { 0 = a.block }) a.caller) a.ssd.now a.hdd.now a.table.now a.words.now (sym r.is_record.ensures ∙ not-true _ c.if-not-is_record.true) in
+    (b.left, b.slot a.slot.now, b.place (record { image = a.image.now; offset = a.offset.now }))
+
+-- past the first test the words are a record
+legal : (c : tie.Else1) → is_record c.args.words.now ≡ true
+legal c = sym c.is_record.ensures ∙ not-false _ c.if-not-is_record.false
+
+pub unpack-state-requires : goal.unpack-state-requires
+unpack-state-requires c = record_length _ (legal c.before)
+
+pub ended_at-requires : goal.ended_at-requires
+ended_at-requires c =
+    let p = c in
+    record_length _ (legal p.before.before.before.before.before.before.before.before.before.before.before.before.before.before.before.before)
+
+pub returns : goal.returns
+returns c =
+    let q = c in
+    let p = q in
+    let o = p.offer-outcome in
+    let u = p in
+    let e = u in
+    let a = e.args in
+    let k = past (offer (record { 0 = a.block }) a.caller) a.ssd.now a.hdd.now a.table.now a.words.now
+    u.unpack-state.result o.result u.unpack-state.ensures o.ensures (legal e) in
+    (k.left q.ended_at.ensures.0, k.slot _ q.ended_at.ensures.1, k.place _ q.ended_at.ensures.2)

@@ -1,0 +1,46 @@
+use mathlib.Core.Path.{◌≡◌, sym, ◌∙◌}
+use mathlib.Core.Bool.{true}
+use lib.ListN.{length}
+use borrow.Author.Tests.{not-true, not-false}
+use Rattle.protocol.specs.Plan.{look_up_list}
+use Rattle.protocol.specs.Calls.{box_of}
+use Rattle.c_record.specs.Words.{is_record}
+use Rattle.c_closing.proofs.ClosedLaws.{record_length}
+use Rattle.ferjulm.proofs.CodeLaws.{list-state, located_barred, located_past, barred, past}
+use Rattle.ferjulm.proofs.list.ferjulm_look_up_list.Goals as goal
+use Rattle.ferjulm.proofs.list.ferjulm_look_up_list.Tie as tie
+
+pub returns-then-not-is_record : goal.returns-then-not-is_record
+returns-then-not-is_record c =
+    let r = c in
+    let a = r.args in
+    let e = sym r.is_record.ensures ∙ not-true _ c.if-not-is_record.true in (
+      (barred (look_up_list a.blocks.now (length a.located.now)) a.ssd.now a.hdd.now a.table.now a.words.now e).left,
+      located_barred a.blocks.now a.ssd.now a.hdd.now a.table.now a.words.now a.located.now e,
+    )
+
+-- past the first test the words are a record
+abbrev start : tie.Else1 → tie.Start
+start e = e.before.before.before.before.before.before.before.before
+
+legal : (e : tie.Else1) → is_record (start e).args.words.now ≡ true
+legal e = sym e.is_record.ensures ∙ not-false _ e.if-not-is_record.false
+
+pub unpack-state-requires : goal.unpack-state-requires
+unpack-state-requires c = record_length _ (legal c)
+
+pub returns : goal.returns
+returns c =
+    let o = c in
+    let u = o in
+    let e = u in
+    let a = (start e).args in
+    let list = look_up_list a.blocks.now (length a.located.now) in
+    let k = past list a.ssd.now a.hdd.now a.table.now a.words.now u.unpack-state.result o.look_up_list-outcome.result
+    u.unpack-state.ensures o.look_up_list-outcome.ensures.0 (legal e) in (
+      k.still (list-state a.blocks.now (length a.located.now) (box_of a.ssd.now a.hdd.now a.table.now u.unpack-state.result))
+          c.code_of.ensures,
+      o.look_up_list-outcome.ensures.1
+          ∙ located_past a.blocks.now a.ssd.now a.hdd.now a.table.now a.words.now a.located.now u.unpack-state.result
+          u.unpack-state.ensures (legal e),
+    )

@@ -1,0 +1,44 @@
+use mathlib.Core.Path.{◌≡◌, sym, ◌∙◌}
+use mathlib.Core.Bool.{true}
+use borrow.Author.Tests.{not-true, not-false}
+use Rattle.protocol.specs.Plan.{offer_list}
+use Rattle.c_record.specs.Words.{is_record}
+use Rattle.c_closing.proofs.ClosedLaws.{record_length}
+use Rattle.ferjulm.proofs.CodeLaws.{barred, past}
+use Rattle.ferjulm.proofs.list.ferjulm_offer_list.Goals as goal
+use Rattle.ferjulm.proofs.list.ferjulm_offer_list.Tie as tie
+
+pub returns-then-not-is_record : goal.returns-then-not-is_record
+returns-then-not-is_record c =
+    let r = c in
+    let a = r.args in
+    let e = sym r.is_record.ensures ∙ not-true _ c.if-not-is_record.true in
+    let b = barred (offer_list a.blocks.now a.caller) a.ssd.now a.hdd.now a.table.now a.words.now e in
+    (b.left, b.places a.dealt.now, b.place (record { image = a.image.now; offset = a.offset.now }))
+
+-- past the first test the words are a record
+abbrev start : tie.Else1 → tie.Start
+start e = e.before.before.before.before.before.before.before
+
+legal : (e : tie.Else1) → is_record (start e).args.words.now ≡ true
+legal e = sym e.is_record.ensures ∙ not-false _ e.if-not-is_record.false
+
+pub unpack-state-requires : goal.unpack-state-requires
+unpack-state-requires c = record_length _ (legal c.before)
+
+pub ended_list-requires : goal.ended_list-requires
+ended_list-requires c =
+    let p = c in
+    record_length _ (legal p.before.before.before.before.before.before.before.before.before.before.before.before.before.before.before.before)
+
+pub returns : goal.returns
+returns c =
+    let q = c in
+    let p = q in
+    let o = p.offer_list-outcome in
+    let u = p in
+    let e = u in
+    let a = (start e).args in
+    let k = past (offer_list a.blocks.now a.caller) a.ssd.now a.hdd.now a.table.now a.words.now
+    u.unpack-state.result o.result u.unpack-state.ensures o.ensures (legal e) in
+    (k.left q.ended_list.ensures.0, k.places _ q.ended_list.ensures.1, k.place _ q.ended_list.ensures.2)

@@ -1,0 +1,55 @@
+use mathlib.Core.Path.{refl, sym, ap, ◌∙◌}
+use Rattle.protocol.specs.Box.{Effect, left}
+use Rattle.protocol.specs.Plan.{fetch}
+use Rattle.protocol.specs.Calls.{box_of}
+use Rattle.turns.specs.declared.turn.Turn.{Turn}
+use Rattle.turns.specs.Turns.{fetch_turn, turned}
+use Rattle.judging.proofs.JudgingLaws.{found}
+use Rattle.judging.proofs.ServeLaws.{refused_by, fetch_judges}
+use Rattle.judging.proofs.ServedLaws.{Served, served}
+use Rattle.turns.proofs.TurnLaws.{seen}
+use Rattle.performing.proofs.PerformLaws.{fetch_performs, fetch_turned}
+use Rattle.fetch_path.proofs.fetch.fetch.Goals as goal
+use Rattle.fetch_path.proofs.fetch.fetch.Tie as tie
+
+-- 3 to 7 are passed
+abbrev start : tie.Else1 → tie.Start
+start c = c.before.before.before.before.before
+
+known : (c : tie.Else1) → let a = (start c).args in
+    Served a.ssd.now a.hdd.now 4096 a.table.now a.state a.block a.caller c.judge_block-seen.result
+known c = let a = (start c).args in
+    served a.ssd.now a.hdd.now 4096 a.table.now a.state a.block a.caller c.judge_block-seen.ensures c.if-number-ne0.false
+
+pub returns-then-number-ne0 : goal.returns-then-number-ne0
+returns-then-number-ne0 c =
+    let e = c in
+    let a = e.args in
+    rw c.refused.ensures
+    (refused_by (fetch a.block a.caller) (box_of a.ssd.now a.hdd.now a.table.now a.state) _ _ (fetch_judges a.ssd.now a.hdd.now a.table.now a.state a.block a.caller) e.judge_block-seen.result.number
+    (found _ a.table.now a.block e.judge_block-seen.ensures) c.if-number-ne0.true)
+
+pub fetch-turn-requires : goal.fetch-turn-requires
+fetch-turn-requires c =
+    let e = c in
+    let a = (start e).args in
+    seen a.ssd.now a.hdd.now 4096 a.table.now a.state a.block a.caller _ (known e)
+
+pub perform-requires : goal.perform-requires
+perform-requires c =
+    let e = c in
+    let a = (start e).args in
+    let B = (known e).box.box in
+    let p = fetch_performs a.ssd.now a.hdd.now a.table.now a.state a.block a.caller (known e).none e.judge_block-seen.result.condition in
+    record { fits_record = B.fits; hdd_len = B.sound.hdd-size; state_value = B.record_kept; table_value = B.rows; performable = rw c.fetch-turn.ensures p }
+
+pub returns : goal.returns
+returns c =
+    let d = c in
+    let e = d in
+    let a = (start e).args in
+    let x = box_of a.ssd.now a.hdd.now a.table.now a.state in
+    c.perform.ensures
+    ∙ ap (λ (T : Turn). left (turned T a.block a.caller x) x.images)
+    (d.fetch-turn.ensures ∙ ap (fetch_turn a.table.now a.state a.caller) (sym ((known e).is _ refl)))
+    ∙ ap (λ (f : Effect). left f x.images) (sym (fetch_turned a.ssd.now a.hdd.now a.table.now a.state a.block a.caller (known e).none))

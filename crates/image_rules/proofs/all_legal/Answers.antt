@@ -1,0 +1,49 @@
+use mathlib.Core.List.{[]}
+use borrow.Author.Tests.{not-true, not-false}
+use Rattle.layout.specs.PageRule.{page_test}
+use Rattle.layout.proofs.Loops.{go_on, stop}
+use Rattle.stored.proofs.StoredLaws.{page-read, pages-most}
+use Rattle.stored.proofs.RuleLaws.{legal-left, legal_end}
+use Prim.Native.Nat.{◌-◌, ◌≤◌, ◌<◌}
+use mathlib.Core.Path.{◌≡◌, sym, ap, ◌∙◌}
+use lib.ListN.{get_or, drop}
+use Rattle.layout.specs.Places.{meta_pages}
+use Rattle.protocol.specs.Recovery.{metas_of, each_legal}
+use native.Mathlib.Omega.{arith}
+use Rattle.image_rules.proofs.all_legal.Goals as goal
+
+pub legal_page-requires : goal.legal_page-requires
+legal_page-requires c =
+    let s = c in
+    let l = c.loop-p in
+    let h : l.p < meta_pages s.args.l = omega (arith, l.invariant.0) in
+    record { page_len = (page-read s.args.l _ _ _ s.requires.ssd_len h c.meta_page.ensures).1; p_bound = omega (arith, pages-most s.args.l s.requires.limits, c.loop-p.invariant.0) }
+
+pub returns-then-not-legal_page : goal.returns-then-not-legal_page
+returns-then-not-legal_page c =
+    let s = c in
+    let l = c.loop-p in
+    let h : l.p < meta_pages s.args.l = omega (arith, l.invariant.0) in
+    stop (page_test s.args.l l.p (get_or (metas_of s.args.l s.args.ssd.now) l.p [])) _ l.invariant.2
+    (legal-left s.args.l s.args.ssd.now l.p h)
+    (ap (page_test s.args.l l.p) (sym (page-read s.args.l _ _ _ s.requires.ssd_len h c.meta_page.ensures).0) ∙ sym c.legal_page.ensures
+    ∙ not-true _ c.if-not-legal_page.true)
+
+pub loop-p-preserved : goal.loop-p-preserved
+loop-p-preserved c =
+    let s = c in
+    let l = c.loop-p in
+    let h : l.p < meta_pages s.args.l = omega (arith, l.invariant.0) in (
+      l.invariant.0,
+      omega arith,
+      go_on (page_test s.args.l l.p (get_or (metas_of s.args.l s.args.ssd.now) l.p [])) _ l.invariant.2
+          (legal-left s.args.l s.args.ssd.now l.p h)
+          (ap (page_test s.args.l l.p) (sym (page-read s.args.l _ _ _ s.requires.ssd_len h c.meta_page.ensures).0) ∙ sym c.legal_page.ensures
+          ∙ not-false _ c.if-not-legal_page.false),
+    )
+
+pub returns : goal.returns
+returns c =
+    let s = c in
+    let l = c.loop-p in
+    sym (legal_end s.args.l s.args.ssd.now l.p (omega (arith, l.invariant.0))) ∙ l.invariant.2

@@ -1,0 +1,48 @@
+use mathlib.Core.Bool.{◌&&◌}
+use borrow.Author.Tests.{not-true, not-false}
+use Rattle.layout.specs.declared.Entry.{Entry}
+use Rattle.layout.proofs.Loops.{go_on, stop, length-mapped}
+use Rattle.protocol.specs.Rows.{valid, writing}
+use Rattle.record.proofs.WindowLaws.{slot-low}
+use Rattle.stored.proofs.RuleLaws.{open_left, open_end}
+use Prim.Native.Nat.{◌-◌, ◌≤◌}
+use mathlib.Core.Path.{◌≡◌, sym, ap, ◌∙◌}
+use lib.ListN.{length, take, drop}
+use Rattle.protocol.specs.Recovery.{metas_of, all_open_in}
+use native.Mathlib.Omega.{arith}
+use Rattle.image_rules.proofs.all_open.Goals as goal
+
+pub entry_of-entry-requires : goal.entry_of-entry-requires
+entry_of-entry-requires c =
+    let s = c in
+    let l = c.loop-i in
+    let all : length s.args.w.slots ≡ 63 = search (rules, length-mapped) in
+    (s.requires.ssd_len, slot-low s.args.l s.args.w.slots s.args.w.count l.i _ s.requires.w_value (omega arith) (omega (arith, s.requires)))
+
+pub returns-then-not-is_open : goal.returns-then-not-is_open
+returns-then-not-is_open c =
+    let s = c in
+    let l = c.loop-i in
+    let all : length s.args.w.slots ≡ 63 = search (rules, length-mapped) in
+    let o = open_left (metas_of s.args.l s.args.ssd.now) s.args.w.slots s.args.w.count l.i _ (omega arith)
+    (omega (arith, s.requires)) in
+    let q = ap (λ (e : Entry). valid e.flags && writing e.flags) (sym c.entry_of-entry.ensures) ∙ sym
+    c.is_open.ensures in
+    stop _ _ l.invariant.1 o (q ∙ not-true _ c.if-not-is_open.true)
+
+pub loop-i-preserved : goal.loop-i-preserved
+loop-i-preserved c =
+    let s = c in
+    let l = c.loop-i in
+    let all : length s.args.w.slots ≡ 63 = search (rules, length-mapped) in
+    let o = open_left (metas_of s.args.l s.args.ssd.now) s.args.w.slots s.args.w.count l.i _ (omega arith)
+    (omega (arith, s.requires)) in
+    let q = ap (λ (e : Entry). valid e.flags && writing e.flags) (sym c.entry_of-entry.ensures) ∙ sym
+    c.is_open.ensures in
+    (omega arith, go_on _ _ l.invariant.1 o (q ∙ not-false _ c.if-not-is_open.false))
+
+pub returns : goal.returns
+returns c =
+    let s = c in
+    let l = c.loop-i in
+    sym (open_end (metas_of s.args.l s.args.ssd.now) s.args.w.slots s.args.w.count l.i (omega (arith, l.invariant.0))) ∙ l.invariant.1

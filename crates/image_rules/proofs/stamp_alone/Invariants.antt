@@ -1,0 +1,20 @@
+use borrow.Author.Tests.{eq-eqb, ne_eqb}
+use mathlib.Core.List.{[]}
+use lib.Dec.{eqb}
+use Rattle.layout.specs.MetaPage.{stamp_of}
+use Rattle.record.proofs.WindowLaws.{hit, miss}
+use Rattle.stored.proofs.RuleLaws.{stamp-left, stamp_end}
+use Prim.Native.Nat.{◌-◌, ◌≤◌, ◌<◌}
+use mathlib.Core.Path.{◌≡◌, sym, ◌∙◌}
+use lib.ListN.{get_or, drop}
+use Rattle.layout.specs.Places.{meta_pages}
+use Rattle.protocol.specs.Recovery.{metas_of, stamp_in}
+use native.Mathlib.Omega.{arith}
+use Rattle.image_rules.proofs.stamp_alone.Given as goal
+
+abbrev pub invariant-loop-q : goal.invariant-loop-q
+invariant-loop-q l = (l.m ≡ meta_pages l.l) × (l.q ≤ meta_pages l.l) ×
+    (stamp_in l.stamp (drop l.q (metas_of l.l l.ssd)) ≡ stamp_in l.stamp (drop l.k (metas_of l.l l.ssd)))
+
+abbrev pub decreases-loop-q : goal.decreases-loop-q
+decreases-loop-q l = l.m - l.q

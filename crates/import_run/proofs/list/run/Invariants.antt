@@ -1,0 +1,19 @@
+use Prim.Native.Nat.{ℕ, ◌+◌, ◌-◌, ◌≤◌}
+use mathlib.Core.List.{List}
+use mathlib.Core.Path.{◌≡◌, refl, sym, ap, subst, ◌∙◌}
+use native.Mathlib.Omega.{arith}
+use lib.ListN.{length, get_or, length-map}
+use Rattle.protocol.specs.Cost.{CostLeft}
+use Rattle.protocol.specs.declared.Cost.TheVariants.{Counted, Met}
+use Rattle.import_run.specs.Runs.{After, run_from, begun, counts_in}
+use Rattle.import_run.proofs.ListLaws.{Going, begins, goes_on, stops, done}
+use native.Mathlib.Omega.{arith}
+use Rattle.import_run.proofs.list.run.Given as goal
+
+abbrev pub invariant-loop-j : goal.invariant-loop-j
+invariant-loop-j l = (l.n ≡ length l.blocks) × Going l.l l.number l.blocks l.words (run_from l.l l.number 0 l.blocks (record { l.run = l.initial.run; l.table = l.initial.table })) l.table l.run l.j
+    × (length l.words ≡ length l.blocks)
+    × (length l.table ≡ length l.initial.table) × (l.j ≤ length l.blocks)
+
+abbrev pub decreases-loop-j : goal.decreases-loop-j
+decreases-loop-j l = l.n - l.j

@@ -1,0 +1,25 @@
+use Prim.Native.Nat.{◌/◌, ◌%◌}
+use mathlib.Core.List.{List}
+use Prim.Native.Nat.{ℕ}
+use mathlib.Core.Path.{ap, ◌∙◌}
+use native.Mathlib.Omega.{arith}
+use borrow.Author.Tests.{eqb-true}
+use Rattle.protocol.specs.Rows.{row_flags}
+use Rattle.sweeping.specs.Sweeps.{cleared_from}
+use Rattle.import_run.specs.Runs.{copies_out}
+use native.Mathlib.Omega.{arith}
+use Rattle.import_run.proofs.place.copy_out.Goals as goal
+
+pub overflow_sub-table : goal.overflow_sub-table
+overflow_sub-table c =
+    let k = c in
+    let s = k in
+    let a = s.args in
+    rw k.clear_used.ensures
+    (omega (arith, eqb-true (row_flags (cleared_from a.passed a.l a.table.now a.run.hand) a.s / 2 % 2) 1 s.requires.s_value))
+
+pub returns : goal.returns
+returns c =
+    let k = c in
+    let s = k in
+    rw (k.clear_used.ensures, s.requires.s_value)

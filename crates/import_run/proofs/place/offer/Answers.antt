@@ -1,0 +1,90 @@
+use Prim.Native.Nat.{ℕ}
+use mathlib.Core.List.{List, [], ◌∷◌}
+use mathlib.Core.Logic.{⊎_elim}
+use mathlib.Core.Path.{◌≡◌, refl, sym, ap, ◌∙◌}
+use native.Mathlib.Omega.{arith}
+use types.Run.{OneOf}
+use denote.Enum.Declared.{tag_of}
+use Rattle.layout.specs.declared.Slot.{Slot}
+use Rattle.layout.specs.declared.Block.{Block}
+use Rattle.layout.specs.declared.Label.{Label}
+use Rattle.turns.specs.declared.turn.Turn.{Turn}
+use Rattle.turns.specs.declared.turn.Turn.TheVariants.{Refused, Passes, Opens, CopiesOut}
+use Rattle.turns.specs.contracts.turn.Turn as turn-type
+use Rattle.import_run.specs.declared.Run.{Run}
+use Rattle.import_run.specs.Runs.{After, taken, offered, copies_out, copied_table}
+use Rattle.import_run.proofs.PlaceLaws.{Copied, steady_sweeps, steady_takes, steady_copies}
+use native.Mathlib.Omega.{arith}
+use Rattle.import_run.proofs.place.offer.Goals as goal
+use Rattle.import_run.proofs.place.offer.Tie as tie
+
+-- a turn that is no copy-out
+other : (T : Turn) (l : Label) (t : List ℕ) (r : Run) (n : ℕ) (b : Block) (d : Slot) → OneOf (0 ∷ 1 ∷ 2 ∷ []) (tag_of turn-type.the_type T)
+    → taken T l t r b d ≡ offered T l t r n b d
+other (Refused n) l t r m b d k = refl
+other Passes l t r m b d k = refl
+other (Opens s f n hand) l t r m b d k = refl
+other (CopiesOut s n) l t r m b d k = absurd (⊎_elim (λ z. omega arith) (⊎_elim (λ z. omega arith) (λ z. omega arith)) k)
+
+-- one that is
+copied : (s : tie.Start) {u : Slot} {n : ℕ} → s.args.turn ≡ CopiesOut u n
+    → Copied s.args.l s.args.table.now s.args.run.hand s.args.number u n
+copied s {u} {n} e = steady_copies s.requires.steady s.args.number s.args.b s.requires.b_lt_blocks u n (sym s.requires.turn_value ∙ e)
+
+pub take-requires : goal.take-requires
+take-requires c =
+    let s = c in
+    let a = s.args in
+    let p = s.requires in
+    let W = steady_sweeps p.steady in
+    record { table_len = (W.size, W.low); takes = rw (p.turn_value, p.d_value) (steady_takes p.steady a.number a.b p.b_lt_blocks); early = p.early.0 }
+
+pub returns-in_default : goal.returns-in_default
+returns-in_default c =
+    let a = c.args in
+    c.take.ensures
+    ∙ other a.turn a.l a.table.now a.run a.number a.b a.d c.in_default.keys2
+
+pub copy_out-next-requires : goal.copy_out-next-requires
+copy_out-next-requires c =
+    let s = c in
+    let p = s.requires in
+    let W = steady_sweeps p.steady in
+    let C = copied s c.in-CopiesOut.is in
+    ((W.size, W.low), (C.low, (C.was_dirty, p.early.1)))
+
+pub offer_at-again-requires : goal.offer_at-again-requires
+offer_at-again-requires c =
+    let k = c in
+    let C = copied k.before.before.before.before.before.before.before.before.before k.in-CopiesOut.is in
+    (rw (ap (λ (e : After). e.table) k.copy_out-next.ensures) (steady_sweeps C.steady), tt)
+
+pub take-requires-2 : goal.take-requires-2
+take-requires-2 c =
+    let k = c in
+    let s = k in
+    let C = copied s k.in-CopiesOut.is in
+    let W = steady_sweeps C.steady in
+    rw (
+      c.offer_at-again.ensures,
+      ap (λ (e : After). e.table) k.copy_out-next.ensures,
+      ap (λ (e : After). e.run)
+          k.copy_out-next.ensures,
+      C.next,
+    ) record { table_len = (W.size, C.low); takes = (C.low, omega arith); early = record { few_metadata = s.requires.early.0.few_metadata; few_landings = s.requires.early.0.few_landings } }
+
+pub returns : goal.returns
+returns c =
+    let d = c in
+    let k = d in
+    let s = k in
+    let a = s.args in
+    d.take-2.ensures
+    ∙ (rw (
+      d.offer_at-again.ensures,
+      ap (λ (e : After). e.table) k.copy_out-next.ensures,
+      ap (λ (e : After). e.run)
+          k.copy_out-next.ensures,
+    ))
+    ∙ ap (λ (T : Turn). offered T a.l a.table.now a.run a.number a.b a.d) (sym
+    k.in-CopiesOut.is)

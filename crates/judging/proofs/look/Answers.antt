@@ -1,0 +1,61 @@
+use mathlib.Core.Path.{◌≡◌, sym, ◌∙◌}
+use mathlib.Core.Bool.{true, false}
+use borrow.Author.Tests.{not-true, not-false}
+use Rattle.protocol.specs.Judge.{rows_test}
+use Rattle.record.specs.Record.{label_in}
+use Rattle.table.specs.Scan.{scan_of, legal_rows}
+use Rattle.table.proofs.ScanLaws.{Scanned, scanned, scan_judges}
+use Rattle.table.proofs.ConditionLaws.{condition_is}
+use Rattle.judging.proofs.JudgingLaws.{rows_bad, rows_agree}
+use Rattle.judging.proofs.look.Goals as goal
+use Rattle.judging.proofs.look.Tie as tie
+
+pub scan-scan-requires : goal.scan-scan-requires
+scan-scan-requires c = c.requires.table_len
+
+-- what the scan found, by the record's own label
+scan-is : (c : tie.After-scan) → let s = c.before.before.before in
+    c.scan-scan.result ≡ scan_of (label_in s.args.state) s.args.table.now s.args.b
+scan-is c =
+    let s = c in
+    c.scan-scan.ensures
+
+seen : (c : tie.Else1) → let s = c.before.before.before.before.before in
+    Scanned (label_in s.args.state) s.args.table.now s.args.b c.scan-scan.result
+seen c = scanned _ _ _ _ (scan-is c.before.before) (not-false _ c.if-not-scan.false)
+
+pub returns-then-not-scan : goal.returns-then-not-scan
+returns-then-not-scan c =
+    let s = c in
+    let q : legal_rows (label_in s.args.state) s.args.table.now ≡ false =
+    sym (scan_judges _ _ _ _ (scan-is c.before.before.before.before)) ∙ not-true _ c.if-not-scan.true in
+    rw (rows_bad s.args.state s.args.table.now q) c.refused.ensures
+
+pub agrees-requires : goal.agrees-requires
+agrees-requires c =
+    let s = c in
+    let k = seen c in
+    record { state_value = s.requires.state_value; table_len = s.requires.table_len; table_value = k.rows; writing_value = k.open_are; busy_value = k.busy_are }
+
+pub returns-then-not-agrees : goal.returns-then-not-agrees
+returns-then-not-agrees c =
+    let s = c in
+    let e = c in
+    let q : rows_test s.args.state s.args.table.now ≡ false =
+    sym (rows_agree _ _ (seen e.before.before.before.before).rows) ∙ sym e.agrees.ensures ∙ not-true _ c.if-not-agrees.true in
+    rw q c.refused-then-not-agrees.ensures
+
+pub condition-condition-requires : goal.condition-condition-requires
+condition-condition-requires c =
+    let e = c in
+    e.requires.table_len
+
+pub returns : goal.returns
+returns c =
+    let s = c in
+    let e = c in
+    let k = seen e.before.before.before.before in
+    let q : rows_test s.args.state s.args.table.now ≡ true =
+    sym (rows_agree _ _ k.rows) ∙ sym e.agrees.ensures ∙ not-false _ c.if-not-agrees.false in
+    let n = condition_is s.args.table.now s.args.b s.args.state.label.slots s.requires.table_len in
+    rw (q, c.condition-condition.ensures, k.open_are, k.found_at, n)

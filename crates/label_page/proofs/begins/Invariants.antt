@@ -1,0 +1,15 @@
+use Prim.Native.Nat.{◌+◌, ◌≤◌, ◌-◌}
+use native.Mathlib.Nat.{add-zero}
+use mathlib.Core.Path.{◌≡◌, sym, ap, ◌∙◌}
+use lib.ListN.{length, drop}
+use Rattle.layout.specs.LabelPage.{after}
+use Rattle.label_page.specs.LabelScan.{found}
+use Rattle.label_page.proofs.LabelSteps.{after_end, after-short, after_turn, after-other}
+use native.Mathlib.Omega.{arith}
+use Rattle.label_page.proofs.begins.Given as goal
+
+abbrev pub invariant-loop-i : goal.invariant-loop-i
+invariant-loop-i l = (l.i ≤ length l.text) × (found (after (drop l.i l.text) (drop (l.at + l.i) l.bytes)) ≡ found (after l.text (drop l.at l.bytes)))
+
+abbrev pub decreases-loop-i : goal.decreases-loop-i
+decreases-loop-i l = length l.text - l.i

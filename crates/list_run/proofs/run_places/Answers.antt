@@ -1,0 +1,219 @@
+use Prim.Native.Nat.{ℕ, ◌+◌, ◌-◌, ◌≤◌}
+use mathlib.Core.Logic.{◌≢◌}
+use mathlib.Core.List.{List}
+use mathlib.Core.Path.{◌≡◌, refl, sym, ap, subst, ◌∙◌}
+use lib.ListN.{length, get_or, length-map}
+use native.Mathlib.Omega.{arith}
+use Rattle.layout.specs.declared.Block.{Block}
+use Rattle.layout.specs.declared.Slot.{Slot}
+use Rattle.layout.specs.Places.{meta_of}
+use Rattle.record.specs.declared.Record.{Record}
+use Rattle.record.specs.Record.{label_in}
+use Rattle.record.proofs.RecordLaws.{parts, joined_is}
+use Rattle.turns.specs.declared.turn.Turn.{Turn}
+use Rattle.turns.specs.declared.turn.Turn.TheVariants.{Opens}
+use Rattle.turns.specs.Turns.{held_by, Performable}
+use Rattle.turns.proofs.TurnLaws.{crowd_seen, seen_sweeps}
+use Rattle.list_run.specs.declared.Run.{Run}
+use Rattle.list_turns.specs.PlaceTurns.{end_by, end_of, place_turn_at}
+use Rattle.list_run.specs.Runs.{opened_if, row_if, run_after, table_after_turn, place_turn}
+use Rattle.list_run.proofs.RunEndLaws.{goes_passes, run_ends, table-ends}
+use Rattle.list_run.proofs.FairLaws.{fair_seen}
+use Rattle.list_run.proofs.PlacedLaws.{place_turn_is, placing_performs}
+use Rattle.list_run.proofs.RunLaws.{held_more, held_most, Going, going_begin, going_done, Stepped, step, goes_further, ends_there}
+use Rattle.list_run.proofs.run_places.Goals as goal
+use Rattle.list_run.proofs.run_places.Tie as tie
+use Rattle.list_run.proofs.run_places.Invariants.{invariant-loop-j, decreases-loop-j}
+
+-- the run so far, as one
+abbrev run_of : Record → ℕ → ℕ → Run
+run_of state page j = record { state = state; page = page; places = j; end = 0 }
+
+-- the place at hand: where it starts, and what the call was given
+abbrev at : tie.After-decide invariant-loop-j decreases-loop-j → tie.At-loop invariant-loop-j decreases-loop-j
+at d = d.before.before.before.before.before.before.before.before
+
+abbrev start : tie.After-decide invariant-loop-j decreases-loop-j → tie.Start invariant-loop-j decreases-loop-j
+start d = (at d)
+
+abbrev block : tie.After-decide invariant-loop-j decreases-loop-j → Block
+block d = record { 0 = get_or (start d).args.blocks.now (at d).loop-j.j 0 }
+
+abbrev before : tie.After-decide invariant-loop-j decreases-loop-j → Run
+before d = let l = (at d).loop-j in run_of l.running l.page l.j
+
+-- what was decided is the place's turn
+decided : (d : tie.After-decide invariant-loop-j decreases-loop-j) →
+    d.decide-turn.result ≡ place_turn (at d).loop-j.table (at d).loop-j.running (block d) (start d).args.caller
+decided d =
+    let l = (at d).loop-j in
+    d.decide-turn.ensures
+    ∙ ap (λ (n : ℕ). place_turn_at l.running.label l.table l.running.hand n (block d))
+    (crowd_seen l.table l.running (start d).args.caller (fair_seen l.inv.1.kept.fair) d.crowded-number.ensures l.inv.5)
+
+-- what a turn makes of it
+abbrev Step : tie.After-decide invariant-loop-j decreases-loop-j → Turn → Type 0
+Step d T =
+    let a = (start d).args in
+    Stepped a.table.now a.state a.blocks.now a.words.now a.caller (at d).loop-j.j (run_after T (before d) a.caller)
+    (table_after_turn T (before d) (block d) (at d).loop-j.table)
+
+dealt : (d : tie.After-decide invariant-loop-j decreases-loop-j) → Step d d.decide-turn.result
+dealt d = let l = (at d).loop-j in let a = (start d).args in let p = (start d).requires in
+    subst (Step d) (sym (decided d))
+    (step a.table.now a.state a.blocks.now a.words.now a.caller l.table (before d) l.j l.inv.1 (omega arith)
+    p.1.1.1.0 p.1.1.1.1)
+
+-- and it can be performed
+performs : (d : tie.After-decide invariant-loop-j decreases-loop-j) {T : Turn} → d.decide-turn.result ≡ T → Performable T (at d).loop-j.table (at d).loop-j.running
+performs d e = let l = (at d).loop-j in let F = l.inv.1.kept.fair in
+    subst (λ (T : Turn). Performable T l.table l.running) (sym (decided d) ∙ e)
+    (placing_performs l.table l.running (block d) (start d).args.caller F
+    (place_turn_is l.table l.running (block d) (start d).args.caller F))
+
+-- a slot is opened: by which turn, one of the label's, with room in the window
+abbrev chosen : tie.After-turn invariant-loop-j decreases-loop-j → tie.After-decide invariant-loop-j decreases-loop-j
+chosen t = t.before.before.before.before
+
+opens : (t : tie.After-turn invariant-loop-j decreases-loop-j) → let d = chosen t in let g = t.turn-1.given.0 in
+    Performable (Opens g.0 g.1.0 g.1.1.0 g.1.1.1.0) (at d).loop-j.table (at d).loop-j.running
+opens t = performs (chosen t) t.in-Opens.is
+
+abbrev turned : tie.After-slice_known2 invariant-loop-j decreases-loop-j → tie.After-turn invariant-loop-j decreases-loop-j
+turned w = w.before.before.before.before.before
+
+pub loop-j-init : goal.loop-j-init
+loop-j-init c =
+    let s = c in
+    let a = s.args in (
+      refl,
+      going_begin a.table.now a.state a.blocks.now a.words.now a.caller s.requires.fair s.requires.words_value,
+      ap length s.requires.words_value ∙ length-map a.blocks.now _,
+      refl,
+      omega arith,
+      c.held-mine.ensures,
+    )
+
+pub decide-turn-requires : goal.decide-turn-requires
+decide-turn-requires c =
+    let l = c.loop-j in
+    let G = l.invariant.1 in
+    (seen_sweeps (fair_seen G.kept.fair), G.found l.j (omega arith) (omega arith))
+
+pub overflow_cast-result : goal.overflow_cast-result
+overflow_cast-result c =
+    let d = c in
+    omega (arith, (at d).loop-j.invariant.4, (start d).requires.blocks_len_bound)
+
+pub returns-then-end-ne0 : goal.returns-then-end-ne0
+returns-then-end-ne0 c =
+    let e = c in
+    let d = e in
+    let l = (at d).loop-j in
+    let a = (start d).args in
+    let T : Turn = d.decide-turn.result in
+    let n : end_by (label_in l.running) T l.page l.running.newest ≢ 0 = λ z. c.if-end-ne0.true (e.end_by-end.ensures ∙ z) in
+    let q = run_ends (before d) a.caller (block d) l.table T n
+    ∙ ap (λ (m : ℕ). record { state = l.running; page = l.page; places = l.j; end = m }) (sym e.end_by-end.ensures) in
+    ends_there c.if-end-ne0.true
+    (subst (λ (u : Run). Stepped a.table.now a.state a.blocks.now a.words.now a.caller l.j u l.table) q
+    (subst (λ (v : List ℕ). Stepped a.table.now a.state a.blocks.now a.words.now a.caller l.j (run_after T (before d) a.caller) v)
+    (table-ends (before d) a.caller (block d) l.table T n) (dealt d)))
+
+pub overflow_add-j : goal.overflow_add-j
+overflow_add-j c =
+    let d = c in
+    omega (arith, (at d).loop-j.invariant.4, (start d).requires.blocks_len_bound)
+
+pub loop-j-smaller-in_default : goal.loop-j-smaller-in_default
+loop-j-smaller-in_default c = omega arith
+
+pub loop-j-preserved-in_default : goal.loop-j-preserved-in_default
+loop-j-preserved-in_default c =
+    let o = c in
+    let d = o in
+    let l = (at d).loop-j in
+    let e = goes_passes (label_in l.running) d.decide-turn.result l.page l.running.newest c.in_default.keys2
+    (sym o.end_by-end.ensures ∙ o.if-end-ne0.false) in (
+      refl,
+      goes_further refl (subst (Step d) e (dealt d)),
+      l.inv.2,
+      l.inv.3,
+      omega (arith, l.inv.0, d.loop-j-test.true),
+      l.inv.5,
+    )
+
+pub open-requires : goal.open-requires
+open-requires c =
+    let t = c in
+    let F = (at (chosen t)).loop.inv.1.kept.fair in
+    record { table_len = (F.size, (seen_sweeps (fair_seen F)).low); s_lt_slots = (opens t).0 }
+
+pub overflow_cast-at : goal.overflow_cast-at
+overflow_cast-at c = omega (arith, (opens (turned c)).1)
+
+pub offset_bounds-running-at : goal.offset_bounds-running-at
+offset_bounds-running-at c = omega (arith, (opens (turned c)).1)
+
+pub bounds-running-at : goal.bounds-running-at
+bounds-running-at c = (opens (turned c)).1
+
+pub offset_bounds-running-at-in-loop-j : goal.offset_bounds-running-at-in-loop-j
+offset_bounds-running-at-in-loop-j c = omega (arith, (opens (turned c)).1)
+
+pub bounds-running-at-in-loop-j : goal.bounds-running-at-in-loop-j
+bounds-running-at-in-loop-j c = (opens (turned c)).1
+
+pub overflow_add-running : goal.overflow_add-running
+overflow_add-running c = omega (arith, (opens (turned c)).1)
+
+pub overflow_add-mine : goal.overflow_add-mine
+overflow_add-mine c =
+    let d = chosen (turned c) in
+    let l = (at d).loop-j in
+    omega (arith, l.inv.5, held_most l.running l.inv.1.kept.fair.record_kept (start d).args.caller, (start d).requires.caller_le_import_caller)
+
+pub loop-j-smaller : goal.loop-j-smaller
+loop-j-smaller c = omega arith
+
+pub loop-j-preserved : goal.loop-j-preserved
+loop-j-preserved c =
+    let w = c in
+    let t = turned w in
+    let d = chosen t in
+    let o = t in
+    let l = (at d).loop-j in
+    let a = (start d).args in
+    let g = t.turn-1.given.0 in
+    let s : Slot = g.0 in
+    let to : Slot = g.1.1.1.0 in
+    let F = l.inv.1.kept.fair in
+    let z : end_of (label_in l.running) l.page l.running.newest (meta_of s) ≡ 0 =
+    subst (λ (T : Turn). end_by (label_in l.running) T l.page l.running.newest ≡ 0) t.in-Opens.is
+    (sym o.end_by-end.ensures ∙ o.if-end-ne0.false) in
+    let r = joined_is l.running (parts l.running F.record_kept) s a.caller to (opens t).1 in
+    let q = ap (λ (m : ℕ). opened_if m (before d) s a.caller to) z
+    ∙ (λ i. record { state = sym r i; page = sym c.meta_of-page.ensures i + 1; places = l.j + 1; end = 0 }) in
+    let v = ap (λ (m : ℕ). row_if m (before d) (block d) s g.1.0 g.1.1.0 l.table) z ∙ sym w.open.ensures in (
+      refl,
+      goes_further refl
+          (subst (λ (u : Run). Stepped a.table.now a.state a.blocks.now a.words.now a.caller l.j u w.open.new.table.0) q
+          (subst (λ (v : List ℕ). Stepped a.table.now a.state a.blocks.now a.words.now a.caller l.j
+          (run_after (Opens s g.1.0 g.1.1.0 to) (before d) a.caller) v) v
+          (subst (Step d) t.in-Opens.is (dealt d)))),
+      l.inv.2,
+      omega (arith, w.open.auto, l.inv.3),
+      omega (arith, l.inv.0, d.loop-j-test.true),
+      ap (λ (m : ℕ). m + a.caller) l.inv.5 ∙ sym (held_more l.running F.record_kept s a.caller to (start d).requires.caller_le_import_caller)
+          ∙ ap (held_by a.caller) (sym r),
+    )
+
+pub overflow_cast-result-2 : goal.overflow_cast-result-2
+overflow_cast-result-2 c = omega (arith, c.loop-j.invariant.4, c.requires.blocks_len_bound)
+
+pub returns : goal.returns
+returns c =
+    let l = c.loop-j in
+    let a = c.args in
+    going_done a.table.now a.state a.blocks.now a.words.now a.caller l.table (run_of l.running l.page l.j) l.j l.invariant.1
+    (omega (arith, l.invariant.0, c.loop-j-test.false))

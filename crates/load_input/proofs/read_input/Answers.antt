@@ -1,0 +1,44 @@
+use mathlib.Core.Path.{sym, ap, ◌∙◌}
+use lib.ListN.{length-drop, drop_of_length-le}
+use Rattle.load_input.specs.LoadInput.{as_line}
+use Rattle.load_input.proofs.InputLaws.{first_none, seed_zero, second_none, bytes_left, input_is}
+use native.Mathlib.Omega.{arith}
+use Rattle.load_input.proofs.read_input.Goals as goal
+
+pub returns-in_default : goal.returns-in_default
+returns-in_default c =
+    let r = c in
+    first_none _ (sym r.read_line.ensures ∙ ap (as_line _) c.in_default.is)
+
+pub returns-then-seed-eq0 : goal.returns-then-seed-eq0
+returns-then-seed-eq0 c =
+    let k = c in
+    let r = k in
+    let e = sym r.read_line.ensures ∙ ap (as_line _) k.in-Value.is in
+    seed_zero _ _ _ e c.if-seed-eq0.true
+
+pub returns-in_default-read_line : goal.returns-in_default-read_line
+returns-in_default-read_line c =
+    let k = c in
+    let r = k in
+    let e = sym r.read_line.ensures ∙ ap (as_line _) k.in-Value.is in
+    let s = c in
+    second_none _ _ _ e s.if-seed-eq0.false (sym s.read_line-2.ensures ∙ ap (as_line _) c.in_default-read_line.is)
+
+pub returns-then-end-bytes : goal.returns-then-end-bytes
+returns-then-end-bytes c =
+    let k = c in
+    let r = k in
+    let e = sym r.read_line.ensures ∙ ap (as_line _) k.in-Value.is in
+    let s = c in
+    let f = sym s.read_line-2.ensures ∙ ap (as_line _) c.in-Value-read_line.is in
+    bytes_left _ _ _ e s.if-seed-eq0.false _ _ f (simp length-drop (omega arith))
+
+pub returns : goal.returns
+returns c =
+    let k = c in
+    let r = k in
+    let e = sym r.read_line.ensures ∙ ap (as_line _) k.in-Value.is in
+    let s = c in
+    let f = sym s.read_line-2.ensures ∙ ap (as_line _) c.in-Value-read_line.is in
+    input_is _ _ _ e s.if-seed-eq0.false _ _ f (drop_of_length-le _ {i = c.in-Value-read_line.end} (omega arith))

@@ -1,0 +1,61 @@
+use Prim.Native.Nat.{ℕ, ◌-◌, ◌≤◌}
+use mathlib.Core.Path.{◌≡◌, refl, sym, ◌∙◌}
+use mathlib.Core.List.{List}
+use lib.ListN.{length}
+use Rattle.record.specs.declared.Record.{Record}
+use Rattle.protocol.specs.Calls.{box_of}
+use Rattle.load_run.specs.Runs.{Load, run_from}
+use Rattle.load_run.proofs.RunLaws.{run_none, counted-most, run_more, run-done}
+use native.Mathlib.Omega.{arith}
+use Rattle.load_run.proofs.run.Goals as goal
+
+-- the load so far
+abbrev load_of : List ℕ → List ℕ → List ℕ → Record → List ℕ → ℕ → Load
+load_of ssd hdd table state plain n = record { box = box_of ssd hdd table state; plain = plain; refusals = n }
+
+pub loop-i-init : goal.loop-i-init
+loop-i-init c = (omega arith, omega arith, refl, refl, refl, refl, run_none _ _ _)
+
+pub count-refusals-requires : goal.count-refusals-requires
+count-refusals-requires c = omega arith
+
+pub overflow_add-i : goal.overflow_add-i
+overflow_add-i c =
+    let i = c in
+    omega (arith, i.loop-i-test.true, i.ranges)
+
+pub loop-i-preserved : goal.loop-i-preserved
+loop-i-preserved c =
+    let m = c in
+    let d = m in
+    let l = d.loop-i in
+    let a = d.args in
+    let h = d.loop-i-test.true in
+    let n = counted-most m.make-turn.result.refused l.refusals c.count-refusals.result c.count-refusals.ensures in (
+      omega (arith, h),
+      omega (arith, n, l.invariant.1),
+      search rules,
+      search rules,
+      search rules,
+      search rules,
+      run_more a.draws l.i l.s d.draw-s.result (load_of l.ssd l.hdd l.table l.false l.plain l.refusals) _ _ h
+          d.draw-s.ensures m.make-turn.ensures c.count-refusals.ensures
+          ∙ l.invariant.6,
+    )
+
+pub shape_of-ssd : goal.shape_of-ssd
+shape_of-ssd c = c.loop-i.invariant.2
+
+pub shape_of-hdd : goal.shape_of-hdd
+shape_of-hdd c = c.loop-i.invariant.3
+
+pub shape_of-table : goal.shape_of-table
+shape_of-table c = c.loop-i.invariant.4
+
+pub shape_of-plain : goal.shape_of-plain
+shape_of-plain c = c.loop-i.invariant.5
+
+pub returns : goal.returns
+returns c =
+    let l = c.loop-i in
+    sym (run-done _ l.i l.s _ (omega arith)) ∙ l.invariant.6

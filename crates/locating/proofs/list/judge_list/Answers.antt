@@ -1,0 +1,42 @@
+use Prim.Native.Nat.{ℕ, ◌≤◌, ◌<◌}
+use mathlib.Core.Path.{◌≡◌, sym, subst, ◌∙◌}
+use lib.Dec.{leb}
+use borrow.Author.Tests.{lt-leb, le-leb}
+use Rattle.protocol.specs.Kinds.{highest}
+use Rattle.judging.specs.Judging.{refuse_if, list_then}
+use Rattle.locating.proofs.ListLaws.{none_listed, many_listed, other-room, listed_well}
+use native.Mathlib.Omega.{arith}
+use Rattle.locating.proofs.list.judge_list.Goals as goal
+use Rattle.locating.proofs.list.judge_list.Tie as tie
+
+pub returns-then-n-eq0 : goal.returns-then-n-eq0
+returns-then-n-eq0 c = let a = c.args in none_listed a.blocks.now a.room a.limit c.if-n-eq0.true
+
+pub returns-then-n-gt64 : goal.returns-then-n-gt64
+returns-then-n-gt64 c = let a = c.args in many_listed a.blocks.now a.room a.limit c.if-n-gt64.true
+
+pub returns-then-n-room : goal.returns-then-n-room
+returns-then-n-room c =
+    let e = c in
+    let a = e.args in
+    other-room a.blocks.now a.room a.limit e.if-n-eq0.false (omega (arith, e.if-n-gt64.false)) c.if-n-room.true
+
+-- where it is not 16
+abbrev start : tie.Else3 → tie.Start
+start e = e.before.before.before.before
+
+well : (e : tie.Else3) → let a = (start e).args in
+    list_then a.blocks.now a.room a.limit 0 ≡ refuse_if (leb a.limit (highest a.blocks.now)) 7 0
+well e =
+    let a = (start e).args in
+    listed_well a.blocks.now a.room a.limit e.if-n-eq0.false (omega (arith, e.if-n-gt64.false)) e.if-n-room.false
+
+pub returns-then-limit-highest : goal.returns-then-limit-highest
+returns-then-limit-highest c =
+    let h = c in
+    sym (well h.before.before.before ∙ rw (le-leb _ _ (subst (λ (n : ℕ). (start h.before.before.before).args.limit ≤ n) h.highest.ensures c.if-limit-highest.true)))
+
+pub returns : goal.returns
+returns c =
+    let h = c in
+    sym (well h.before.before.before ∙ rw (lt-leb _ _ (subst (λ (n : ℕ). n < (start h.before.before.before).args.limit) h.highest.ensures c.if-limit-highest.false)))

@@ -1,0 +1,18 @@
+use Prim.Native.Nat.{◌-◌}
+use mathlib.Core.Path.{◌≡◌, refl}
+use lib.ListN.{length, get_or}
+use Rattle.locating.specs.Places.{noted_as}
+use Rattle.locating.proofs.WordLaws.{Renewed, renew_begin, renew_more}
+use native.Mathlib.Omega.{arith}
+use Rattle.locating.proofs.pass.note.Goals as goal
+
+pub loop-j-init : goal.loop-j-init
+loop-j-init c = (renew_begin _ _, refl, c.requires)
+
+pub loop-j-preserved : goal.loop-j-preserved
+loop-j-preserved c =
+    let l = c.loop-j in
+    (renew_more _ _ _ l.j _ l.invariant.0 (omega (arith, l.invariant.0.size)) c.noted.ensures, l.invariant.1, l.invariant.2)
+
+pub returns : goal.returns
+returns c = let l = c.loop-j in λ j h. l.invariant.0.new j (omega (arith, l.invariant.1, c.loop-j-test.false))

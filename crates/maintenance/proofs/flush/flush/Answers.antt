@@ -1,0 +1,69 @@
+use mathlib.Core.Path.{◌≡◌}
+use native.Mathlib.Omega.{arith}
+use lib.ListN.{length}
+use borrow.Author.Tests.{not-true, not-false, le-leb, lt-leb}
+use Rattle.layout.specs.Stamps.{largest_stamp}
+use Rattle.record.specs.Record.{label_in}
+use Rattle.protocol.specs.Plan.{flush}
+use Rattle.protocol.specs.Perform.{confirmed, perform}
+use Rattle.protocol.specs.Calls.{box_of}
+use Rattle.judging.specs.Judging.{ready_then}
+use Rattle.judging.proofs.JudgingLaws.{found, looked}
+use Rattle.judging.proofs.ServeLaws.{refused_by, flush_judges}
+use Rattle.judging.proofs.ReadyLaws.{ready}
+use Rattle.layout.proofs.PlaceLaws.{meta_of-low}
+use Rattle.judging.proofs.CallLaws.{flush_idle, flush_spent, flush_done}
+use Rattle.maintenance.proofs.flush.flush.Goals as goal
+use Rattle.maintenance.proofs.flush.flush.Tie as tie
+
+-- what is found where 3 to 6 are passed
+abbrev start : tie.Else1 → tie.Start
+start c = c.before.before.before.before.before
+
+passed : (c : tie.Else1) → let a = (start c).args in
+    ready_then (length a.ssd.now) (length a.hdd.now) 4096 a.table.now a.state 0 ≡ 0
+passed c = let a = (start c).args in
+    (looked _ a.table.now (record { 0 = 0 }) c.judge_ready-seen.ensures c.if-number-ne0.false).none
+
+pub returns-then-number-ne0 : goal.returns-then-number-ne0
+returns-then-number-ne0 c =
+    let e = c in
+    let a = e.args in
+    rw c.refused.ensures
+    (refused_by flush (box_of a.ssd.now a.hdd.now a.table.now a.state) _ _ (flush_judges a.ssd.now a.hdd.now a.table.now a.state) e.judge_ready-seen.result.number
+    (found _ a.table.now (record { 0 = 0 }) e.judge_ready-seen.ensures) c.if-number-ne0.true)
+
+pub returns-then-not-state : goal.returns-then-not-state
+unfolding confirmed perform
+returns-then-not-state c =
+    let e = c in
+    let a = (start e).args in
+    rw c.answered.ensures (flush_idle a.ssd.now a.hdd.now a.table.now a.state (passed e) (not-true _ c.if-not-state.true))
+
+pub returns-then-top-state : goal.returns-then-top-state
+returns-then-top-state c =
+    let n = c in
+    let e = n in
+    let a = (start e).args in
+    rw c.refused-then-top-state.ensures
+    (flush_spent a.ssd.now a.hdd.now a.table.now a.state (passed e) (not-false _ n.if-not-state.false)
+    (le-leb (largest_stamp (label_in a.state)) _ (omega (arith, n.largest_stamp-top.ensures, c.if-top-state.true))))
+
+pub confirm-requires : goal.confirm-requires
+confirm-requires c =
+    let n = c in
+    let e = n in
+    let a = (start e).args in
+    let B = ready a.ssd.now a.hdd.now 4096 a.table.now a.state (passed e) in record { fits_record = B.box.fits; p_bound = meta_of-low (label_in a.state) (record { 0 = 0 }) B.box.sound.limits.some_slot; newest_bound = omega (arith, n.largest_stamp-top.ensures, c.if-top-state.false) }
+
+pub returns : goal.returns
+unfolding confirmed perform
+returns c =
+    let k = c in
+    let n = k in
+    let e = n in
+    let a = (start e).args in
+    let z = c.confirm.ensures in
+    rw (z.0, z.1)
+    (flush_done a.ssd.now a.hdd.now a.table.now a.state (passed e) (not-false _ n.if-not-state.false)
+    (lt-leb (largest_stamp (label_in a.state)) _ (omega (arith, n.largest_stamp-top.ensures, k.if-top-state.false))))

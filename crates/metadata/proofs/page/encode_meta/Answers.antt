@@ -1,0 +1,7 @@
+use mathlib.Core.Path.{refl}
+use Rattle.pages.specs.Pages.{padded}
+use Rattle.metadata.proofs.page.encode_meta.Goals as goal
+
+pub fill_meta-requires : goal.fill_meta-requires
+unfolding padded
+fill_meta-requires c = (refl, (refl, search rules))

@@ -1,0 +1,7 @@
+use Rattle.layout.specs.MetaPage.{decode_entry}
+use native.Mathlib.Omega.{arith}
+use Rattle.metadata.proofs.page.read_entry.Goals as goal
+
+pub returns : goal.returns
+unfolding decode_entry
+returns c = λ i. record { block = record { 0 = c.word_at-block.ensures i }; flags = c.wide-flags.ensures.0 i }

@@ -1,0 +1,7 @@
+use Rattle.layout.specs.MetaPage.{stamp_of}
+use native.Mathlib.Omega.{arith}
+use Rattle.metadata.proofs.page.stamp_of.Goals as goal
+
+pub returns : goal.returns
+unfolding stamp_of
+returns c = c.word_at.ensures

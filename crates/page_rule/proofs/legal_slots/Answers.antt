@@ -1,0 +1,69 @@
+use Prim.Native.Nat.{ℕ, ◌≤◌, ◌<◌, ◌-◌, ◌+◌}
+use mathlib.Core.Path.{◌≡◌, sym, ap, ◌∙◌}
+use mathlib.Core.Bool.{Bool, true, false, not, ◌&&◌, and-false}
+use mathlib.Core.List.{List}
+use lib.ListN.{drop}
+use lib.Dec.{ltb}
+use borrow.Author.Tests.{lt-ltb, le-ltb}
+use Rattle.layout.specs.MetaPage.{count_of, window_of, slot_at}
+use Rattle.layout.specs.PageRule.{in_range, listed, distinct}
+use Rattle.layout.proofs.Loops.{go_on, stop}
+use Rattle.layout.proofs.JudgeLaws.{slots-left, slots_end}
+use native.Mathlib.Omega.{arith}
+use Rattle.page_rule.proofs.legal_slots.Goals as goal
+use Rattle.page_rule.proofs.legal_slots.Tie as tie
+use Rattle.page_rule.proofs.legal_slots.Invariants.{invariant-loop-k, decreases-loop-k}
+
+-- the turn's slot, and where the loop stands
+abbrev start : tie.After-struct_known2 invariant-loop-k decreases-loop-k → tie.Start invariant-loop-k decreases-loop-k
+start c = c.before.before.before.before.before.before
+
+abbrev at : tie.After-struct_known2 invariant-loop-k decreases-loop-k → tie.At-loop invariant-loop-k decreases-loop-k
+at c = c.before.before.before.before
+
+abbrev test : tie.After-struct_known2 invariant-loop-k decreases-loop-k → Bool
+test c =
+    let s = slot_at (start c).args.page.now (at c).loop-k.k in
+    ltb s.0 (start c).args.l.slots && not (listed s (drop ((at c).loop-k.k + 1) (window_of (start c).args.page.now)))
+
+slot : (c : tie.After-struct_known2 invariant-loop-k decreases-loop-k) → c.slot_at-s.result ≡ slot_at (start c).args.page.now (at c).loop-k.k
+slot c = c.slot_at-s.ensures
+
+below : (c : tie.After-struct_known2 invariant-loop-k decreases-loop-k) → (at c).loop-k.k < count_of (start c).args.page.now
+below c = omega arith
+
+pub returns-then-l-s : goal.returns-then-l-s
+returns-then-l-s c =
+    let q = c in
+    let l = (at q).loop-k in
+    let s = start q in
+    let x : ltb (slot_at s.args.page.now l.k).0 s.args.l.slots ≡ false = le-ltb _ _ (rw (slot q) at c.if-l-s.true) in
+    stop (test q) _ l.inv.1 (slots-left s.args.l s.args.page.now l.k (below q)) (rw x)
+
+pub returns-then-listed_from : goal.returns-then-listed_from
+returns-then-listed_from c =
+    let q = c in
+    let l = (at q).loop-k in
+    let s = start q in
+    let y : listed (slot_at s.args.page.now l.k) (drop (l.k + 1) (window_of s.args.page.now)) ≡ true =
+    sym (rw (slot q) at c.listed_from.ensures) ∙ c.if-listed_from.true
+    in
+    let x : Bool = ltb (slot_at s.args.page.now l.k).0 s.args.l.slots in
+    stop (test q) _ l.inv.1 (slots-left s.args.l s.args.page.now l.k (below q)) (ap (λ (t : Bool). x && not t) y ∙ and-false x)
+
+pub loop-k-preserved : goal.loop-k-preserved
+loop-k-preserved c =
+    let q = c in
+    let l = (at q).loop-k in
+    let s = start q in
+    let x : ltb (slot_at s.args.page.now l.k).0 s.args.l.slots ≡ true = lt-ltb _ _ (rw (slot q) at c.if-l-s.false) in
+    let y : listed (slot_at s.args.page.now l.k) (drop (l.k + 1) (window_of s.args.page.now)) ≡ false =
+    sym (rw (slot q) at c.listed_from.ensures) ∙ c.if-listed_from.false
+    in
+    (omega arith, go_on (test q) _ l.inv.1 (slots-left s.args.l s.args.page.now l.k (below q)) (rw (x, y)))
+
+pub returns : goal.returns
+returns c =
+    let l = c.loop-k in
+    let s = c in
+    sym (slots_end s.args.l s.args.page.now l.k (omega arith)) ∙ l.invariant.1

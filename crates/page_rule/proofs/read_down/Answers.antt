@@ -1,0 +1,128 @@
+use Prim.Native.Nat.{ℕ, ◌+◌, ◌≤◌, ◌<◌}
+use mathlib.Core.Path.{◌≡◌, refl, sym, ◌∙◌}
+use mathlib.Core.Bool.{Bool, true, false}
+use borrow.Author.Tests.{not-true, not-false}
+use Rattle.layout.specs.PageRule.{passes, read_down, field_test}
+use Rattle.layout.proofs.Booleans.{and_of, skip}
+use Rattle.layout.proofs.RuleLaws.{count-rule}
+use Rattle.layout.proofs.RowLaws.{read_next, read_less, read_more, read_all}
+use native.Mathlib.Omega.{arith}
+use Rattle.page_rule.proofs.read_down.Goals as goal
+use Rattle.page_rule.proofs.read_down.Tie as tie
+
+-- the page read down to a row, and the test of one row
+module _ (s : tie.Start) where
+  abbrev Read : ℕ → Bool
+  Read k = read_down k s.args.l s.args.p s.args.page.now
+
+  abbrev Field : ℕ → Bool
+  Field row = field_test row s.args.l s.args.p s.args.page.now
+
+  first : Read 1 ≡ true
+  unfolding passes
+  first = refl
+
+  next : (k : ℕ) → Read k ≡ true → Field (k + 1) ≡ true → Read (k + 1) ≡ true
+  next k e f = read_next _ _ _ k ∙ and_of e f
+
+  -- told to stop after k rows, which pass; refused by the row after these
+  stops : (k : ℕ) → Read k ≡ true → s.args.rows ≤ k → true ≡ Read s.args.rows
+  stops k e h = sym (read_less _ _ _ k s.args.rows h e)
+
+  refuses : (k : ℕ) → Read k ≡ true → Field (k + 1) ≡ false → k < s.args.rows → false ≡ Read s.args.rows
+  refuses k e f h = sym (read_more _ _ _ (k + 1) s.args.rows (omega arith) (read_next _ _ _ k ∙ skip _ e ∙ f))
+
+-- the rows that are passed at each place
+abbrev start2 : tie.Else2 → tie.Start
+start2 c = c.before.before.before.before
+
+count-passed : (c : tie.Else2) → Field (start2 c) 2 ≡ true
+count-passed c = sym c.legal_count.ensures ∙ not-false _ c.if-not-legal_count.false
+
+passed2 : (c : tie.Else2) → Read (start2 c) 2 ≡ true
+passed2 c = next (start2 c) 1 (first (start2 c)) (count-passed c)
+
+abbrev start4 : tie.Else4 → tie.Start
+start4 c = start2 c.before.before.before
+
+passed4 : (c : tie.Else4) → Read (start4 c) 3 ≡ true
+passed4 c =
+    next (start4 c) 2 (passed2 c.before.before.before) (sym c.all_zero.ensures ∙ not-false _ c.if-not-all_zero.false)
+
+abbrev start6 : tie.Else6 → tie.Start
+start6 c = start4 c.before.before.before
+
+passed6 : (c : tie.Else6) → Read (start6 c) 4 ≡ true
+passed6 c =
+    next (start6 c) 3 (passed4 c.before.before.before) (sym c.legal_window.ensures ∙ not-false _ c.if-not-legal_window.false)
+
+abbrev start8 : tie.Else8 → tie.Start
+start8 c = start6 c.before.before.before
+
+passed8 : (c : tie.Else8) → Read (start8 c) 5 ≡ true
+passed8 c =
+    let f = not-false (Field (start8 c) 5) (cc c.if-not-all_zero-2.false) in
+    next (start8 c) 4 (passed6 c.before.before.before) f
+
+abbrev start10 : tie.Else10 → tie.Start
+start10 c = start8 c.before.before.before
+
+passed10 : (c : tie.Else10) → Read (start10 c) 6 ≡ true
+passed10 c =
+    let f = sym c.legal_entries.ensures ∙ not-false _ c.if-not-legal_entries.false in
+    next (start10 c) 5 (passed8 c.before.before.before) f
+
+pub returns-then-rows-lt2 : goal.returns-then-rows-lt2
+returns-then-rows-lt2 c = let s = c in stops s 1 (first s) (omega arith)
+
+pub returns-then-not-legal_count : goal.returns-then-not-legal_count
+returns-then-not-legal_count c =
+    let s = c in
+    refuses s 1 (first s) (sym c.legal_count.ensures ∙ not-true _ c.if-not-legal_count.true) (omega arith)
+
+pub returns-then-rows-lt3 : goal.returns-then-rows-lt3
+returns-then-rows-lt3 c = stops (start2 c.before.before) 2 (passed2 c.before.before) (omega arith)
+
+pub returns-then-not-all_zero : goal.returns-then-not-all_zero
+returns-then-not-all_zero c =
+    let b = c in
+    refuses (start2 b) 2 (passed2 b) (sym c.all_zero.ensures ∙ not-true _ c.if-not-all_zero.true) (omega arith)
+
+pub returns-then-rows-lt4 : goal.returns-then-rows-lt4
+returns-then-rows-lt4 c = stops (start4 c.before.before) 3 (passed4 c.before.before) (omega arith)
+
+pub legal_window-requires : goal.legal_window-requires
+legal_window-requires c = record { page_len = search rules; page_bound = ((count-rule _).0 (count-passed c.before.before.before.before.before)).most }
+
+pub returns-then-not-legal_window : goal.returns-then-not-legal_window
+returns-then-not-legal_window c =
+    let b = c in
+    refuses (start4 b) 3 (passed4 b) (sym c.legal_window.ensures ∙ not-true _ c.if-not-legal_window.true) (omega arith)
+
+pub returns-then-rows-lt5 : goal.returns-then-rows-lt5
+returns-then-rows-lt5 c = stops (start6 c.before.before) 4 (passed6 c.before.before) (omega arith)
+
+pub returns-then-not-all_zero-2 : goal.returns-then-not-all_zero-2
+returns-then-not-all_zero-2 c =
+    let b = c in
+    let f = sym c.all_zero-2.ensures ∙ not-true _ c.if-not-all_zero-2.true in
+    refuses (start6 b) 4 (passed6 b) f (omega arith)
+
+pub returns-then-rows-lt6 : goal.returns-then-rows-lt6
+returns-then-rows-lt6 c = stops (start8 c.before.before) 5 (passed8 c.before.before) (omega arith)
+
+pub returns-then-not-legal_entries : goal.returns-then-not-legal_entries
+returns-then-not-legal_entries c =
+    let b = c in
+    let f = sym c.legal_entries.ensures ∙ not-true _ c.if-not-legal_entries.true in
+    refuses (start8 b) 5 (passed8 b) f (omega arith)
+
+pub returns-then-rows-lt7 : goal.returns-then-rows-lt7
+returns-then-rows-lt7 c = stops (start10 c.before.before) 6 (passed10 c.before.before) (omega arith)
+
+pub returns : goal.returns
+returns c =
+    let b = c in
+    let s = start10 b in
+    let a = read_all s.args.l s.args.p s.args.page.now s.args.rows (omega arith) in
+    c.all_zero-3.ensures ∙ sym (a ∙ read_next _ _ _ 6 ∙ skip _ (passed10 b))

@@ -1,0 +1,84 @@
+use mathlib.Core.Path.{◌≡◌}
+use Rattle.protocol.specs.declared.Condition.{Condition}
+use Rattle.protocol.specs.Box.{left}
+use Rattle.protocol.specs.Plan.{lookUp, looking_up}
+use Rattle.protocol.specs.Perform.{perform}
+use Rattle.protocol.specs.Calls.{box_of, look_up_of}
+use Rattle.judging.proofs.JudgingLaws.{found}
+use Rattle.judging.proofs.ServeLaws.{refused_by, look_up_judges}
+use Rattle.judging.proofs.SlotLaws.{flags_low}
+use Rattle.judging.proofs.ServedLaws.{Served, served}
+use Rattle.judging.proofs.CallLaws.{look_up_is}
+use Rattle.read_path.proofs.look_up.look_up.Goals as goal
+use Rattle.read_path.proofs.look_up.look_up.Tie as tie
+
+pub returns-then-number-ne0 : goal.returns-then-number-ne0
+returns-then-number-ne0 c =
+    let e = c in
+    let a = e.args in
+    rw c.refused.ensures
+    (refused_by (lookUp a.block) (box_of a.ssd.now a.hdd.now a.table.now a.state) _ _
+    (look_up_judges a.ssd.now a.hdd.now a.table.now a.state a.block)
+    e.judge_block-seen.result.number (found _ a.table.now a.block e.judge_block-seen.ensures) c.if-number-ne0.true)
+
+-- 3 to 7 are passed
+abbrev start : tie.Else1 → tie.Start
+start c = c.before.before.before.before.before
+
+known : (c : tie.Else1) → let a = (start c).args in
+    Served a.ssd.now a.hdd.now 4096 a.table.now a.state a.block 0 c.judge_block-seen.result
+known c = let a = (start c).args in
+    served a.ssd.now a.hdd.now 4096 a.table.now a.state a.block 0 c.judge_block-seen.ensures c.if-number-ne0.false
+
+-- what the call leaves, by the block's condition
+done : (c : tie.Else1) (k : Condition) → c.judge_block-seen.result.condition ≡ k → let a = (start c).args in
+    let x = box_of a.ssd.now a.hdd.now a.table.now a.state in
+    left (perform (looking_up k) x) x.images ≡ look_up_of a.ssd.now a.hdd.now a.table.now a.state a.block
+done c k e = let a = (start c).args in
+    look_up_is a.ssd.now a.hdd.now a.table.now a.state a.block k ((known c).is k e) (known c).none
+
+pub use_slot-requires : goal.use_slot-requires
+use_slot-requires c =
+    let e = c in
+    let a = (start e).args in
+    let R = (known e).row _ c.in-Clean.is in
+    record { s_in_bounds = R.within; s_bound = flags_low a.state a.table.now (known e).box.box.sound.table-size (known e).box.box.rows _ R.low }
+
+pub use_slot-requires-in-Dirty : goal.use_slot-requires-in-Dirty
+use_slot-requires-in-Dirty c =
+    let e = c in
+    let a = (start e).args in
+    let R = (known e).row _ c.in-Dirty.is in
+    (R.within, flags_low a.state a.table.now (known e).box.box.sound.table-size (known e).box.box.rows _ R.low)
+
+pub returns-in-NotCached : goal.returns-in-NotCached
+unfolding perform
+returns-in-NotCached c =
+    let k = c.in-NotCached.is in
+    rw (c.answered.ensures, k) (done c.before.before.before.before _ k)
+
+pub returns-in-Clean : goal.returns-in-Clean
+unfolding perform
+returns-in-Clean c =
+    let u = c in
+    let k = u in
+    rw (c.answered-in-Clean.ensures, u.use_slot.ensures) (done k.before.before.before.before.before.before.before.before.before _ k.in-Clean.is)
+
+pub returns-in-Dirty : goal.returns-in-Dirty
+unfolding perform
+returns-in-Dirty c =
+    let u = c in
+    let k = u in
+    rw (c.answered-in-Dirty.ensures, u.use_slot-in-Dirty.ensures) (done k.before.before.before.before.before.before.before.before.before _ k.in-Dirty.is)
+
+pub returns-in-Writing : goal.returns-in-Writing
+unfolding perform
+returns-in-Writing c =
+    let k = c.in-Writing.is in
+    rw (c.answered-in-Writing.ensures, k) (done c.before.before.before.before _ k)
+
+pub returns-in-Fetching : goal.returns-in-Fetching
+unfolding perform
+returns-in-Fetching c =
+    let k = c.in-Fetching.is in
+    rw (c.answered-in-Fetching.ensures, k) (done c.before.before.before.before _ k)

@@ -1,0 +1,36 @@
+use Prim.Native.Nat.{◌≤◌, ◌-◌}
+use mathlib.Core.Path.{◌≡◌, sym, ap, ◌∙◌}
+use lib.ListN.{length, get_or, take, drop}
+use lib.Dec.{ltb}
+use borrow.Author.Tests.{lt-ltb, le-ltb}
+use Rattle.layout.specs.PageRule.{in_range}
+use Rattle.layout.proofs.Loops.{go_on, stop, length-mapped}
+use Rattle.record.proofs.WindowLaws.{range_left, window_end}
+use native.Mathlib.Omega.{arith}
+use Rattle.record_rule.proofs.in_range.Goals as goal
+
+pub returns-then-l-s : goal.returns-then-l-s
+returns-then-l-s c =
+    let l = c.loop-i in
+    let s = c in
+    let all : length s.args.w.slots ≡ 63 = search (rules, length-mapped) in
+    stop (ltb (get_or s.args.w.slots l.i _).0 s.args.l.slots) _ l.invariant.1
+    (range_left s.args.w.slots s.args.w.count l.i _ (omega arith) (omega (arith, s.requires)) s.args.l) (le-ltb _ _ c.if-l-s.true)
+
+pub loop-i-preserved : goal.loop-i-preserved
+loop-i-preserved c =
+    let l = c.loop-i in
+    let s = c in
+    let all : length s.args.w.slots ≡ 63 = search (rules, length-mapped) in (
+      omega arith,
+      go_on (ltb (get_or s.args.w.slots l.i _).0 s.args.l.slots) _ l.invariant.1
+          (range_left s.args.w.slots s.args.w.count l.i _ (omega arith) (omega (arith, s.requires)) s.args.l)
+          (lt-ltb _ _ c.if-l-s.false),
+    )
+
+pub returns : goal.returns
+unfolding in_range
+returns c =
+    let l = c.loop-i in
+    let s = c in
+    sym (ap (in_range s.args.l) (window_end s.args.w.slots s.args.w.count l.i (omega arith))) ∙ l.invariant.1

@@ -1,0 +1,16 @@
+use Prim.Native.Nat.{◌≤◌, ◌-◌}
+use mathlib.Core.Path.{◌≡◌, sym, ap, ◌∙◌}
+use lib.ListN.{length, get_or, take, drop}
+use lib.Dec.{ltb}
+use borrow.Author.Tests.{lt-ltb, le-ltb}
+use Rattle.layout.specs.PageRule.{in_range}
+use Rattle.layout.proofs.Loops.{go_on, stop, length-mapped}
+use Rattle.record.proofs.WindowLaws.{range_left, window_end}
+use native.Mathlib.Omega.{arith}
+use Rattle.record_rule.proofs.in_range.Given as goal
+
+abbrev pub invariant-loop-i : goal.invariant-loop-i
+invariant-loop-i l = (l.i ≤ l.n) × (in_range l.l (drop l.i (take l.n l.slots)) ≡ in_range l.l (take l.n l.slots))
+
+abbrev pub decreases-loop-i : goal.decreases-loop-i
+decreases-loop-i l = l.n - l.i

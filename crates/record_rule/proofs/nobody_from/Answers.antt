@@ -1,0 +1,35 @@
+use Prim.Native.Nat.{ℕ, ◌≤◌, ◌-◌}
+use mathlib.Core.Path.{◌≡◌, refl, sym, ap, ◌∙◌}
+use mathlib.Core.Bool.{◌&&◌}
+use mathlib.Core.List.{List}
+use lib.ListN.{length, get_or, drop, drop_of_length-le}
+use lib.Dec.{eqb}
+use Rattle.layout.proofs.Booleans.{and_last}
+use Rattle.record.specs.Window.{each_place}
+use Rattle.record.proofs.Each.{each_at}
+use Rattle.record.proofs.CallerLaws.{one_further}
+use native.Mathlib.Omega.{arith}
+use Rattle.record_rule.proofs.nobody_from.Goals as goal
+
+pub loop-at-init : goal.loop-at-init
+loop-at-init c = (search rules, refl)
+
+pub loop-at-preserved : goal.loop-at-preserved
+loop-at-preserved c =
+    let b = c in
+    let cs = b.args.t1 in
+    let all : length cs ≡ 63 = search rules in (
+      omega arith,
+      one_further b.loop-at.ok _ (eqb (get_or cs b.loop-at.at 0) 0) _ b.loop-at.invariant.1
+          (each_at (λ x. eqb x 0) cs b.loop-at.at 0 (omega arith)) c.both-ok.ensures,
+    )
+
+pub returns : goal.returns
+unfolding each_place
+returns c =
+    let b = c in
+    let cs = b.args.t1 in
+    let all : length cs ≡ 63 = search rules in
+    and_last b.loop-at.ok
+    ∙ ap (λ (l : List ℕ). b.loop-at.ok && each_place (λ x. eqb x 0) l) (sym (drop_of_length-le cs {i = b.loop-at.at} (omega arith)))
+    ∙ b.loop-at.invariant.1

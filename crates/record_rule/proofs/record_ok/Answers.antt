@@ -1,0 +1,107 @@
+use Prim.Native.Nat.{ℕ, ◌≤◌}
+use mathlib.Core.Path.{◌≡◌, refl, sym, ◌∙◌}
+use native.Mathlib.Omega.{arith}
+use mathlib.Core.Bool.{Bool, true, false, ◌&&◌}
+use lib.ListN.{length, drop}
+use lib.Dec.{eqb, ltb, leb}
+use borrow.Author.Tests.{not-true, not-false, lt-ltb, le-ltb, le-leb, lt-leb}
+use Rattle.layout.specs.Places.{within_limits}
+use Rattle.layout.specs.PageRule.{distinct, in_range}
+use Rattle.record.specs.declared.Record.{Record}
+use Rattle.record.specs.declared.Phase.{Phase}
+use Rattle.record.specs.declared.Phase.TheVariants.{Formatting, Recovering, Ready}
+use Rattle.record.specs.Window.{zero_slots}
+use Rattle.record.specs.Callers.{named_places}
+use Rattle.record.specs.Record.{window_in}
+use Rattle.record.specs.Rule.{record_test, steps_test}
+use Rattle.record_rule.proofs.record_ok.Goals as goal
+use Rattle.record_rule.proofs.record_ok.Tie as tie
+
+limits : (c : tie.Else1) → within_limits c.args.r.label ≡ true
+limits c = sym c.within_limits.ensures ∙ not-false _ c.if-not-within_limits.false
+
+pub returns-then-not-within_limits : goal.returns-then-not-within_limits
+unfolding record_test
+returns-then-not-within_limits c = rw (sym c.within_limits.ensures ∙ not-true _ c.if-not-within_limits.true)
+
+-- what the first two tests leave
+first_two : (c : tie.Else2) (rest : Bool) → let r = c.args.r in
+    (within_limits r.label && (ltb r.hand.0 r.label.slots && rest)) ≡ rest
+first_two c rest = rw (limits c.before.before.before.before, lt-ltb _ _ c.if-l-hand.false)
+
+pub returns-then-l-hand : goal.returns-then-l-hand
+unfolding record_test
+returns-then-l-hand c = rw (limits c.before.before.before.before.before, le-ltb _ _ c.if-l-hand.true)
+
+pub returns-then-not-steps_ok : goal.returns-then-not-steps_ok
+unfolding record_test
+returns-then-not-steps_ok c = rw (first_two c.before.before.before _, sym c.steps_ok.ensures ∙ not-true _ c.if-not-steps_ok.true)
+
+-- what the first three tests leave
+first_three : (c : tie.Else3) (rest : Bool)
+    → let r = c.args.r in
+    (within_limits r.label && (ltb r.hand.0 r.label.slots && (steps_test r.label r.phase && rest))) ≡ rest
+first_three c rest = rw (first_two c.before.before _, sym c.steps_ok.ensures ∙ not-false _ c.if-not-steps_ok.false)
+
+pub returns-then-r : goal.returns-then-r
+unfolding record_test
+returns-then-r c = rw (first_three c.before.before.before _, lt-leb _ _ c.if-r.true)
+
+pub window_ok-requires : goal.window_ok-requires
+window_ok-requires c = rw c.window_of.ensures c.if-r.false
+
+-- the window's tests, and what comes after them
+then_window : (r : Record) (ok rest : Bool)
+    → ok ≡ (eqb (length r.window) 63 && (in_range r.label (window_in r) && (distinct (window_in r) && zero_slots (drop r.count r.window))))
+    → (eqb (length r.window) 63
+    && (in_range r.label (window_in r) && (distinct (window_in r) && (zero_slots (drop r.count r.window) && rest)))) ≡ (ok && rest)
+then_window r ok rest e =
+    rw e
+    (grouped (eqb (length r.window) 63) (in_range r.label (window_in r)) (distinct (window_in r)) (zero_slots (drop r.count r.window))
+    rest)
+  where
+    grouped : (a b d z rest : Bool) → (a && (b && (d && (z && rest)))) ≡ ((a && (b && (d && z))) && rest)
+    grouped true true true z rest = refl
+    grouped true true false z rest = refl
+    grouped true false d z rest = refl
+    grouped false b d z rest = refl
+
+-- what the first four tests leave, once the window is judged
+four : (c : tie.After-window_ok) (rest : Bool)
+    → let r = c.args.r in
+    (within_limits r.label
+    && (ltb r.hand.0 r.label.slots
+    && (steps_test r.label r.phase
+    && (leb r.count 63
+    && (eqb (length r.window) 63
+    && (in_range r.label (window_in r) && (distinct (window_in r) && (zero_slots (drop r.count r.window) && rest)))))))) ≡
+    (c.window_ok.result && rest)
+unfolding window_in
+four c rest =
+    let e = c in
+    let r = e.args.r in
+    rw (first_three e.before.before.before.before _, le-leb _ _ e.if-r.false)
+    (then_window r c.window_ok.result rest (rw c.window_of.ensures at c.window_ok.ensures))
+
+pub returns-then-not-window_ok : goal.returns-then-not-window_ok
+unfolding record_test
+returns-then-not-window_ok c = sym (four c.before.before _ ∙ rw (not-true c.window_ok.result c.if-not-window_ok.true))
+
+pub callers_ok-requires : goal.callers_ok-requires
+callers_ok-requires c =
+    let e = c in
+    let r = e.args.r in
+    rw c.named_places.ensures (few r.phase e.if-r.false)
+  where
+    few : (p : Phase) {n : ℕ} → n ≤ 63 → named_places p n ≤ 63
+    few (Formatting d) h = h
+    few Recovering h = omega arith
+    few Ready h = h
+
+pub returns : goal.returns
+unfolding record_test
+returns c =
+    let n = c in
+    let e = n in
+    let t = rw n.named_places.ensures at c.callers_ok.ensures in
+    sym (four e.before.before.before.before.before _ ∙ rw (not-false e.window_ok.result e.if-not-window_ok.false) (sym t))

@@ -1,0 +1,70 @@
+use mathlib.Core.Path.{sym, ◌∙◌}
+use borrow.Author.Tests.{not-true, not-false}
+use Rattle.stored.proofs.ReadLaws.{limits}
+use Rattle.stored.proofs.ReopenLaws.{unlabelled, wrong_length, sizes, bad_pages, taken}
+use Rattle.recovery.proofs.reopen.reopen.Goals as goal
+
+pub returns-in_default : goal.returns-in_default
+returns-in_default c =
+    let a = c.args in
+    rw c.refused.ensures
+    (unlabelled a.ssd.now a.hdd.now a.table.now a.state
+    (sym c.label_of.ensures ∙ c.in_default.is))
+
+pub returns-then-not-lengths_ok : goal.returns-then-not-lengths_ok
+returns-then-not-lengths_ok c =
+    let a = c.args in
+    rw c.refused-then-not-lengths_ok.ensures
+    (wrong_length a.ssd.now a.hdd.now a.table.now a.state _
+    (sym c.label_of.ensures ∙ c.in-Legal.is)
+    (sym c.lengths_ok.ensures ∙ not-true _ c.if-not-lengths_ok.true))
+
+pub pages_ok-requires : goal.pages_ok-requires
+pages_ok-requires c =
+    let a = c.args in
+    let e = (sym c.label_of.ensures ∙ c.in-Legal.is) in record {
+      ssd_len = (sizes a.ssd.now a.hdd.now a.table.now a.state _ e
+          (sym c.lengths_ok.ensures ∙ not-false _ c.if-not-lengths_ok.false)).0;
+      limits = limits a.ssd.now _ e;
+    }
+
+pub returns-then-not-pages_ok : goal.returns-then-not-pages_ok
+returns-then-not-pages_ok c =
+    let a = c.args in
+    rw c.refused-then-not-pages_ok.ensures
+    (bad_pages a.ssd.now a.hdd.now a.table.now a.state _
+    (sym c.label_of.ensures
+    ∙ c.in-Legal.is)
+    (sym c.lengths_ok.ensures ∙ not-false _ c.if-not-lengths_ok.false)
+    (sym c.pages_ok.ensures ∙ not-true _ c.if-not-pages_ok.true))
+
+pub recover-next-requires : goal.recover-next-requires
+recover-next-requires c =
+    let a = c.args in
+    let e = (sym c.label_of.ensures
+    ∙ c.in-Legal.is) in
+    let z = sizes a.ssd.now a.hdd.now a.table.now a.state _ e
+    (sym c.lengths_ok.ensures ∙ not-false _ c.if-not-lengths_ok.false) in (
+      z.0,
+      (
+        z.1,
+        (
+          limits a.ssd.now _ e,
+          sym c.pages_ok.ensures
+              ∙ not-false _ c.if-not-pages_ok.false,
+        ),
+      ),
+    )
+
+pub returns : goal.returns
+returns c =
+    let mid = c in
+    let a = mid.args in
+    rw c.answered.ensures
+    (taken a.ssd.now a.hdd.now a.table.now a.state _
+    (sym c.label_of.ensures
+    ∙ c.in-Legal.is)
+    (sym c.lengths_ok.ensures ∙ not-false _
+    c.if-not-lengths_ok.false) _
+    (sym c.pages_ok.ensures ∙ not-false _
+    c.if-not-pages_ok.false) c.recover-next.ensures)

@@ -1,0 +1,21 @@
+use mathlib.Core.Path.{sym, ◌∙◌}
+use borrow.Author.Tests.{not-true, not-false}
+use Rattle.scan_rule.proofs.ScanLaws.{scan_empty, scan_long, scan_twice, scan_fits}
+use native.Mathlib.Omega.{arith}
+use Rattle.scan_rule.proofs.judge_scan.Goals as goal
+
+pub returns-then-n-eq0 : goal.returns-then-n-eq0
+returns-then-n-eq0 c = scan_empty c.args.blocks.now c.if-n-eq0.true
+
+pub returns-then-n-gt-MOST : goal.returns-then-n-gt-MOST
+returns-then-n-gt-MOST c = scan_long c.args.blocks.now c.if-n-gt-MOST.true
+
+pub returns-then-not-names_once : goal.returns-then-not-names_once
+returns-then-not-names_once c =
+    let e = c in
+    scan_twice e.args.blocks.now (omega (arith, e.if-n-eq0.false)) (omega (arith, e.if-n-gt-MOST.false)) (sym c.names_once.ensures ∙ not-true _ c.if-not-names_once.true)
+
+pub returns : goal.returns
+returns c =
+    let e = c in
+    scan_fits e.args.blocks.now (omega (arith, e.if-n-eq0.false)) (omega (arith, e.if-n-gt-MOST.false)) (sym c.names_once.ensures ∙ not-false _ c.if-not-names_once.false)

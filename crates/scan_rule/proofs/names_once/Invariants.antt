@@ -1,0 +1,15 @@
+use Prim.Native.Nat.{◌-◌}
+use mathlib.Core.Path.{◌≡◌, refl, sym, ap, ◌∙◌}
+use mathlib.Core.Bool.{not}
+use lib.ListN.{length, drop}
+use Rattle.layout.proofs.Loops.{go_on, stop}
+use Rattle.protocol.specs.Judge.{names_once}
+use Rattle.scan_rule.proofs.ScanLaws.{once-left, once_end}
+use native.Mathlib.Omega.{arith}
+use Rattle.scan_rule.proofs.names_once.Given as goal
+
+abbrev pub invariant-loop-j : goal.invariant-loop-j
+invariant-loop-j l = (l.n ≡ length l.blocks) × (names_once (drop l.j l.blocks) ≡ names_once l.blocks)
+
+abbrev pub decreases-loop-j : goal.decreases-loop-j
+decreases-loop-j l = l.n - l.j

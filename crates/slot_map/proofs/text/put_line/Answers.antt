@@ -1,0 +1,50 @@
+use native.Mathlib.Omega.{arith}
+use Prim.Native.Nat.{ℕ, ◌+◌, ◌*◌, ◌<◌}
+use mathlib.Core.Path.{◌≡◌, sym, ap, ◌∙◌}
+use mathlib.Core.List.{List}
+use lib.ListN.{length, set, length-set}
+use borrow.Rule.Slice.PartMut.{put_mid}
+use Rattle.layout.proofs.JudgeLaws.{length-firsts}
+use Rattle.protocol.specs.SlotMap.{letter_at}
+use Rattle.laws.proofs.SlotMaps.{length-number}
+use Rattle.slot_map.proofs.TextLaws.{number-length, letters_length, line_is}
+use Rattle.slot_map.proofs.text.put_line.Goals as goal
+use Rattle.slot_map.proofs.text.put_line.Tie as tie
+
+-- the line's number is written, then its letters
+numbered : (c : tie.After-put_number) → let a = c.args in
+    length (set (put_mid 0 5 a.line.now c.put_number.new.part) 5 32) ≡ 67
+numbered c =
+    let s = c in
+    let low : 60 * s.args.k < 100000 = omega (arith, s.requires.slots_bound, s.requires.k_bound) in
+    number-length s.args.line.now c.put_number.new.part s.requires.line_len (ap length c.put_number.ensures ∙ length-number (60 * s.args.k) low)
+
+lettered : (c : tie.After-put_letters) → let n = c in let a = n.args in
+    length (put_mid 6 60 (set (put_mid 0 5 a.line.now n.put-number.new.0) 5 32) c.put_letters.new.part) ≡ 67
+lettered c =
+    let n = c in
+    let a = n.args in
+    letters_length (set (put_mid 0 5 a.line.now n.put_number.new.part) 5 32) c.put_letters.new.part (numbered n)
+    (ap length c.put_letters.ensures ∙ length-firsts 60 (λ i. letter_at a.l a.table.now (60 * a.k + i)))
+
+pub slice_bounds-put_letters-end : goal.slice_bounds-put_letters-end
+slice_bounds-put_letters-end c = omega (arith, numbered c.before.before.before)
+
+pub bounds-line-66 : goal.bounds-line-66
+bounds-line-66 c = omega (arith, lettered c.before.before.before)
+
+pub shape_of-line : goal.shape_of-line
+shape_of-line c =
+    let p = c in
+    let n = p in
+    let s = n in
+    let line : List ℕ = put_mid 6 60 (set (put_mid 0 5 s.args.line.now n.put_number.new.part) 5 32) p.put_letters.new.part in
+    length-set line 66 10 ∙ lettered p ∙ sym s.requires.line_len
+
+pub returns : goal.returns
+returns c =
+    let n = c in
+    let s = n in
+    let a = s.args in
+    let low : 60 * a.k < 100000 = omega (arith, s.requires.slots_bound, s.requires.k_bound) in
+    rw (n.put_number.ensures, c.put_letters.ensures) (line_is a.l a.table.now a.line.now a.k s.requires.line_len low)

@@ -1,0 +1,32 @@
+use Prim.Native.Nat.{ℕ, ◌-◌, ◌*◌, ◌≤◌, ◌<◌}
+use mathlib.Core.Path.{◌≡◌, refl, ap, ◌∙◌}
+use mathlib.Core.List.{◌++◌}
+use native.Mathlib.Nat.{add-sub_cancel_left}
+use lib.ListN.{length, drop}
+use borrow.Rule.Slice.PartMut.{put_mid}
+use Rattle.protocol.specs.SlotMap.{lines_of, map_lines}
+use Rattle.slot_map.proofs.TextLaws.{lines_more}
+use native.Mathlib.Omega.{arith}
+use Rattle.slot_map.proofs.text.put_map.Goals as goal
+
+pub loop-k-init : goal.loop-k-init
+unfolding lines_of
+loop-k-init c = (omega arith, refl, refl)
+
+pub loop-k-preserved : goal.loop-k-preserved
+loop-k-preserved c =
+    let L = c.loop-k in
+    let s = c in
+    let few : L.k < 960 = omega (arith, s.requires.slots_bound) in (
+      search rules,
+      search rules,
+      (λ i. put_mid (67 * L.k) (add-sub_cancel_left (67 * L.k) 67 i) (L.invariant.2 i) (c.put_line.ensures i))
+          ∙ lines_more s.args.l s.args.table.now s.args.sheet.now L.k few,
+    )
+
+pub returns : goal.returns
+returns c =
+    let L = c.loop-k in
+    let s = c in
+    let e : L.k ≡ map_lines s.args.l = omega arith in
+    L.invariant.2 ∙ ap (λ (k : ℕ). lines_of s.args.l s.args.table.now k ++ drop (67 * k) s.args.sheet.now) e

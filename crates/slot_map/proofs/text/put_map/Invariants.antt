@@ -1,0 +1,16 @@
+use Prim.Native.Nat.{ℕ, ◌-◌, ◌*◌, ◌≤◌, ◌<◌}
+use mathlib.Core.Path.{◌≡◌, refl, ap, ◌∙◌}
+use mathlib.Core.List.{◌++◌}
+use native.Mathlib.Nat.{add-sub_cancel_left}
+use lib.ListN.{length, drop}
+use borrow.Rule.Slice.PartMut.{put_mid}
+use Rattle.protocol.specs.SlotMap.{lines_of, map_lines}
+use Rattle.slot_map.proofs.TextLaws.{lines_more}
+use native.Mathlib.Omega.{arith}
+use Rattle.slot_map.proofs.text.put_map.Given as goal
+
+abbrev pub invariant-loop-k : goal.invariant-loop-k
+invariant-loop-k l = (l.k ≤ l.lines) × (length l.sheet ≡ length l.initial.sheet) × (l.sheet ≡ lines_of l.l l.table l.k ++ drop (67 * l.k) l.initial.sheet)
+
+abbrev pub decreases-loop-k : goal.decreases-loop-k
+decreases-loop-k l = l.lines - l.k

@@ -1,0 +1,12 @@
+use Rattle.steps.proofs.MendLaws.{mended_is}
+use Rattle.steps.proofs.step.mended.Goals as goal
+
+pub off_page-left-requires : goal.off_page-left-requires
+off_page-left-requires c = rw c.window_of.ensures c.requires
+
+pub returns : goal.returns
+returns c =
+    let w = c in
+    let o = w in
+    mended_is _ _ _ _ _ _ _ o.window_of.ensures o.off_page-left.ensures w.with_window-next.ensures c.phase_of.ensures
+    c.with_phase.ensures

@@ -1,0 +1,38 @@
+use Prim.Native.Nat.{ℕ, ◌≤◌, ◌-◌}
+use mathlib.Core.Path.{◌≡◌, ap, ◌∙◌}
+use lib.ListN.{length, take, length-take}
+use Rattle.layout.specs.Window.{window_from}
+use Rattle.layout.proofs.Loops.{length-mapped}
+use Rattle.protocol.specs.Recovery.{off_page}
+use Rattle.record.proofs.RecordLaws.{from_zero}
+use Rattle.steps.proofs.MendLaws.{off_most, off_one, more_from}
+use native.Mathlib.Omega.{arith}
+use Rattle.steps.proofs.step.off_page.Goals as goal
+
+pub loop-i-init : goal.loop-i-init
+unfolding off_page
+loop-i-init c = (search rules, c.empty-left.ensures)
+
+pub more_off-left-requires : goal.more_off-left-requires
+more_off-left-requires c =
+    let l = c.loop-i in
+    let s = c in
+    let w = take l.i s.args.w.slots in
+    rw l.invariant.1 (from_zero (off_page s.args.p w), omega (arith, off_most s.args.p w, length-take l.i s.args.w.slots, s.requires))
+
+pub loop-i-preserved : goal.loop-i-preserved
+loop-i-preserved c =
+    let l = c.loop-i in
+    let s = c in
+    let all : length s.args.w.slots ≡ 63 = search (rules, length-mapped) in (
+      search rules,
+      more_from s.args.p _ l.false (off_page s.args.p (take l.i s.args.w.slots)) _ l.invariant.1 c.more_off-left.ensures
+          ∙ ap window_from (off_one s.args.p s.args.w.slots l.i _ (omega (arith, s.requires))),
+    )
+
+pub returns : goal.returns
+returns c =
+    let l = c.loop-i in
+    let s = c in
+    let e : l.i ≡ s.args.w.count = omega arith in
+    l.invariant.1 ∙ ap (λ (n : ℕ). window_from (off_page s.args.p (take n s.args.w.slots))) e

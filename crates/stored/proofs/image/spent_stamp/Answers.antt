@@ -1,0 +1,8 @@
+use Rattle.protocol.specs.Recovery.{metas_of}
+use Rattle.stored.proofs.StoredLaws.{found}
+use Rattle.stored.proofs.image.spent_stamp.Goals as goal
+
+pub returns : goal.returns
+returns c =
+    let s = c in
+    (found (metas_of s.args.l s.args.ssd.now) c.newest-found.result c.newest-found.ensures).stamp_is

@@ -1,0 +1,15 @@
+use Prim.Native.Nat.{ℕ, ◌+◌, ◌-◌, ◌≤◌, ◌<◌}
+use mathlib.Core.Path.{◌≡◌, refl, sym, ap, ◌∙◌}
+use mathlib.Core.Bool.{true, false}
+use native.Mathlib.Omega.{arith}
+use Rattle.layout.specs.declared.Slot.{Slot}
+use Rattle.protocol.specs.Sweep.{next_slot}
+use Rattle.sweeping.specs.Sweeps.{lap_from, slot_past}
+use Rattle.sweeping.proofs.SweepLaws.{past_none, past_next, lap_begun, lap_on, lap_took, lap_done}
+use Rattle.sweeping.proofs.sweep.sweep.Given as goal
+
+abbrev pub invariant-loop-k : goal.invariant-loop-k
+invariant-loop-k l = (l.slots ≡ l.l.slots) × (l.k ≤ l.slots) × (lap_from (l.slots - l.k) l.k l.l l.table (slot_past l.k l.l l.hand) l.first ≡ lap_from l.slots 0 l.l l.table l.hand l.slots)
+
+abbrev pub decreases-loop-k : goal.decreases-loop-k
+decreases-loop-k l = l.slots - l.k

@@ -1,0 +1,8 @@
+use native.Mathlib.Nat.{add-sub_cancel_left}
+use native.Mathlib.Omega.{arith}
+use Rattle.text.proofs.put_text.Goals as goal
+
+pub returns : goal.returns
+returns c =
+    let a = c.args in
+    simp (c.copy.ensures, add-sub_cancel_left)

@@ -1,0 +1,81 @@
+use mathlib.Core.Path.{◌≡◌, refl, sym, ap, ◌∙◌}
+use Rattle.protocol.specs.Box.{Effect, left}
+use Rattle.protocol.specs.Plan.{offer}
+use Rattle.protocol.specs.Perform.{confirmed, perform}
+use Rattle.protocol.specs.Calls.{box_of, offer_of}
+use Rattle.turns.specs.declared.turn.Turn.{Turn}
+use Rattle.turns.specs.Turns.{Within, offer_turn, turned}
+use Rattle.judging.proofs.JudgingLaws.{found}
+use Rattle.judging.proofs.ServeLaws.{refused_by, offer_judges}
+use Rattle.judging.proofs.ServedLaws.{Served, served}
+use Rattle.turns.proofs.TurnLaws.{pass_is, seen, where_within}
+use Rattle.performing.proofs.PerformLaws.{offer_performs, offer_turned}
+use Rattle.write_path.proofs.offer.offer.Goals as goal
+use Rattle.write_path.proofs.offer.offer.Tie as tie
+
+-- 3 to 7 are passed
+abbrev start : tie.Else1 → tie.Start
+start c = c.before.before.before.before.before
+
+known : (c : tie.Else1) → let a = (start c).args in
+    Served a.ssd.now a.hdd.now 4096 a.table.now a.state a.block a.caller c.judge_block-seen.result
+known c = let a = (start c).args in
+    served a.ssd.now a.hdd.now 4096 a.table.now a.state a.block a.caller c.judge_block-seen.ensures c.if-number-ne0.false
+
+-- the slot that the block's condition names
+within : (c : tie.Else1) → Within (start c).args.state.label.slots c.judge_block-seen.result.condition
+within c =
+    let a = (start c).args in
+    let k = c.judge_block-seen.result.condition in
+    where_within a.state a.table.now a.block k ((known c).row k refl)
+
+pub returns-then-number-ne0 : goal.returns-then-number-ne0
+returns-then-number-ne0 c =
+    let e = c in
+    let a = e.args in
+    rw c.refused.ensures
+    (refused_by (offer a.block a.caller) (box_of a.ssd.now a.hdd.now a.table.now a.state) _ _ (offer_judges a.ssd.now a.hdd.now a.table.now a.state a.block a.caller) e.judge_block-seen.result.number
+    (found _ a.table.now a.block e.judge_block-seen.ensures) c.if-number-ne0.true)
+
+pub offer-turn-requires : goal.offer-turn-requires
+offer-turn-requires c =
+    let e = c in
+    let a = (start e).args in (
+      seen a.ssd.now a.hdd.now 4096 a.table.now a.state a.block a.caller _ (known e),
+      within e,
+    )
+
+-- what its turn leaves is what the call does
+offered : (d : tie.After-offer) → let a = (start d.before).args in let x = box_of a.ssd.now a.hdd.now a.table.now a.state in
+    left (turned d.offer-turn.result a.block a.caller x) x.images ≡ offer_of a.ssd.now a.hdd.now a.table.now a.state a.block a.caller
+offered d =
+    let e = d in
+    let a = (start e).args in
+    let x = box_of a.ssd.now a.hdd.now a.table.now a.state in
+    ap (λ (T : Turn). left (turned T a.block a.caller x) x.images)
+    (d.offer-turn.ensures ∙ ap (offer_turn a.table.now a.state a.caller) (sym ((known e).is _ refl)))
+    ∙ ap (λ (f : Effect). left f x.images) (sym (offer_turned a.ssd.now a.hdd.now a.table.now a.state a.block a.caller (known e).none))
+
+pub returns-then-passes : goal.returns-then-passes
+unfolding confirmed perform
+returns-then-passes c =
+    let p = c in
+    let d = p in
+    let a = (start d.before.before.before.before.before).args in
+    let x = box_of a.ssd.now a.hdd.now a.table.now a.state in
+    rw c.answered.ensures
+    (ap (λ (T : Turn). left (turned T a.block a.caller x) x.images) (sym (pass_is d.offer-turn.result (sym p.passes.ensures ∙ c.if-passes.true))) ∙ offered d)
+
+pub perform-requires : goal.perform-requires
+perform-requires c =
+    let d = c in
+    let e = d in
+    let a = (start e).args in
+    let B = (known e).box.box in
+    let p = offer_performs a.ssd.now a.hdd.now a.table.now a.state a.block a.caller (known e).none e.judge_block-seen.result.condition (within e) in
+    record { fits_record = B.fits; hdd_len = B.sound.hdd-size; state_value = B.record_kept; table_value = B.rows; performable = rw d.offer-turn.ensures p }
+
+pub returns : goal.returns
+returns c =
+    let f = c in
+    f.perform.ensures ∙ offered f.before.before.before.before.before.before.before.before.before.before.before.before.before
