@@ -4,7 +4,7 @@ use borrow.Author.Tests.{le-leb, lt-leb, lt-ltb, le-ltb}
 use Rattle.judging.specs.Judging.{ready_then}
 use Rattle.judging.proofs.JudgingLaws.{ready_asks, stops, goes_on, found}
 use Rattle.judging.proofs.judge_block.Goals as goal
-use Rattle.judging.proofs.judge_block.Tie as tie
+use Rattle.judging.proofs.judge_block.Goals.{Else-judged-ne0}
 
 pub returns-then-judged-ne0 : goal.returns-then-judged-ne0
 returns-then-judged-ne0 c =
@@ -14,14 +14,14 @@ returns-then-judged-ne0 c =
     e.judge_ready-judged.ensures
 
 -- 3 to 6 are passed
-ready : (c : tie.Else1) → let a = c.args in
+ready : (c : Else-judged-ne0) → let a = c.args in
     ready_then a.ssd a.hdd a.page a.table.now a.state 0 ≡ 0
 ready c =
     let a = c.args in
     sym (found (ready_then a.ssd a.hdd a.page a.table.now a.state 0) a.table.now a.b c.judge_ready-judged.ensures)
     ∙ c.if-judged-ne0.false
 
-on : (c : tie.Else1) (rest : ℕ) → let a = c.args in
+on : (c : Else-judged-ne0) (rest : ℕ) → let a = c.args in
     ready_then a.ssd a.hdd a.page a.table.now a.state rest ≡ rest
 on c rest = let a = c.args in
     goes_on (ready_asks a.ssd a.hdd a.page a.table.now a.state) (ready c) rest
@@ -29,16 +29,16 @@ on c rest = let a = c.args in
 pub returns-then-caller-gt-IMPORT : goal.returns-then-caller-gt-IMPORT
 returns-then-caller-gt-IMPORT c =
     let t = c in
-    rw (on t.before.before.before _, lt-ltb _ _ t.if-caller-gt-IMPORT.true) c.refused.ensures
+    rw (on (goal.at.returns-then-caller-gt-IMPORT t).Else-judged-ne0 _, lt-ltb _ _ t.if-caller-gt-IMPORT.true) c.refused.ensures
 
 pub returns-then-state-b : goal.returns-then-state-b
 returns-then-state-b c =
     let t = c in
     let d = t in
-    rw (on d.before.before.before.before.before.before _, le-ltb _ _ d.if-caller-gt-IMPORT.false, le-leb _ _ t.if-state-b.true) c.refused-then-state-b.ensures
+    rw (on (goal.at.returns-then-state-b d).Else-judged-ne0 _, le-ltb _ _ d.if-caller-gt-IMPORT.false, le-leb _ _ t.if-state-b.true) c.refused-then-state-b.ensures
 
 pub returns : goal.returns
 returns c =
     let d = c in
     let k = d in
-    rw (on k _, le-ltb _ _ d.if-caller-gt-IMPORT.false, lt-leb _ _ c.if-state-b.false) (rw (ready k) at k.judge_ready-judged.ensures)
+    rw (on (goal.at.returns k).Else-judged-ne0 _, le-ltb _ _ d.if-caller-gt-IMPORT.false, lt-leb _ _ c.if-state-b.false) (rw (ready (goal.at.returns k).Else-judged-ne0) at k.judge_ready-judged.ensures)

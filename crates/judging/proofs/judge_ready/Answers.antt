@@ -4,7 +4,7 @@ use borrow.Author.Tests.{not-true, not-false}
 use Rattle.judging.specs.Judging.{sound_then}
 use Rattle.judging.proofs.JudgingLaws.{sound_asks, stops, goes_on, found}
 use Rattle.judging.proofs.judge_ready.Goals as goal
-use Rattle.judging.proofs.judge_ready.Tie as tie
+use Rattle.judging.proofs.judge_ready.Goals.{Else-judged-ne0}
 
 pub returns-then-judged-ne0 : goal.returns-then-judged-ne0
 returns-then-judged-ne0 c =
@@ -14,14 +14,14 @@ returns-then-judged-ne0 c =
     e.judge_box-judged.ensures
 
 -- 3, 4 and 5 are passed
-sound : (c : tie.Else1) → let a = c.args in
+sound : (c : Else-judged-ne0) → let a = c.args in
     sound_then a.ssd a.hdd a.page a.table.now a.state 0 ≡ 0
 sound c =
     let a = c.args in
     sym (found (sound_then a.ssd a.hdd a.page a.table.now a.state 0) a.table.now a.b c.judge_box-judged.ensures)
     ∙ c.if-judged-ne0.false
 
-on : (c : tie.Else1) (rest : ℕ) → let a = c.args in
+on : (c : Else-judged-ne0) (rest : ℕ) → let a = c.args in
     sound_then a.ssd a.hdd a.page a.table.now a.state rest ≡ rest
 on c rest = let a = c.args in
     goes_on (sound_asks a.ssd a.hdd a.page a.table.now a.state) (sound c) rest
@@ -29,10 +29,10 @@ on c rest = let a = c.args in
 pub returns-then-not-is_ready : goal.returns-then-not-is_ready
 returns-then-not-is_ready c =
     let r = c in
-    rw (on r.before.before.before.before _, sym r.is_ready.ensures ∙ not-true _ c.if-not-is_ready.true) c.refused.ensures
+    rw (on (goal.at.returns-then-not-is_ready r).Else-judged-ne0 _, sym r.is_ready.ensures ∙ not-true _ c.if-not-is_ready.true) c.refused.ensures
 
 pub returns : goal.returns
 returns c =
     let r = c in
     let e = r in
-    rw (on r.before.before.before _, sym r.is_ready.ensures ∙ not-false _ c.if-not-is_ready.false) (rw (sound r.before.before.before) at e.judge_box-judged.ensures)
+    rw (on (goal.at.returns r).Else-judged-ne0 _, sym r.is_ready.ensures ∙ not-false _ c.if-not-is_ready.false) (rw (sound (goal.at.returns r).Else-judged-ne0) at e.judge_box-judged.ensures)

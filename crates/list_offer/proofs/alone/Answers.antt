@@ -10,13 +10,13 @@ use Rattle.list_run.proofs.FairLaws.{fair_seen, fair-legal}
 use Rattle.list_turns.proofs.PlaceTurnLaws.{turn_high, turn_low}
 use Rattle.list_run.proofs.PlacedLaws.{place_turn_is, placing_performs}
 use Rattle.list_offer.proofs.alone.Goals as goal
-use Rattle.list_offer.proofs.alone.Tie as tie
+use Rattle.list_offer.proofs.alone.Goals.{After-offer-turn, Start}
 
-abbrev box : tie.Start → Box
+abbrev box : Start → Box
 box s = let a = s.args in box_of a.ssd.now a.hdd.now a.table.now a.state
 
 -- the turn of a block that 7 does not refuse
-by_turn : (c : tie.After-offer) → let a = c.args in
+by_turn : (c : After-offer-turn) → let a = c.args in
     c.offer-turn.result ≡ place_turn a.table.now a.state a.b a.caller
 by_turn c = let s = c in let a = s.args in
     c.offer-turn.ensures ∙ ap (offer_turn a.table.now a.state a.caller) s.requires.condition_value
@@ -27,7 +27,7 @@ returns-then-state-b c =
     let t = c in
     let s = t in
     let a = s.args in
-    rw c.refused.ensures (ap (λ (T : Turn). left (turned T a.b a.caller (box s)) (box s).images)
+    rw c.refused.ensures (ap (λ (T : Turn). left (turned T a.b a.caller (box (goal.at.returns-then-state-b s).Start)) (box (goal.at.returns-then-state-b s).Start).images)
     (turn_high a.state.label a.table.now a.state.hand _ a.b t.if-state-b.true))
 
 pub offer-turn-requires : goal.offer-turn-requires
@@ -47,7 +47,7 @@ perform-requires c =
     let a = s.args in
     let F = s.requires.fair in
     let p = placing_performs a.table.now a.state a.b a.caller F (place_turn_is a.table.now a.state a.b a.caller F) in
-    record { fits_record = s.requires.fits_record; hdd_len = s.requires.hdd_len; state_value = F.record_kept; table_value = fair-legal F; performable = rw (by_turn o) p }
+    record { fits_record = s.requires.fits_record; hdd_len = s.requires.hdd_len; state_value = F.record_kept; table_value = fair-legal F; performable = rw (by_turn (goal.at.perform-requires o).After-offer-turn) p }
 
 pub returns : goal.returns
 returns c =
@@ -55,4 +55,4 @@ returns c =
     let o = k in
     let s = o in
     let a = s.args in
-    k.perform.ensures ∙ ap (λ (T : Turn). left (turned T a.b a.caller (box s)) (box s).images) (by_turn o)
+    k.perform.ensures ∙ ap (λ (T : Turn). left (turned T a.b a.caller (box (goal.at.returns s).Start)) (box (goal.at.returns s).Start).images) (by_turn (goal.at.returns o).After-offer-turn)

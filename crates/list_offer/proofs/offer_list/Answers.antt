@@ -16,31 +16,31 @@ use Rattle.list_run.proofs.FairLaws.{ready-fair}
 use Rattle.list_run.proofs.RunLaws.{ran_spent, ran_ended}
 use Rattle.list_offer.proofs.OfferLaws.{offers_unready, offers_refused, spent-leaves, same-table, alone_leaves, passed-leaves, stored-leaves, stamp-left, page_fits, state_fits}
 use Rattle.list_offer.proofs.offer_list.Goals as goal
-use Rattle.list_offer.proofs.offer_list.Tie as tie
+use Rattle.list_offer.proofs.offer_list.Goals.{Else-listed-ne0, Else-number-ne0, Else-run-eq13, Start}
 
 -- 3 to 6 are passed
-abbrev start : tie.Else1 → tie.Start
-start c = c.before.before.before.before.before.before.before
+abbrev start : Else-number-ne0 → Start
+start c = (goal.at.Else-number-ne0 c).Start
 
-seen : (c : tie.Else1) → let a = (start c).args in
+seen : (c : Else-number-ne0) → let a = (start c).args in
     Looked (ready_then (length a.ssd.now) (length a.hdd.now) 4096 a.table.now a.state 0) a.table.now c.first_of-first.result
     c.judge_ready-seen.result
 seen c = let a = (start c).args in
     looked (ready_then (length a.ssd.now) (length a.hdd.now) 4096 a.table.now a.state 0) a.table.now c.first_of-first.result
     c.judge_ready-seen.ensures c.if-number-ne0.false
 
-box : (c : tie.Else1) → let a = (start c).args in ReadyBox a.ssd.now a.hdd.now 4096 a.table.now a.state
+box : (c : Else-number-ne0) → let a = (start c).args in ReadyBox a.ssd.now a.hdd.now 4096 a.table.now a.state
 box c = let a = (start c).args in ready a.ssd.now a.hdd.now 4096 a.table.now a.state (seen c).none
 
 -- 15 and 18 are passed
-listed : (c : tie.Else2) → let a = (start c.before.before).args in scan_then a.blocks.now a.caller 0 ≡ 0
+listed : (c : Else-listed-ne0) → let a = (start (goal.at.Else-listed-ne0 c).Else-number-ne0).args in scan_then a.blocks.now a.caller 0 ≡ 0
 listed c = sym c.judge_call-listed.ensures ∙ c.if-listed-ne0.false
 
 -- 13 is passed
-run_is : (c : tie.Else3) → let r = c in let a = (start r.before.before.before.before.before.before.before.before).args in
+run_is : (c : Else-run-eq13) → let r = c in let a = (start (goal.at.Else-run-eq13 r).Else-number-ne0).args in
     (refused13 a.table.now a.state a.blocks.now a.caller ≡ false)
     × Ended a.table.now a.state r.run-all.new.0 r.run-all.result (offered_as a.table.now a.state a.blocks.now a.caller)
-run_is c = let r = c in let a = (start r.before.before.before.before.before.before.before.before).args in
+run_is c = let r = c in let a = (start (goal.at.Else-run-eq13 r).Else-number-ne0).args in
     ran_ended a.table.now a.state r.run_all-run.new.table r.run_all-run.result (offered_as a.table.now a.state a.blocks.now a.caller)
     (refused13 a.table.now a.state a.blocks.now a.caller) c.if-run-eq13.false r.run_all-run.ensures
 
@@ -56,27 +56,27 @@ pub returns-then-listed-ne0 : goal.returns-then-listed-ne0
 returns-then-listed-ne0 c =
     let k = c in
     let e = k in
-    let a = (start e).args in
+    let a = (start (goal.at.returns-then-listed-ne0 e).Else-number-ne0).args in
     rw c.refused-then-listed-ne0.ensures
-    (offers_refused a.ssd.now a.hdd.now a.table.now a.state a.blocks.now a.caller (seen e).none k.judge_call-listed.result
+    (offers_refused a.ssd.now a.hdd.now a.table.now a.state a.blocks.now a.caller (seen (goal.at.returns-then-listed-ne0 e).Else-number-ne0).none k.judge_call-listed.result
     k.judge_call-listed.ensures c.if-listed-ne0.true)
 
 pub run_all-run-requires : goal.run_all-run-requires
 run_all-run-requires c =
     let e = c in
-    let a = (start e.before.before.before.before).args in
-    let S = scans a.blocks.now a.caller (listed e) in
-    (ready-fair (box e.before.before.before.before), (S.few, (S.once, S.known)))
+    let a = (start (goal.at.run_all-run-requires e).Else-number-ne0).args in
+    let S = scans a.blocks.now a.caller (listed (goal.at.run_all-run-requires e).Else-listed-ne0) in
+    (ready-fair (box (goal.at.run_all-run-requires e).Else-number-ne0), (S.few, (S.once, S.known)))
 
 pub returns-then-run-eq13 : goal.returns-then-run-eq13
 returns-then-run-eq13 c =
     let r = c in
     let e = r in
     let f = e in
-    let a = (start f).args in
+    let a = (start (goal.at.returns-then-run-eq13 f).Else-number-ne0).args in
     let S = ran_spent a.table.now a.state r.run_all-run.new.table r.run_all-run.result (offered_as a.table.now a.state a.blocks.now a.caller)
     (refused13 a.table.now a.state a.blocks.now a.caller) c.if-run-eq13.true r.run_all-run.ensures in
-    rw (c.refused-then-run-eq13.ensures, S.1) (spent-leaves a.ssd.now a.hdd.now a.table.now a.state a.blocks.now a.caller (seen f).none (listed e) (ready-fair (box f)) S.0 S.2)
+    rw (c.refused-then-run-eq13.ensures, S.1) (spent-leaves a.ssd.now a.hdd.now a.table.now a.state a.blocks.now a.caller (seen (goal.at.returns-then-run-eq13 f).Else-number-ne0).none (listed (goal.at.returns-then-run-eq13 e).Else-listed-ne0) (ready-fair (box (goal.at.returns-then-run-eq13 f).Else-number-ne0)) S.0 S.2)
 
 pub alone-requires : goal.alone-requires
 alone-requires c =
@@ -84,9 +84,9 @@ alone-requires c =
     let e3 = w in
     let r = e3 in
     let f = r in
-    let a = (start f).args in
-    let same = same-table a.ssd.now a.hdd.now a.table.now a.state a.blocks.now a.caller (seen f).none (listed r.before.before.before.before.before.before.before.before.before.before.before.before) (ready-fair (box f)) r.run_all-run.new.table r.run_all-run.result (run_is e3).1 w.if-run-eq0.true in
-    rw same record { fits_record = (box f).box.ranges; hdd_len = (box f).box.sound.hdd-size; fair = ready-fair (box f); condition_value = (seen f).condition_is }
+    let a = (start (goal.at.alone-requires f).Else-number-ne0).args in
+    let same = same-table a.ssd.now a.hdd.now a.table.now a.state a.blocks.now a.caller (seen (goal.at.alone-requires f).Else-number-ne0).none (listed (goal.at.alone-requires r).Else-listed-ne0) (ready-fair (box (goal.at.alone-requires f).Else-number-ne0)) r.run_all-run.new.table r.run_all-run.result (run_is (goal.at.alone-requires e3).Else-run-eq13).1 w.if-run-eq0.true in
+    rw same record { fits_record = (box (goal.at.alone-requires f).Else-number-ne0).box.ranges; hdd_len = (box (goal.at.alone-requires f).Else-number-ne0).box.sound.hdd-size; fair = ready-fair (box (goal.at.alone-requires f).Else-number-ne0); condition_value = (seen (goal.at.alone-requires f).Else-number-ne0).condition_is }
 
 pub returns-then-run-eq0 : goal.returns-then-run-eq0
 returns-then-run-eq0 c =
@@ -95,11 +95,11 @@ returns-then-run-eq0 c =
     let e3 = w in
     let r = e3 in
     let f = r in
-    let a = (start f).args in
+    let a = (start (goal.at.returns-then-run-eq0 f).Else-number-ne0).args in
     k.alone.ensures
     ∙ ap (λ (b : Block). left (turned (place_turn r.run_all-run.new.table a.state b a.caller) b a.caller (box_of a.ssd.now a.hdd.now r.run_all-run.new.table a.state)) (record { ssd = a.ssd.now; hdd = a.hdd.now }))
     f.first_of-first.ensures
-    ∙ alone_leaves a.ssd.now a.hdd.now a.table.now a.state a.blocks.now a.caller (seen f).none (listed r.before.before.before.before.before.before.before.before.before.before.before.before.before.before.before.before.before.before.before) (ready-fair (box f)) r.run_all-run.new.table r.run_all-run.result (run_is e3).1 w.if-run-eq0.true
+    ∙ alone_leaves a.ssd.now a.hdd.now a.table.now a.state a.blocks.now a.caller (seen (goal.at.returns-then-run-eq0 f).Else-number-ne0).none (listed (goal.at.returns-then-run-eq0 r).Else-listed-ne0) (ready-fair (box (goal.at.returns-then-run-eq0 f).Else-number-ne0)) r.run_all-run.new.table r.run_all-run.result (run_is (goal.at.returns-then-run-eq0 e3).Else-run-eq13).1 w.if-run-eq0.true
 
 pub returns-then-run-eq0-2 : goal.returns-then-run-eq0-2
 unfolding confirmed perform
@@ -109,10 +109,10 @@ returns-then-run-eq0-2 c =
     let e3 = e4 in
     let r = e3 in
     let f = r in
-    let a = (start f).args in
+    let a = (start (goal.at.returns-then-run-eq0-2 f).Else-number-ne0).args in
     rw c.answered.ensures
-    (passed-leaves a.ssd.now a.hdd.now a.table.now a.state a.blocks.now a.caller (seen f).none (listed r.before.before.before.before.before.before.before.before.before.before.before.before) (ready-fair (box f)) r.run_all-run.new.table r.run_all-run.result (run_is e3).1
-    e4.if-run-eq0.false (run_is e3).0 w.if-run-eq0-2.true)
+    (passed-leaves a.ssd.now a.hdd.now a.table.now a.state a.blocks.now a.caller (seen (goal.at.returns-then-run-eq0-2 f).Else-number-ne0).none (listed (goal.at.returns-then-run-eq0-2 r).Else-listed-ne0) (ready-fair (box (goal.at.returns-then-run-eq0-2 f).Else-number-ne0)) r.run_all-run.new.table r.run_all-run.result (run_is (goal.at.returns-then-run-eq0-2 e3).Else-run-eq13).1
+    e4.if-run-eq0.false (run_is (goal.at.returns-then-run-eq0-2 e3).Else-run-eq13).0 w.if-run-eq0-2.true)
 
 pub confirm-requires : goal.confirm-requires
 confirm-requires c =
@@ -121,13 +121,13 @@ confirm-requires c =
     let e3 = e4 in
     let r = e3 in
     let f = r in
-    let a = (start f).args in
-    let P = (seen f).none in
-    let l = listed r.before.before.before.before.before.before.before.before.before.before.before.before.before.before in
-    let F = ready-fair (box f) in
+    let a = (start (goal.at.confirm-requires f).Else-number-ne0).args in
+    let P = (seen (goal.at.confirm-requires f).Else-number-ne0).none in
+    let l = listed (goal.at.confirm-requires r).Else-listed-ne0 in
+    let F = ready-fair (box (goal.at.confirm-requires f).Else-number-ne0) in
     let v = r.run_all-run.new.table in
     let q = r.run_all-run.result in
-    let E = run_is e3 in record { fits_record = state_fits a.ssd.now a.hdd.now a.table.now a.state a.blocks.now a.caller P l F v q E.1 e4.if-run-eq0.false E.0 (box f).box.ranges; p_bound = page_fits a.ssd.now a.hdd.now a.table.now a.state a.blocks.now a.caller P l F v q E.1 e4.if-run-eq0.false E.0 w.if-run-eq0-2.false; newest_bound = stamp-left a.ssd.now a.hdd.now a.table.now a.state a.blocks.now a.caller P l F v q E.1 e4.if-run-eq0.false E.0 w.if-run-eq0-2.false }
+    let E = run_is e3 in record { fits_record = state_fits a.ssd.now a.hdd.now a.table.now a.state a.blocks.now a.caller P l F v q E.1 e4.if-run-eq0.false E.0 (box (goal.at.confirm-requires f).Else-number-ne0).box.ranges; p_bound = page_fits a.ssd.now a.hdd.now a.table.now a.state a.blocks.now a.caller P l F v q E.1 e4.if-run-eq0.false E.0 w.if-run-eq0-2.false; newest_bound = stamp-left a.ssd.now a.hdd.now a.table.now a.state a.blocks.now a.caller P l F v q E.1 e4.if-run-eq0.false E.0 w.if-run-eq0-2.false }
 
 pub shape_of-table : goal.shape_of-table
 shape_of-table c = omega (arith, c.run_all-run.auto)
@@ -141,7 +141,7 @@ returns c =
     let e3 = e4 in
     let r = e3 in
     let f = r in
-    let a = (start f).args in
+    let a = (start (goal.at.returns f).Else-number-ne0).args in
     rw (k.confirm.ensures.0, k.confirm.ensures.1)
-    (stored-leaves a.ssd.now a.hdd.now a.table.now a.state a.blocks.now a.caller (seen f).none (listed r.before.before.before.before.before.before.before.before.before.before.before.before.before.before.before.before.before) (ready-fair (box f)) r.run_all-run.new.table r.run_all-run.result (run_is e3).1
-    e4.if-run-eq0.false (run_is e3).0 w.if-run-eq0-2.false)
+    (stored-leaves a.ssd.now a.hdd.now a.table.now a.state a.blocks.now a.caller (seen (goal.at.returns f).Else-number-ne0).none (listed (goal.at.returns r).Else-listed-ne0) (ready-fair (box (goal.at.returns f).Else-number-ne0)) r.run_all-run.new.table r.run_all-run.result (run_is (goal.at.returns e3).Else-run-eq13).1
+    e4.if-run-eq0.false (run_is (goal.at.returns e3).Else-run-eq13).0 w.if-run-eq0-2.false)

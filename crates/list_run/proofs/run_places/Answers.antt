@@ -22,28 +22,27 @@ use Rattle.list_run.proofs.FairLaws.{fair_seen}
 use Rattle.list_run.proofs.PlacedLaws.{place_turn_is, placing_performs}
 use Rattle.list_run.proofs.RunLaws.{held_more, held_most, Going, going_begin, going_done, Stepped, step, goes_further, ends_there}
 use Rattle.list_run.proofs.run_places.Goals as goal
-use Rattle.list_run.proofs.run_places.Tie as tie
-use Rattle.list_run.proofs.run_places.Invariants.{invariant-loop-j, decreases-loop-j}
+use Rattle.list_run.proofs.run_places.Goals.{After-decide-turn, After-slice_known-in-loop-j-1, At-loop-j, In-Opens-2, Start}
 
 -- the run so far, as one
 abbrev run_of : Record → ℕ → ℕ → Run
 run_of state page j = record { state = state; page = page; places = j; end = 0 }
 
 -- the place at hand: where it starts, and what the call was given
-abbrev at : tie.After-decide invariant-loop-j decreases-loop-j → tie.At-loop invariant-loop-j decreases-loop-j
-at d = d.before.before.before.before.before.before.before.before
+abbrev at : After-decide-turn → At-loop-j
+at d = (goal.at.After-decide-turn d).After-held-mine
 
-abbrev start : tie.After-decide invariant-loop-j decreases-loop-j → tie.Start invariant-loop-j decreases-loop-j
+abbrev start : After-decide-turn → Start
 start d = (at d)
 
-abbrev block : tie.After-decide invariant-loop-j decreases-loop-j → Block
+abbrev block : After-decide-turn → Block
 block d = record { 0 = get_or (start d).args.blocks.now (at d).loop-j.j 0 }
 
-abbrev before : tie.After-decide invariant-loop-j decreases-loop-j → Run
+abbrev before : After-decide-turn → Run
 before d = let l = (at d).loop-j in run_of l.running l.page l.j
 
 -- what was decided is the place's turn
-decided : (d : tie.After-decide invariant-loop-j decreases-loop-j) →
+decided : (d : After-decide-turn) →
     d.decide-turn.result ≡ place_turn (at d).loop-j.table (at d).loop-j.running (block d) (start d).args.caller
 decided d =
     let l = (at d).loop-j in
@@ -52,35 +51,35 @@ decided d =
     (crowd_seen l.table l.running (start d).args.caller (fair_seen l.inv.1.kept.fair) d.crowded-number.ensures l.inv.5)
 
 -- what a turn makes of it
-abbrev Step : tie.After-decide invariant-loop-j decreases-loop-j → Turn → Type 0
+abbrev Step : After-decide-turn → Turn → Type 0
 Step d T =
     let a = (start d).args in
     Stepped a.table.now a.state a.blocks.now a.words.now a.caller (at d).loop-j.j (run_after T (before d) a.caller)
     (table_after_turn T (before d) (block d) (at d).loop-j.table)
 
-dealt : (d : tie.After-decide invariant-loop-j decreases-loop-j) → Step d d.decide-turn.result
+dealt : (d : After-decide-turn) → Step d d.decide-turn.result
 dealt d = let l = (at d).loop-j in let a = (start d).args in let p = (start d).requires in
     subst (Step d) (sym (decided d))
     (step a.table.now a.state a.blocks.now a.words.now a.caller l.table (before d) l.j l.inv.1 (omega arith)
     p.1.1.1.0 p.1.1.1.1)
 
 -- and it can be performed
-performs : (d : tie.After-decide invariant-loop-j decreases-loop-j) {T : Turn} → d.decide-turn.result ≡ T → Performable T (at d).loop-j.table (at d).loop-j.running
+performs : (d : After-decide-turn) {T : Turn} → d.decide-turn.result ≡ T → Performable T (at d).loop-j.table (at d).loop-j.running
 performs d e = let l = (at d).loop-j in let F = l.inv.1.kept.fair in
     subst (λ (T : Turn). Performable T l.table l.running) (sym (decided d) ∙ e)
     (placing_performs l.table l.running (block d) (start d).args.caller F
     (place_turn_is l.table l.running (block d) (start d).args.caller F))
 
 -- a slot is opened: by which turn, one of the label's, with room in the window
-abbrev chosen : tie.After-turn invariant-loop-j decreases-loop-j → tie.After-decide invariant-loop-j decreases-loop-j
-chosen t = t.before.before.before.before
+abbrev chosen : In-Opens-2 → After-decide-turn
+chosen t = (goal.at.In-Opens-2 t).After-decide-turn
 
-opens : (t : tie.After-turn invariant-loop-j decreases-loop-j) → let d = chosen t in let g = t.turn-1.given.0 in
+opens : (t : In-Opens-2) → let d = chosen t in let g = t.turn-1.given.0 in
     Performable (Opens g.0 g.1.0 g.1.1.0 g.1.1.1.0) (at d).loop-j.table (at d).loop-j.running
 opens t = performs (chosen t) t.in-Opens.is
 
-abbrev turned : tie.After-slice_known2 invariant-loop-j decreases-loop-j → tie.After-turn invariant-loop-j decreases-loop-j
-turned w = w.before.before.before.before.before
+abbrev turned : After-slice_known-in-loop-j-1 → In-Opens-2
+turned w = (goal.at.After-slice_known-in-loop-j-1 w).In-Opens-2
 
 pub loop-j-init : goal.loop-j-init
 loop-j-init c =
@@ -103,27 +102,27 @@ decide-turn-requires c =
 pub overflow_cast-result : goal.overflow_cast-result
 overflow_cast-result c =
     let d = c in
-    omega (arith, (at d).loop-j.invariant.4, (start d).requires.blocks_len_bound)
+    omega (arith, (at (goal.at.overflow_cast-result d).After-decide-turn).loop-j.invariant.4, (start (goal.at.overflow_cast-result d).After-decide-turn).requires.blocks_len_bound)
 
 pub returns-then-end-ne0 : goal.returns-then-end-ne0
 returns-then-end-ne0 c =
     let e = c in
     let d = e in
-    let l = (at d).loop-j in
-    let a = (start d).args in
+    let l = (at (goal.at.returns-then-end-ne0 d).After-decide-turn).loop-j in
+    let a = (start (goal.at.returns-then-end-ne0 d).After-decide-turn).args in
     let T : Turn = d.decide-turn.result in
     let n : end_by (label_in l.running) T l.page l.running.newest ≢ 0 = λ z. c.if-end-ne0.true (e.end_by-end.ensures ∙ z) in
-    let q = run_ends (before d) a.caller (block d) l.table T n
+    let q = run_ends (before (goal.at.returns-then-end-ne0 d).After-decide-turn) a.caller (block (goal.at.returns-then-end-ne0 d).After-decide-turn) l.table T n
     ∙ ap (λ (m : ℕ). record { state = l.running; page = l.page; places = l.j; end = m }) (sym e.end_by-end.ensures) in
     ends_there c.if-end-ne0.true
     (subst (λ (u : Run). Stepped a.table.now a.state a.blocks.now a.words.now a.caller l.j u l.table) q
-    (subst (λ (v : List ℕ). Stepped a.table.now a.state a.blocks.now a.words.now a.caller l.j (run_after T (before d) a.caller) v)
-    (table-ends (before d) a.caller (block d) l.table T n) (dealt d)))
+    (subst (λ (v : List ℕ). Stepped a.table.now a.state a.blocks.now a.words.now a.caller l.j (run_after T (before (goal.at.returns-then-end-ne0 d).After-decide-turn) a.caller) v)
+    (table-ends (before (goal.at.returns-then-end-ne0 d).After-decide-turn) a.caller (block (goal.at.returns-then-end-ne0 d).After-decide-turn) l.table T n) (dealt (goal.at.returns-then-end-ne0 d).After-decide-turn)))
 
 pub overflow_add-j : goal.overflow_add-j
 overflow_add-j c =
     let d = c in
-    omega (arith, (at d).loop-j.invariant.4, (start d).requires.blocks_len_bound)
+    omega (arith, (at (goal.at.overflow_add-j d).After-decide-turn).loop-j.invariant.4, (start (goal.at.overflow_add-j d).After-decide-turn).requires.blocks_len_bound)
 
 pub loop-j-smaller-in_default : goal.loop-j-smaller-in_default
 loop-j-smaller-in_default c = omega arith
@@ -132,11 +131,11 @@ pub loop-j-preserved-in_default : goal.loop-j-preserved-in_default
 loop-j-preserved-in_default c =
     let o = c in
     let d = o in
-    let l = (at d).loop-j in
+    let l = (at (goal.at.loop-j-preserved-in_default d).After-decide-turn).loop-j in
     let e = goes_passes (label_in l.running) d.decide-turn.result l.page l.running.newest c.in_default.keys2
     (sym o.end_by-end.ensures ∙ o.if-end-ne0.false) in (
       refl,
-      goes_further refl (subst (Step d) e (dealt d)),
+      goes_further refl (subst (Step (goal.at.loop-j-preserved-in_default d).After-decide-turn) e (dealt (goal.at.loop-j-preserved-in_default d).After-decide-turn)),
       l.inv.2,
       l.inv.3,
       omega (arith, l.inv.0, d.loop-j-test.true),
@@ -146,8 +145,8 @@ loop-j-preserved-in_default c =
 pub open-requires : goal.open-requires
 open-requires c =
     let t = c in
-    let F = (at (chosen t)).loop.inv.1.kept.fair in
-    record { table_len = (F.size, (seen_sweeps (fair_seen F)).low); s_lt_slots = (opens t).0 }
+    let F = (at (chosen (goal.at.open-requires t).In-Opens-2)).loop.inv.1.kept.fair in
+    record { table_len = (F.size, (seen_sweeps (fair_seen F)).low); s_lt_slots = (opens (goal.at.open-requires t).In-Opens-2).0 }
 
 pub overflow_cast-at : goal.overflow_cast-at
 overflow_cast-at c = omega (arith, (opens (turned c)).1)

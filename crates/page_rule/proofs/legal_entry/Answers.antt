@@ -8,39 +8,39 @@ use Rattle.layout.specs.PageRule.{pair_test, entry_test}
 use Rattle.layout.proofs.JudgeLaws.{entry_tail}
 use native.Mathlib.Omega.{arith}
 use Rattle.page_rule.proofs.legal_entry.Goals as goal
-use Rattle.page_rule.proofs.legal_entry.Tie as tie
+use Rattle.page_rule.proofs.legal_entry.Goals.{After-all_zero, After-legal_pair, Else-not-legal_pair, Start}
 
 -- the block and flags were judged, and the bytes after them
-abbrev start : tie.After-legal_pair → tie.Start
-start c = c.before.before.before.before
+abbrev start : After-legal_pair → Start
+start c = (goal.at.After-legal_pair c).Start
 
-pair-told : (c : tie.After-legal_pair) → let e = decode_entry (entry_part (start c).args.page.now (start c).args.i) in c.legal_pair.result ≡ pair_test (start c).args.l e.block.0 e.flags
+pair-told : (c : After-legal_pair) → let e = decode_entry (entry_part (start c).args.page.now (start c).args.i) in c.legal_pair.result ≡ pair_test (start c).args.l e.block.0 e.flags
 pair-told c = rw (← c.entry_at-entry.ensures) c.legal_pair.ensures
 
-pair-passed : (c : tie.Else1) → let s = start c.before in let e = decode_entry (entry_part s.args.page.now s.args.i) in pair_test s.args.l e.block.0 e.flags ≡ true
-pair-passed c = sym (pair-told c.before) ∙ not-false c.legal_pair.result c.if-not-legal_pair.false
+pair-passed : (c : Else-not-legal_pair) → let s = start (goal.at.Else-not-legal_pair c).After-legal_pair in let e = decode_entry (entry_part s.args.page.now s.args.i) in pair_test s.args.l e.block.0 e.flags ≡ true
+pair-passed c = sym (pair-told (goal.at.Else-not-legal_pair c).After-legal_pair) ∙ not-false c.legal_pair.result c.if-not-legal_pair.false
 
-zero-told : (c : tie.After-all_zero) → let s = start c.before.before in c.all_zero.result ≡ all_zero (drop 5 (entry_part s.args.page.now s.args.i))
+zero-told : (c : After-all_zero) → let s = start (goal.at.After-all_zero c).After-legal_pair in c.all_zero.result ≡ all_zero (drop 5 (entry_part s.args.page.now s.args.i))
 zero-told c =
-    let s = start c.before.before in
+    let s = start (goal.at.After-all_zero c).After-legal_pair in
     c.all_zero.ensures ∙ entry_tail s.args.page.now s.args.i s.requires.page_len s.requires.i_bound
 
 pub returns-then-not-legal_pair : goal.returns-then-not-legal_pair
 unfolding entry_test
-returns-then-not-legal_pair c = rw (← pair-told c.before.before, not-true c.legal_pair.result c.if-not-legal_pair.true)
+returns-then-not-legal_pair c = rw (← pair-told (goal.at.returns-then-not-legal_pair c).After-legal_pair, not-true c.legal_pair.result c.if-not-legal_pair.true)
 
 pub returns-then-not-all_zero : goal.returns-then-not-all_zero
 unfolding entry_test
-returns-then-not-all_zero c = rw (pair-passed c.before.before.before, ← zero-told c.before.before, not-true c.all_zero.result c.if-not-all_zero.true)
+returns-then-not-all_zero c = rw (pair-passed (goal.at.returns-then-not-all_zero c).Else-not-legal_pair, ← zero-told (goal.at.returns-then-not-all_zero c).After-all_zero, not-true c.all_zero.result c.if-not-all_zero.true)
 
 pub returns-then-p-i : goal.returns-then-p-i
 unfolding entry_test
 returns-then-p-i c =
     let z = c in
-    rw (pair-passed z.before.before.before.before.before, ← zero-told z, not-false z.all_zero.result c.if-not-all_zero.false, lt-ltb _ _ c.if-p-i.true)
+    rw (pair-passed (goal.at.returns-then-p-i z).Else-not-legal_pair, ← zero-told z, not-false z.all_zero.result c.if-not-all_zero.false, lt-ltb _ _ c.if-p-i.true)
 
 pub returns : goal.returns
 unfolding entry_test
 returns c =
     let z = c in
-    rw (pair-passed z.before.before.before.before.before.before, ← zero-told z, not-false z.all_zero.result c.if-not-all_zero.false, le-ltb _ _ c.if-p-i.false, ← z.entry_at-entry.ensures)
+    rw (pair-passed (goal.at.returns z).Else-not-legal_pair, ← zero-told z, not-false z.all_zero.result c.if-not-all_zero.false, le-ltb _ _ c.if-p-i.false, ← z.entry_at-entry.ensures)

@@ -7,10 +7,10 @@ use Rattle.layout.specs.PageRule.{in_range, distinct, window_test, zero_test}
 use Rattle.layout.proofs.Booleans.{and_assoc, skip, halt}
 use native.Mathlib.Omega.{arith}
 use Rattle.page_rule.proofs.legal_window.Goals as goal
-use Rattle.page_rule.proofs.legal_window.Tie as tie
+use Rattle.page_rule.proofs.legal_window.Goals.{Start}
 
 -- the slots' test, then that of the bytes past them
-window-test : (s : tie.Start)
+window-test : (s : Start)
     → let w = window_of s.args.page.now in
     window_test s.args.l s.args.page.now ≡ ((in_range s.args.l w && distinct w) && zero_test (16 + 4 * count_of s.args.page.now) 268 s.args.page.now)
 unfolding window_test
@@ -19,11 +19,11 @@ window-test s = sym (and_assoc (in_range s.args.l (window_of s.args.page.now)) (
 pub returns-then-not-legal_slots : goal.returns-then-not-legal_slots
 returns-then-not-legal_slots c =
     let s = c in
-    sym (window-test s ∙ halt _ (sym c.legal_slots.ensures ∙ not-true _ c.if-not-legal_slots.true))
+    sym (window-test (goal.at.returns-then-not-legal_slots s).Start ∙ halt _ (sym c.legal_slots.ensures ∙ not-true _ c.if-not-legal_slots.true))
 
 pub returns : goal.returns
 returns c =
     let s = c in
     c.all_zero.ensures
     ∙ ap (λ (n : ℕ). zero_test (16 + 4 * n) 268 s.args.page.now) c.count_of-count.ensures
-    ∙ sym (window-test s ∙ skip _ (sym c.legal_slots.ensures ∙ not-false _ c.if-not-legal_slots.false))
+    ∙ sym (window-test (goal.at.returns s).Start ∙ skip _ (sym c.legal_slots.ensures ∙ not-false _ c.if-not-legal_slots.false))

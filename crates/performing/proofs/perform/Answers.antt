@@ -14,30 +14,30 @@ use Rattle.turns.proofs.SweepingLaws.{Passed, passed_is, dirty-block}
 use Rattle.turns.proofs.TurnLaws.{record_limits, hand-low, rows_of}
 use Rattle.performing.proofs.PerformLaws.{turn_spent, turn_opens}
 use Rattle.performing.proofs.perform.Goals as goal
-use Rattle.performing.proofs.perform.Tie as tie
+use Rattle.performing.proofs.perform.Goals.{In-CopiesOut, In-Opens, Start}
 
-abbrev entry : tie.After-known_told2 → tie.Start
-entry c = c.before.before.before.before.before.before.before.before
+abbrev entry : In-Opens → Start
+entry c = (goal.at.In-Opens c).Start
 
-abbrev entry-2 : tie.After-known_told3 → tie.Start
-entry-2 c = c.before.before.before.before.before.before.before.before
+abbrev entry-2 : In-CopiesOut → Start
+entry-2 c = (goal.at.In-CopiesOut c).Start
 
-abbrev box : tie.Start → Box
+abbrev box : Start → Box
 box s = let a = s.args in box_of a.ssd.now a.hdd.now a.table.now a.state
 
 -- what the turn asks for
-doable : (s : tie.Start) (T : Turn) → s.args.turn ≡ T → Performable T s.args.table.now s.args.state
+doable : (s : Start) (T : Turn) → s.args.turn ≡ T → Performable T s.args.table.now s.args.state
 doable s T e = rw e at s.requires.performable
 
 -- the table once n slots were passed
-passed : (s : tie.Start) (n : ℕ) → Passed (label_in s.args.state) s.args.table.now (table_after n (box s))
+passed : (s : Start) (n : ℕ) → Passed (label_in s.args.state) s.args.table.now (table_after n (box s))
 passed s n =
     let a = s.args in
     let p = s.requires in
     passed_is n (label_in a.state) a.table.now a.state.hand p.fits_record.table-size
     (rows_of (label_in a.state) a.table.now p.fits_record.table-size p.table_value) (hand-low a.state p.state_value)
 
-fits : (s : tie.Start) (n : ℕ) → FitsRecord (length s.args.ssd.now) (length (table_after n (box s))) s.args.state
+fits : (s : Start) (n : ℕ) → FitsRecord (length s.args.ssd.now) (length (table_after n (box s))) s.args.state
 fits s n = let F = s.requires.fits_record in record {
   ssd-size = F.ssd-size;
   table-size = (passed s n).size;
@@ -48,33 +48,33 @@ fits s n = let F = s.requires.fits_record in record {
 pub returns-then-is_spent : goal.returns-then-is_spent
 returns-then-is_spent c =
     let n = c in
-    let x = box (entry n.before.before.before.before) in
+    let x = box (entry (goal.at.returns-then-is_spent n).In-Opens) in
     rw (c.refused-then-is_spent.ensures, n.in-Opens.is)
-    (ap (λ (e : Effect). left e x.images) (turn_spent _ _ _ _ (entry n.before.before.before.before).args.b (entry n.before.before.before.before).args.caller x (sym n.is_spent.ensures ∙ c.if-is_spent.true)))
+    (ap (λ (e : Effect). left e x.images) (turn_spent _ _ _ _ (entry (goal.at.returns-then-is_spent n).In-Opens).args.b (entry (goal.at.returns-then-is_spent n).In-Opens).args.caller x (sym n.is_spent.ensures ∙ c.if-is_spent.true)))
 
 pub clear_used-requires : goal.clear_used-requires
 clear_used-requires c =
-    let s = entry c.before.before.before.before in
+    let s = entry (goal.at.clear_used-requires c).In-Opens in
     (s.requires.fits_record.table-size, hand-low s.args.state s.requires.state_value)
 
 pub open_slot-requires : goal.open_slot-requires
 open_slot-requires c =
     let k = c in
     let e = k in
-    let s = entry e.before.before.before.before.before.before.before.before.before in
+    let s = entry (goal.at.open_slot-requires e).In-Opens in
     let d = doable s _ e.in-Opens.is in
     let n = leb-false _ s.args.state.newest (sym e.is_spent.ensures ∙ e.if-is_spent.false) in
     rw k.clear_used.ensures record { fits_record = fits s _; state_value = s.requires.state_value; count_lt_window_most = d.1; newest_bound = omega (arith, n); s_lt_slots = d.0 }
 
 pub clear_used-requires-in-CopiesOut : goal.clear_used-requires-in-CopiesOut
 clear_used-requires-in-CopiesOut c =
-    let s = entry-2 c.before.before in
+    let s = entry-2 (goal.at.clear_used-requires-in-CopiesOut c).In-CopiesOut in
     (s.requires.fits_record.table-size, hand-low s.args.state s.requires.state_value)
 
 pub copy_out-stored-requires : goal.copy_out-stored-requires
 copy_out-stored-requires c =
     let k = c in
-    let s = entry-2 k.before.before.before.before.before.before.before in
+    let s = entry-2 (goal.at.copy_out-stored-requires k).In-CopiesOut in
     let d = doable s _ k.in-CopiesOut.is in
     let g = k.turn-in-CopiesOut-1.given.0 in
     let P = passed s g.1.0 in
@@ -105,9 +105,9 @@ returns-else-is_spent c =
     let z = c.open_slot.ensures in
     let k = c in
     let e = k in
-    let x = box (entry e.before.before.before.before.before.before.before.before.before.before.before.before.before.before) in
+    let x = box (entry (goal.at.returns-else-is_spent e).In-Opens) in
     rw (z.0, z.1, z.2, k.clear_used.ensures, e.in-Opens.is)
-    (ap (λ (e : Effect). left e x.images) (turn_opens _ _ _ _ (entry e.before.before.before.before.before.before.before.before.before.before.before.before.before.before).args.b (entry e.before.before.before.before.before.before.before.before.before.before.before.before.before.before).args.caller x (sym e.is_spent.ensures ∙ e.if-is_spent.false)))
+    (ap (λ (e : Effect). left e x.images) (turn_opens _ _ _ _ (entry (goal.at.returns-else-is_spent e).In-Opens).args.b (entry (goal.at.returns-else-is_spent e).In-Opens).args.caller x (sym e.is_spent.ensures ∙ e.if-is_spent.false)))
 
 pub returns-in-CopiesOut : goal.returns-in-CopiesOut
 unfolding confirmed perform

@@ -1,3 +1,4 @@
+use borrow.Author.Rules.{rules}
 use Prim.Native.Nat.{ℕ, ◌≤◌, ◌-◌}
 use mathlib.Core.Path.{◌≡◌, refl, sym, ap, ◌∙◌}
 use mathlib.Core.Bool.{◌&&◌}
@@ -20,12 +21,12 @@ loop-i-preserved c =
     let b = c in
     let a = b.args in
     let i = b.loop-i.i in
-    let all : length a.t1 ≡ 63 = search rules in
-    let z = length-take a.n a.t1 in
-    let e : get_or (take a.n a.t1) i 0 ≡ get_or a.t1 i 0 = get_or-take a.n a.t1 i 0 (omega arith) in (
+    let all : length a.callers ≡ 63 = search rules in
+    let z = length-take a.n a.callers in
+    let e : get_or (take a.n a.callers) i 0 ≡ get_or a.callers i 0 = get_or-take a.n a.callers i 0 (omega arith) in (
       omega arith,
-      one_further b.loop-i.ok _ (leb (get_or a.t1 i 0) 1) _ b.loop-i.invariant.1
-          (rw e at (each_at (λ x. leb x 1) (take a.n a.t1) i 0 (omega arith))) c.both-ok.ensures,
+      one_further b.loop-i.ok _ (leb (get_or a.callers i 0) 1) _ b.loop-i.invariant.1
+          (rw e at (each_at (λ x. leb x 1) (take a.n a.callers) i 0 (omega arith))) c.both-ok.ensures,
     )
 
 pub returns : goal.returns
@@ -33,8 +34,8 @@ unfolding each_place
 returns c =
     let b = c in
     let a = b.args in
-    let all : length a.t1 ≡ 63 = search rules in
-    let z = length-take a.n a.t1 in
+    let all : length a.callers ≡ 63 = search rules in
+    let z = length-take a.n a.callers in
     and_last b.loop-i.ok
-    ∙ ap (λ (l : List ℕ). b.loop-i.ok && each_place (λ x. leb x 1) l) (sym (drop_of_length-le (take a.n a.t1) {i = b.loop-i.i} (omega arith)))
+    ∙ ap (λ (l : List ℕ). b.loop-i.ok && each_place (λ x. leb x 1) l) (sym (drop_of_length-le (take a.n a.callers) {i = b.loop-i.i} (omega arith)))
     ∙ b.loop-i.invariant.1

@@ -1,3 +1,4 @@
+use borrow.Author.Rules.{rules}
 use Prim.Native.Nat.{ℕ, ◌≤◌, ◌-◌}
 use mathlib.Core.Path.{◌≡◌, refl, sym, ap, ◌∙◌}
 use mathlib.Core.Bool.{◌&&◌}
@@ -17,7 +18,7 @@ loop-at-init c = (search rules, refl)
 pub loop-at-preserved : goal.loop-at-preserved
 loop-at-preserved c =
     let b = c in
-    let cs = b.args.t1 in
+    let cs = b.args.callers in
     let all : length cs ≡ 63 = search rules in (
       omega arith,
       one_further b.loop-at.ok _ (eqb (get_or cs b.loop-at.at 0) 0) _ b.loop-at.invariant.1
@@ -28,7 +29,7 @@ pub returns : goal.returns
 unfolding each_place
 returns c =
     let b = c in
-    let cs = b.args.t1 in
+    let cs = b.args.callers in
     let all : length cs ≡ 63 = search rules in
     and_last b.loop-at.ok
     ∙ ap (λ (l : List ℕ). b.loop-at.ok && each_place (λ x. eqb x 0) l) (sym (drop_of_length-le cs {i = b.loop-at.at} (omega arith)))

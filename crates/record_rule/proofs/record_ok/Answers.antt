@@ -15,9 +15,9 @@ use Rattle.record.specs.Callers.{named_places}
 use Rattle.record.specs.Record.{window_in}
 use Rattle.record.specs.Rule.{record_test, steps_test}
 use Rattle.record_rule.proofs.record_ok.Goals as goal
-use Rattle.record_rule.proofs.record_ok.Tie as tie
+use Rattle.record_rule.proofs.record_ok.Goals.{After-window_ok, Else-l-hand, Else-not-steps_ok, Else-not-within_limits}
 
-limits : (c : tie.Else1) → within_limits c.args.r.label ≡ true
+limits : (c : Else-not-within_limits) → within_limits c.args.r.label ≡ true
 limits c = sym c.within_limits.ensures ∙ not-false _ c.if-not-within_limits.false
 
 pub returns-then-not-within_limits : goal.returns-then-not-within_limits
@@ -25,27 +25,27 @@ unfolding record_test
 returns-then-not-within_limits c = rw (sym c.within_limits.ensures ∙ not-true _ c.if-not-within_limits.true)
 
 -- what the first two tests leave
-first_two : (c : tie.Else2) (rest : Bool) → let r = c.args.r in
+first_two : (c : Else-l-hand) (rest : Bool) → let r = c.args.r in
     (within_limits r.label && (ltb r.hand.0 r.label.slots && rest)) ≡ rest
-first_two c rest = rw (limits c.before.before.before.before, lt-ltb _ _ c.if-l-hand.false)
+first_two c rest = rw (limits (goal.at.Else-l-hand c).Else-not-within_limits, lt-ltb _ _ c.if-l-hand.false)
 
 pub returns-then-l-hand : goal.returns-then-l-hand
 unfolding record_test
-returns-then-l-hand c = rw (limits c.before.before.before.before.before, le-ltb _ _ c.if-l-hand.true)
+returns-then-l-hand c = rw (limits (goal.at.returns-then-l-hand c).Else-not-within_limits, le-ltb _ _ c.if-l-hand.true)
 
 pub returns-then-not-steps_ok : goal.returns-then-not-steps_ok
 unfolding record_test
-returns-then-not-steps_ok c = rw (first_two c.before.before.before _, sym c.steps_ok.ensures ∙ not-true _ c.if-not-steps_ok.true)
+returns-then-not-steps_ok c = rw (first_two (goal.at.returns-then-not-steps_ok c).Else-l-hand _, sym c.steps_ok.ensures ∙ not-true _ c.if-not-steps_ok.true)
 
 -- what the first three tests leave
-first_three : (c : tie.Else3) (rest : Bool)
+first_three : (c : Else-not-steps_ok) (rest : Bool)
     → let r = c.args.r in
     (within_limits r.label && (ltb r.hand.0 r.label.slots && (steps_test r.label r.phase && rest))) ≡ rest
-first_three c rest = rw (first_two c.before.before _, sym c.steps_ok.ensures ∙ not-false _ c.if-not-steps_ok.false)
+first_three c rest = rw (first_two (goal.at.Else-not-steps_ok c).Else-l-hand _, sym c.steps_ok.ensures ∙ not-false _ c.if-not-steps_ok.false)
 
 pub returns-then-r : goal.returns-then-r
 unfolding record_test
-returns-then-r c = rw (first_three c.before.before.before _, lt-leb _ _ c.if-r.true)
+returns-then-r c = rw (first_three (goal.at.returns-then-r c).Else-not-steps_ok _, lt-leb _ _ c.if-r.true)
 
 pub window_ok-requires : goal.window_ok-requires
 window_ok-requires c = rw c.window_of.ensures c.if-r.false
@@ -67,7 +67,7 @@ then_window r ok rest e =
     grouped false b d z rest = refl
 
 -- what the first four tests leave, once the window is judged
-four : (c : tie.After-window_ok) (rest : Bool)
+four : (c : After-window_ok) (rest : Bool)
     → let r = c.args.r in
     (within_limits r.label
     && (ltb r.hand.0 r.label.slots
@@ -80,12 +80,12 @@ unfolding window_in
 four c rest =
     let e = c in
     let r = e.args.r in
-    rw (first_three e.before.before.before.before _, le-leb _ _ e.if-r.false)
+    rw (first_three (goal.at.After-window_ok e).Else-not-steps_ok _, le-leb _ _ e.if-r.false)
     (then_window r c.window_ok.result rest (rw c.window_of.ensures at c.window_ok.ensures))
 
 pub returns-then-not-window_ok : goal.returns-then-not-window_ok
 unfolding record_test
-returns-then-not-window_ok c = sym (four c.before.before _ ∙ rw (not-true c.window_ok.result c.if-not-window_ok.true))
+returns-then-not-window_ok c = sym (four (goal.at.returns-then-not-window_ok c).After-window_ok _ ∙ rw (not-true c.window_ok.result c.if-not-window_ok.true))
 
 pub callers_ok-requires : goal.callers_ok-requires
 callers_ok-requires c =
@@ -104,4 +104,4 @@ returns c =
     let n = c in
     let e = n in
     let t = rw n.named_places.ensures at c.callers_ok.ensures in
-    sym (four e.before.before.before.before.before _ ∙ rw (not-false e.window_ok.result e.if-not-window_ok.false) (sym t))
+    sym (four (goal.at.returns e).After-window_ok _ ∙ rw (not-false e.window_ok.result e.if-not-window_ok.false) (sym t))

@@ -1,3 +1,4 @@
+use borrow.Author.Rules.{rules}
 use Prim.Native.Nat.{◌-◌, ◌+◌}
 use mathlib.Core.Path.{◌≡◌, refl, ◌∙◌}
 use mathlib.Core.List.{◌++◌, append-nil}
@@ -7,7 +8,7 @@ use native.Mathlib.Omega.{arith}
 use Rattle.c_record.proofs.words.pack_callers.Goals as goal
 
 pub loop-i-init : goal.loop-i-init
-loop-i-init c = packed_none c.args.words.now 71 c.args.t2 c.requires
+loop-i-init c = packed_none c.args.words.now 71 c.args.callers c.requires
 
 pub bounds-words-i : goal.bounds-words-i
 bounds-words-i c = let k = c.loop-i.invariant.size in search rules
@@ -16,13 +17,13 @@ pub loop-i-preserved : goal.loop-i-preserved
 loop-i-preserved c =
     let l = c.loop-i in
     let s = c in
-    let all : length s.args.t2 ≡ 63 = search rules in
-    packed_more s.args.words.now 71 s.args.t2 s.requires all (omega arith) l.words l.i _ refl l.invariant (omega arith)
+    let all : length s.args.callers ≡ 63 = search rules in
+    packed_more s.args.words.now 71 s.args.callers s.requires all (omega arith) l.words l.i _ refl l.invariant (omega arith)
 
 pub returns : goal.returns
 returns c =
     let l = c.loop-i in
     let s = c in
-    let all : length s.args.t2 ≡ 63 = search rules in
-    packed_all s.args.words.now 71 s.args.t2 s.requires all (omega arith) l.words l.i l.invariant (omega arith)
-    ∙ rw (drop_of_length-le s.args.words.now {i = 71 + 63} (omega arith)) (append-nil (take 71 s.args.words.now ++ s.args.t2))
+    let all : length s.args.callers ≡ 63 = search rules in
+    packed_all s.args.words.now 71 s.args.callers s.requires all (omega arith) l.words l.i l.invariant (omega arith)
+    ∙ rw (drop_of_length-le s.args.words.now {i = 71 + 63} (omega arith)) (append-nil (take 71 s.args.words.now ++ s.args.callers))

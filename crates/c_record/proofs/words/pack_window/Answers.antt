@@ -1,3 +1,4 @@
+use borrow.Author.Rules.{rules}
 use Prim.Native.Nat.{◌-◌}
 use mathlib.Core.Path.{◌≡◌, sym, ◌∙◌}
 use lib.ListN.{length}
@@ -7,7 +8,7 @@ use native.Mathlib.Omega.{arith}
 use Rattle.c_record.proofs.words.pack_window.Goals as goal
 
 pub loop-i-init : goal.loop-i-init
-loop-i-init c = packed_none c.args.words.now 8 (numbers_of c.args.t2) c.requires
+loop-i-init c = packed_none c.args.words.now 8 (numbers_of c.args.window) c.requires
 
 pub bounds-words-i : goal.bounds-words-i
 bounds-words-i c = let k = c.loop-i.invariant.size in search rules
@@ -16,14 +17,14 @@ pub loop-i-preserved : goal.loop-i-preserved
 loop-i-preserved c =
     let l = c.loop-i in
     let s = c in
-    let all : length s.args.t2 ≡ 63 = search rules in
-    packed_more s.args.words.now 8 (numbers_of s.args.t2) s.requires (numbers-length s.args.t2 ∙ all) (omega arith) l.words l.i _
-    (sym (numbers_at s.args.t2 l.i (record { 0 = 0 }))) l.invariant (omega arith)
+    let all : length s.args.window ≡ 63 = search rules in
+    packed_more s.args.words.now 8 (numbers_of s.args.window) s.requires (numbers-length s.args.window ∙ all) (omega arith) l.words l.i _
+    (sym (numbers_at s.args.window l.i (record { 0 = 0 }))) l.invariant (omega arith)
 
 pub returns : goal.returns
 returns c =
     let l = c.loop-i in
     let s = c in
-    let all : length s.args.t2 ≡ 63 = search rules in
-    packed_all s.args.words.now 8 (numbers_of s.args.t2) s.requires (numbers-length s.args.t2 ∙ all) (omega arith) l.words l.i l.invariant
+    let all : length s.args.window ≡ 63 = search rules in
+    packed_all s.args.words.now 8 (numbers_of s.args.window) s.requires (numbers-length s.args.window ∙ all) (omega arith) l.words l.i l.invariant
     (omega arith)

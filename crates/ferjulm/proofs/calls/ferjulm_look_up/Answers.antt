@@ -7,7 +7,7 @@ use Rattle.c_record.specs.Words.{is_record}
 use Rattle.c_closing.proofs.ClosedLaws.{record_length}
 use Rattle.ferjulm.proofs.CodeLaws.{look_up_state, barred, past}
 use Rattle.ferjulm.proofs.calls.ferjulm_look_up.Goals as goal
-use Rattle.ferjulm.proofs.calls.ferjulm_look_up.Tie as tie
+use Rattle.ferjulm.proofs.calls.ferjulm_look_up.Goals.{Else-not-is_record}
 
 pub returns-then-not-is_record : goal.returns-then-not-is_record
 returns-then-not-is_record c =
@@ -17,7 +17,7 @@ returns-then-not-is_record c =
     (b.left, b.slot a.slot.now)
 
 -- past the first test the words are a record
-legal : (c : tie.Else1) → is_record c.args.words.now ≡ true
+legal : (c : Else-not-is_record) → is_record c.args.words.now ≡ true
 legal c = sym c.is_record.ensures ∙ not-false _ c.if-not-is_record.false
 
 pub unpack-state-requires : goal.unpack-state-requires
@@ -33,5 +33,5 @@ returns c =
     let a = e.args in
     let x = box_of a.ssd.now a.hdd.now a.table.now u.unpack-state.result in
     let k = past (lookUp (record { 0 = a.block })) a.ssd.now a.hdd.now a.table.now a.words.now
-    u.unpack-state.result o.result u.unpack-state.ensures o.ensures (legal e) in
+    u.unpack-state.result o.result u.unpack-state.ensures o.ensures (legal (goal.at.returns e).Else-not-is_record) in
     (k.still (look_up_state (record { 0 = a.block }) x) c.code_of.ensures, k.slot _ t.slot_of.ensures)

@@ -6,7 +6,7 @@ use Rattle.c_record.specs.Words.{is_record}
 use Rattle.c_closing.proofs.ClosedLaws.{record_length}
 use Rattle.ferjulm.proofs.CodeLaws.{barred, past}
 use Rattle.ferjulm.proofs.calls.ferjulm_offer.Goals as goal
-use Rattle.ferjulm.proofs.calls.ferjulm_offer.Tie as tie
+use Rattle.ferjulm.proofs.calls.ferjulm_offer.Goals.{Else-not-is_record}
 
 pub returns-then-not-is_record : goal.returns-then-not-is_record
 returns-then-not-is_record c =
@@ -16,16 +16,16 @@ returns-then-not-is_record c =
     (b.left, b.slot a.slot.now, b.place (record { image = a.image.now; offset = a.offset.now }))
 
 -- past the first test the words are a record
-legal : (c : tie.Else1) → is_record c.args.words.now ≡ true
+legal : (c : Else-not-is_record) → is_record c.args.words.now ≡ true
 legal c = sym c.is_record.ensures ∙ not-false _ c.if-not-is_record.false
 
 pub unpack-state-requires : goal.unpack-state-requires
-unpack-state-requires c = record_length _ (legal c.before)
+unpack-state-requires c = record_length _ (legal c)
 
 pub ended_at-requires : goal.ended_at-requires
 ended_at-requires c =
     let p = c in
-    record_length _ (legal p.before.before.before.before.before.before.before.before.before.before.before.before.before.before.before.before)
+    record_length _ (legal (goal.at.ended_at-requires p).Else-not-is_record)
 
 pub returns : goal.returns
 returns c =
@@ -36,5 +36,5 @@ returns c =
     let e = u in
     let a = e.args in
     let k = past (offer (record { 0 = a.block }) a.caller) a.ssd.now a.hdd.now a.table.now a.words.now
-    u.unpack-state.result o.result u.unpack-state.ensures o.ensures (legal e) in
+    u.unpack-state.result o.result u.unpack-state.ensures o.ensures (legal (goal.at.returns e).Else-not-is_record) in
     (k.left q.ended_at.ensures.0, k.slot _ q.ended_at.ensures.1, k.place _ q.ended_at.ensures.2)

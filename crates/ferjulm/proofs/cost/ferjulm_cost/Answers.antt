@@ -7,10 +7,10 @@ use Rattle.c_closing.specs.Counts.{CostNumbers}
 use Rattle.ferjulm.proofs.CostLaws.{no_cost, on_cost}
 use native.Mathlib.Omega.{arith}
 use Rattle.ferjulm.proofs.cost.ferjulm_cost.Goals as goal
-use Rattle.ferjulm.proofs.cost.ferjulm_cost.Tie as tie
+use Rattle.ferjulm.proofs.cost.ferjulm_cost.Goals.{Else-not-is_record, Start}
 
 -- the lent numbers
-abbrev lent : tie.Start → CostNumbers
+abbrev lent : Start → CostNumbers
 lent s = let a = s.args in record {
   copies = a.copies.now;
   metadata = a.metadata.now;
@@ -20,14 +20,14 @@ lent s = let a = s.args in record {
 }
 
 -- past the first test the words are a record
-legal : (c : tie.Else1) → is_record c.args.words.now ≡ true
+legal : (c : Else-not-is_record) → is_record c.args.words.now ≡ true
 legal c = sym c.is_record.ensures ∙ not-false _ c.if-not-is_record.false
 
 pub returns-then-not-is_record : goal.returns-then-not-is_record
 returns-then-not-is_record c =
     let s = c in
     let a = s.args in
-    no_cost a.ssd.now a.hdd.now a.table.now a.words.now a.blocks.now a.caller a.scratch.now (lent s) (sym c.is_record.ensures ∙ not-true _ c.if-not-is_record.true)
+    no_cost a.ssd.now a.hdd.now a.table.now a.words.now a.blocks.now a.caller a.scratch.now (lent (goal.at.returns-then-not-is_record s).Start) (sym c.is_record.ensures ∙ not-true _ c.if-not-is_record.true)
 
 pub unpack-state-requires : goal.unpack-state-requires
 unpack-state-requires c = record_length _ (legal c)
@@ -39,4 +39,4 @@ returns c =
     let e = u in
     let s = e in
     let a = s.args in
-    on_cost a.ssd.now a.hdd.now a.table.now a.words.now a.blocks.now a.caller a.scratch.now (lent s) u.unpack-state.result m.cost-answer.result _ _ (legal e) u.unpack-state.ensures m.cost-answer.ensures c.hand_out.ensures
+    on_cost a.ssd.now a.hdd.now a.table.now a.words.now a.blocks.now a.caller a.scratch.now (lent (goal.at.returns s).Start) u.unpack-state.result m.cost-answer.result _ _ (legal (goal.at.returns e).Else-not-is_record) u.unpack-state.ensures m.cost-answer.ensures c.hand_out.ensures

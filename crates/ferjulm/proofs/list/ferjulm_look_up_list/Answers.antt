@@ -8,7 +8,7 @@ use Rattle.c_record.specs.Words.{is_record}
 use Rattle.c_closing.proofs.ClosedLaws.{record_length}
 use Rattle.ferjulm.proofs.CodeLaws.{list-state, located_barred, located_past, barred, past}
 use Rattle.ferjulm.proofs.list.ferjulm_look_up_list.Goals as goal
-use Rattle.ferjulm.proofs.list.ferjulm_look_up_list.Tie as tie
+use Rattle.ferjulm.proofs.list.ferjulm_look_up_list.Goals.{Else-not-is_record, Start}
 
 pub returns-then-not-is_record : goal.returns-then-not-is_record
 returns-then-not-is_record c =
@@ -20,10 +20,10 @@ returns-then-not-is_record c =
     )
 
 -- past the first test the words are a record
-abbrev start : tie.Else1 → tie.Start
-start e = e.before.before.before.before.before.before.before.before
+abbrev start : Else-not-is_record → Start
+start e = (goal.at.Else-not-is_record e).Start
 
-legal : (e : tie.Else1) → is_record (start e).args.words.now ≡ true
+legal : (e : Else-not-is_record) → is_record (start e).args.words.now ≡ true
 legal e = sym e.is_record.ensures ∙ not-false _ e.if-not-is_record.false
 
 pub unpack-state-requires : goal.unpack-state-requires
@@ -34,13 +34,13 @@ returns c =
     let o = c in
     let u = o in
     let e = u in
-    let a = (start e).args in
+    let a = (start (goal.at.returns e).Else-not-is_record).args in
     let list = look_up_list a.blocks.now (length a.located.now) in
     let k = past list a.ssd.now a.hdd.now a.table.now a.words.now u.unpack-state.result o.look_up_list-outcome.result
-    u.unpack-state.ensures o.look_up_list-outcome.ensures.0 (legal e) in (
+    u.unpack-state.ensures o.look_up_list-outcome.ensures.0 (legal (goal.at.returns e).Else-not-is_record) in (
       k.still (list-state a.blocks.now (length a.located.now) (box_of a.ssd.now a.hdd.now a.table.now u.unpack-state.result))
           c.code_of.ensures,
       o.look_up_list-outcome.ensures.1
           ∙ located_past a.blocks.now a.ssd.now a.hdd.now a.table.now a.words.now a.located.now u.unpack-state.result
-          u.unpack-state.ensures (legal e),
+          u.unpack-state.ensures (legal (goal.at.returns e).Else-not-is_record),
     )

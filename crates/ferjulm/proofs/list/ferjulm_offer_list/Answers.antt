@@ -6,7 +6,7 @@ use Rattle.c_record.specs.Words.{is_record}
 use Rattle.c_closing.proofs.ClosedLaws.{record_length}
 use Rattle.ferjulm.proofs.CodeLaws.{barred, past}
 use Rattle.ferjulm.proofs.list.ferjulm_offer_list.Goals as goal
-use Rattle.ferjulm.proofs.list.ferjulm_offer_list.Tie as tie
+use Rattle.ferjulm.proofs.list.ferjulm_offer_list.Goals.{Else-not-is_record, Start}
 
 pub returns-then-not-is_record : goal.returns-then-not-is_record
 returns-then-not-is_record c =
@@ -17,19 +17,19 @@ returns-then-not-is_record c =
     (b.left, b.places a.dealt.now, b.place (record { image = a.image.now; offset = a.offset.now }))
 
 -- past the first test the words are a record
-abbrev start : tie.Else1 → tie.Start
-start e = e.before.before.before.before.before.before.before
+abbrev start : Else-not-is_record → Start
+start e = (goal.at.Else-not-is_record e).Start
 
-legal : (e : tie.Else1) → is_record (start e).args.words.now ≡ true
+legal : (e : Else-not-is_record) → is_record (start e).args.words.now ≡ true
 legal e = sym e.is_record.ensures ∙ not-false _ e.if-not-is_record.false
 
 pub unpack-state-requires : goal.unpack-state-requires
-unpack-state-requires c = record_length _ (legal c.before)
+unpack-state-requires c = record_length _ (legal c)
 
 pub ended_list-requires : goal.ended_list-requires
 ended_list-requires c =
     let p = c in
-    record_length _ (legal p.before.before.before.before.before.before.before.before.before.before.before.before.before.before.before.before)
+    record_length _ (legal (goal.at.ended_list-requires p).Else-not-is_record)
 
 pub returns : goal.returns
 returns c =
@@ -38,7 +38,7 @@ returns c =
     let o = p.offer_list-outcome in
     let u = p in
     let e = u in
-    let a = (start e).args in
+    let a = (start (goal.at.returns e).Else-not-is_record).args in
     let k = past (offer_list a.blocks.now a.caller) a.ssd.now a.hdd.now a.table.now a.words.now
-    u.unpack-state.result o.result u.unpack-state.ensures o.ensures (legal e) in
+    u.unpack-state.result o.result u.unpack-state.ensures o.ensures (legal (goal.at.returns e).Else-not-is_record) in
     (k.left q.ended_list.ensures.0, k.places _ q.ended_list.ensures.1, k.place _ q.ended_list.ensures.2)

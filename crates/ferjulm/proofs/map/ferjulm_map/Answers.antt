@@ -5,7 +5,7 @@ use Rattle.c_record.specs.Words.{is_record}
 use Rattle.c_closing.proofs.ClosedLaws.{record_length}
 use Rattle.ferjulm.proofs.MapLaws.{no_map, on_map}
 use Rattle.ferjulm.proofs.map.ferjulm_map.Goals as goal
-use Rattle.ferjulm.proofs.map.ferjulm_map.Tie as tie
+use Rattle.ferjulm.proofs.map.ferjulm_map.Goals.{Else-not-is_record}
 
 pub returns-then-not-is_record : goal.returns-then-not-is_record
 returns-then-not-is_record c =
@@ -15,7 +15,7 @@ returns-then-not-is_record c =
     (sym r.is_record.ensures ∙ not-true _ c.if-not-is_record.true)
 
 -- past the first test the words are a record
-legal : (c : tie.Else1) → is_record c.args.words.now ≡ true
+legal : (c : Else-not-is_record) → is_record c.args.words.now ≡ true
 legal c = sym c.is_record.ensures ∙ not-false _ c.if-not-is_record.false
 
 pub unpack-state-requires : goal.unpack-state-requires
@@ -26,5 +26,5 @@ returns c =
     let m = c in
     let u = m in
     let a = u.args in
-    on_map a.ssd.now a.hdd.now a.table.now a.words.now a.sheet.now u.unpack-state.result _ (legal u.before.before.before.before.before.before)
+    on_map a.ssd.now a.hdd.now a.table.now a.words.now a.sheet.now u.unpack-state.result _ (legal (goal.at.returns u).Else-not-is_record)
     u.unpack-state.ensures m.map.ensures

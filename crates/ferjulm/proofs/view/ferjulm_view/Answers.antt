@@ -7,7 +7,7 @@ use Rattle.c_record.specs.Words.{is_record}
 use Rattle.c_closing.proofs.ClosedLaws.{record_length}
 use Rattle.ferjulm.proofs.ViewLaws.{view_stops, view_passes, no_view, on_view}
 use Rattle.ferjulm.proofs.view.ferjulm_view.Goals as goal
-use Rattle.ferjulm.proofs.view.ferjulm_view.Tie as tie
+use Rattle.ferjulm.proofs.view.ferjulm_view.Goals.{Else-not-is_record}
 
 pub returns-then-not-is_record : goal.returns-then-not-is_record
 returns-then-not-is_record c =
@@ -18,7 +18,7 @@ returns-then-not-is_record c =
     (sym r.is_record.ensures ∙ not-true _ c.if-not-is_record.true)
 
 -- past the first test the words are a record
-legal : (c : tie.Else1) → is_record c.args.words.now ≡ true
+legal : (c : Else-not-is_record) → is_record c.args.words.now ≡ true
 legal c = sym c.is_record.ensures ∙ not-false _ c.if-not-is_record.false
 
 pub unpack-state-requires : goal.unpack-state-requires
@@ -31,7 +31,7 @@ returns-then-number-ne0 c =
     let a = u.args in
     let b : Block = record { 0 = a.block } in
     let p : Place = record { image = a.image.now; offset = a.offset.now } in
-    on_view a.ssd.now a.hdd.now a.table.now a.words.now b p u.unpack-state.result _ (legal u.before.before.before.before) u.unpack-state.ensures
+    on_view a.ssd.now a.hdd.now a.table.now a.words.now b p u.unpack-state.result _ (legal (goal.at.returns-then-number-ne0 u).Else-not-is_record) u.unpack-state.ensures
     (view_stops a.ssd.now a.hdd.now a.table.now u.unpack-state.result b p j.result j.ensures c.if-number-ne0.true)
 
 pub returns : goal.returns
@@ -42,6 +42,6 @@ returns c =
     let a = u.args in
     let b : Block = record { 0 = a.block } in
     let p : Place = record { image = a.image.now; offset = a.offset.now } in
-    on_view a.ssd.now a.hdd.now a.table.now a.words.now b p u.unpack-state.result _ (legal u.before.before.before.before.before.before) u.unpack-state.ensures
+    on_view a.ssd.now a.hdd.now a.table.now a.words.now b p u.unpack-state.result _ (legal (goal.at.returns u).Else-not-is_record) u.unpack-state.ensures
     (view_passes a.ssd.now a.hdd.now a.table.now u.unpack-state.result b p j.result c.place_for-place.result j.ensures e.if-number-ne0.false
     c.place_for-place.ensures)

@@ -10,13 +10,13 @@ use Rattle.judging.proofs.ServedLaws.{Served, served}
 use Rattle.turns.proofs.TurnLaws.{seen}
 use Rattle.performing.proofs.PerformLaws.{fetch_performs, fetch_turned}
 use Rattle.fetch_path.proofs.fetch.fetch.Goals as goal
-use Rattle.fetch_path.proofs.fetch.fetch.Tie as tie
+use Rattle.fetch_path.proofs.fetch.fetch.Goals.{Else-number-ne0, Start}
 
 -- 3 to 7 are passed
-abbrev start : tie.Else1 → tie.Start
-start c = c.before.before.before.before.before
+abbrev start : Else-number-ne0 → Start
+start c = (goal.at.Else-number-ne0 c).Start
 
-known : (c : tie.Else1) → let a = (start c).args in
+known : (c : Else-number-ne0) → let a = (start c).args in
     Served a.ssd.now a.hdd.now 4096 a.table.now a.state a.block a.caller c.judge_block-seen.result
 known c = let a = (start c).args in
     served a.ssd.now a.hdd.now 4096 a.table.now a.state a.block a.caller c.judge_block-seen.ensures c.if-number-ne0.false
@@ -38,18 +38,18 @@ fetch-turn-requires c =
 pub perform-requires : goal.perform-requires
 perform-requires c =
     let e = c in
-    let a = (start e).args in
-    let B = (known e).box.box in
-    let p = fetch_performs a.ssd.now a.hdd.now a.table.now a.state a.block a.caller (known e).none e.judge_block-seen.result.condition in
+    let a = (start (goal.at.perform-requires e).Else-number-ne0).args in
+    let B = (known (goal.at.perform-requires e).Else-number-ne0).box.box in
+    let p = fetch_performs a.ssd.now a.hdd.now a.table.now a.state a.block a.caller (known (goal.at.perform-requires e).Else-number-ne0).none e.judge_block-seen.result.condition in
     record { fits_record = B.fits; hdd_len = B.sound.hdd-size; state_value = B.record_kept; table_value = B.rows; performable = rw c.fetch-turn.ensures p }
 
 pub returns : goal.returns
 returns c =
     let d = c in
     let e = d in
-    let a = (start e).args in
+    let a = (start (goal.at.returns e).Else-number-ne0).args in
     let x = box_of a.ssd.now a.hdd.now a.table.now a.state in
     c.perform.ensures
     ∙ ap (λ (T : Turn). left (turned T a.block a.caller x) x.images)
-    (d.fetch-turn.ensures ∙ ap (fetch_turn a.table.now a.state a.caller) (sym ((known e).is _ refl)))
-    ∙ ap (λ (f : Effect). left f x.images) (sym (fetch_turned a.ssd.now a.hdd.now a.table.now a.state a.block a.caller (known e).none))
+    (d.fetch-turn.ensures ∙ ap (fetch_turn a.table.now a.state a.caller) (sym ((known (goal.at.returns e).Else-number-ne0).is _ refl)))
+    ∙ ap (λ (f : Effect). left f x.images) (sym (fetch_turned a.ssd.now a.hdd.now a.table.now a.state a.block a.caller (known (goal.at.returns e).Else-number-ne0).none))

@@ -13,24 +13,24 @@ use Rattle.judging.proofs.SlotLaws.{flags_low}
 use Rattle.judging.proofs.ServedLaws.{Served, served}
 use Rattle.judging.proofs.CallLaws.{land_fetch_wrong, land_fetch_is}
 use Rattle.fetch_path.proofs.land_fetch.land_fetch.Goals as goal
-use Rattle.fetch_path.proofs.land_fetch.land_fetch.Tie as tie
+use Rattle.fetch_path.proofs.land_fetch.land_fetch.Goals.{Else-number-ne0, Start}
 
 -- 3 to 7 are passed
-abbrev start : tie.Else1 → tie.Start
-start c = c.before.before.before.before.before
+abbrev start : Else-number-ne0 → Start
+start c = (goal.at.Else-number-ne0 c).Start
 
-known : (c : tie.Else1) → let a = (start c).args in
+known : (c : Else-number-ne0) → let a = (start c).args in
     Served a.ssd.now a.hdd.now 4096 a.table.now a.state a.block 0 c.judge_block-seen.result
 known c = let a = (start c).args in
     served a.ssd.now a.hdd.now 4096 a.table.now a.state a.block 0 c.judge_block-seen.ensures c.if-number-ne0.false
 
-wrong : (c : tie.Else1) (k : Condition) → c.judge_block-seen.result.condition ≡ k → takes_fetch k ≡ false → let a = (start c).args in
+wrong : (c : Else-number-ne0) (k : Condition) → c.judge_block-seen.result.condition ≡ k → takes_fetch k ≡ false → let a = (start c).args in
     let x = box_of a.ssd.now a.hdd.now a.table.now a.state in
     left (refusing 9 x) x.images ≡ land_fetch_of a.ssd.now a.hdd.now a.table.now a.state a.block
 wrong c k e o = let a = (start c).args in
     land_fetch_wrong a.ssd.now a.hdd.now a.table.now a.state a.block k ((known c).is k e) (known c).none o
 
-done : (c : tie.Else1) (k : Condition) → c.judge_block-seen.result.condition ≡ k → takes_fetch k ≡ true → let a = (start c).args in
+done : (c : Else-number-ne0) (k : Condition) → c.judge_block-seen.result.condition ≡ k → takes_fetch k ≡ true → let a = (start c).args in
     let x = box_of a.ssd.now a.hdd.now a.table.now a.state in
     left (perform (landing_fetch x a.block k) x) x.images ≡ land_fetch_of a.ssd.now a.hdd.now a.table.now a.state a.block
 done c k e o = let a = (start c).args in
@@ -47,40 +47,40 @@ returns-then-number-ne0 c =
 pub copy_in-stored-requires : goal.copy_in-stored-requires
 copy_in-stored-requires c =
     let e = c in
-    let R = (known e).row _ c.in-Fetching.is in
-    ((known e).box.box.sound.ssd-size, ((known e).box.box.sound.hdd-size, ((known e).box.box.fits.slots-most, (R.low, (known e).low))))
+    let R = (known (goal.at.copy_in-stored-requires e).Else-number-ne0).row _ c.in-Fetching.is in
+    ((known (goal.at.copy_in-stored-requires e).Else-number-ne0).box.box.sound.ssd-size, ((known (goal.at.copy_in-stored-requires e).Else-number-ne0).box.box.sound.hdd-size, ((known (goal.at.copy_in-stored-requires e).Else-number-ne0).box.box.fits.slots-most, (R.low, (known (goal.at.copy_in-stored-requires e).Else-number-ne0).low))))
 
 pub close_slot-next-requires : goal.close_slot-next-requires
 close_slot-next-requires c =
     let e = c in
-    let a = (start e).args in
-    let R = (known e).row _ c.in-Fetching.is in (
-      (known e).box.box.record_kept,
+    let a = (start (goal.at.close_slot-next-requires e).Else-number-ne0).args in
+    let R = (known (goal.at.close_slot-next-requires e).Else-number-ne0).row _ c.in-Fetching.is in (
+      (known (goal.at.close_slot-next-requires e).Else-number-ne0).box.box.record_kept,
       (
-        open_listed _ _ _ _ _ (known e).box _ R.low R.writing_is,
-        (R.within, flags_low a.state a.table.now (known e).box.box.sound.table-size (known e).box.box.rows _ R.low),
+        open_listed _ _ _ _ _ (known (goal.at.close_slot-next-requires e).Else-number-ne0).box _ R.low R.writing_is,
+        (R.within, flags_low a.state a.table.now (known (goal.at.close_slot-next-requires e).Else-number-ne0).box.box.sound.table-size (known (goal.at.close_slot-next-requires e).Else-number-ne0).box.box.rows _ R.low),
       ),
     )
 
 pub returns-in-NotCached : goal.returns-in-NotCached
 returns-in-NotCached c =
     rw c.refused-in-NotCached.ensures
-    (wrong c.before.before.before.before _ c.in-NotCached.is refl)
+    (wrong (goal.at.returns-in-NotCached c).Else-number-ne0 _ c.in-NotCached.is refl)
 
 pub returns-in-Clean : goal.returns-in-Clean
 returns-in-Clean c =
     rw c.refused-in-Clean.ensures
-    (wrong c.before.before.before.before _ c.in-Clean.is refl)
+    (wrong (goal.at.returns-in-Clean c).Else-number-ne0 _ c.in-Clean.is refl)
 
 pub returns-in-Dirty : goal.returns-in-Dirty
 returns-in-Dirty c =
     rw c.refused-in-Dirty.ensures
-    (wrong c.before.before.before.before _ c.in-Dirty.is refl)
+    (wrong (goal.at.returns-in-Dirty c).Else-number-ne0 _ c.in-Dirty.is refl)
 
 pub returns-in-Writing : goal.returns-in-Writing
 returns-in-Writing c =
     rw c.refused-in-Writing.ensures
-    (wrong c.before.before.before.before _ c.in-Writing.is refl)
+    (wrong (goal.at.returns-in-Writing c).Else-number-ne0 _ c.in-Writing.is refl)
 
 pub returns-in-Fetching : goal.returns-in-Fetching
 unfolding perform
@@ -89,5 +89,5 @@ returns-in-Fetching c =
     let k = c.in-Fetching.is in
     let z = c.close_slot-next.ensures in
     let d = c.copy_in-stored.ensures in
-    rw (c.stored.ensures, d.0, d.1, z.0, z.1, ((known e).row _ k).writing_is)
-    (rw (perform, ((known e).row _ k).writing_is) at (done e _ k refl))
+    rw (c.stored.ensures, d.0, d.1, z.0, z.1, ((known (goal.at.returns-in-Fetching e).Else-number-ne0).row _ k).writing_is)
+    (rw (perform, ((known (goal.at.returns-in-Fetching e).Else-number-ne0).row _ k).writing_is) at (done (goal.at.returns-in-Fetching e).Else-number-ne0 _ k refl))

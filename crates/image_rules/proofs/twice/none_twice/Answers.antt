@@ -1,3 +1,4 @@
+use borrow.Author.Rules.{rules}
 use borrow.Author.Tests.{not-true, not-false}
 use Rattle.laws.proofs.refine.Metas.{length_metas}
 use Rattle.image_rules.proofs.TwiceLaws.{once_none, once_more, found_twice, once-all, OnceBelow}

@@ -9,11 +9,10 @@ use Rattle.import_run.specs.Runs.{After, run_from, begun, counts_in}
 use Rattle.import_run.proofs.ListLaws.{Going, begins, goes_on, stops, done}
 use native.Mathlib.Omega.{arith}
 use Rattle.import_run.proofs.list.run.Goals as goal
-use Rattle.import_run.proofs.list.run.Tie as tie
-use Rattle.import_run.proofs.list.run.Invariants.{invariant-loop-j, decreases-loop-j}
+use Rattle.import_run.proofs.list.run.Goals.{Start}
 
 -- the whole run
-abbrev whole : tie.Start invariant-loop-j decreases-loop-j → CostLeft
+abbrev whole : Start → CostLeft
 whole s = let a = s.args in run_from a.l a.number 0 a.blocks.now (record {
   run = begun a.hand
       a.newest;
@@ -71,7 +70,7 @@ returns-then-run-ne0 c =
       answer = Met (e i).run.met m.j ((c.counts_of.ensures ∙ ap (λ (z : After). counts_in z.run) e) i);
       scratch = (e i).table;
     })
-    ∙ stops a.l a.number a.blocks.now a.words.now (whole s) m.table m.run m.j m.invariant.1 (omega arith)
+    ∙ stops a.l a.number a.blocks.now a.words.now (whole (goal.at.returns-then-run-ne0 s).Start) m.table m.run m.j m.invariant.1 (omega arith)
     (λ z. t.if-run-ne0.true (ap (λ (z : After). z.run.met) e ∙ z))
 
 pub overflow_add-j : goal.overflow_add-j
@@ -89,11 +88,11 @@ loop-j-preserved c =
     let m = p.loop-j in
     let s = p in
     let a = s.args in
-    let I = goes_on a.l a.number a.blocks.now a.words.now (whole s) m.table m.run m.j m.invariant.1 (omega arith)
+    let I = goes_on a.l a.number a.blocks.now a.words.now (whole (goal.at.loop-j-preserved s).Start) m.table m.run m.j m.invariant.1 (omega arith)
     s.requires.blocks_value
     (ap (λ (z : After). z.run.met) (sym e) ∙ c.if-run-ne0.false) in (
       refl,
-      subst (λ (z : After). Going a.l a.number a.blocks.now a.words.now (whole s) z.table z.run (m.j + 1)) (sym e) I,
+      subst (λ (z : After). Going a.l a.number a.blocks.now a.words.now (whole (goal.at.loop-j-preserved s).Start) z.table z.run (m.j + 1)) (sym e) I,
       m.invariant.2,
       omega (arith, p.place-run.auto, m.invariant.3),
       omega (arith, m.invariant.0, p.loop-j-test.true),
@@ -105,5 +104,5 @@ returns c =
     let s = c in
     let a = s.args in
     (λ i. record { answer = Counted (c.counts_of-2.ensures i); scratch = m.table })
-    ∙ done a.l a.number a.blocks.now a.words.now (whole s) m.table m.run m.j m.invariant.1
+    ∙ done a.l a.number a.blocks.now a.words.now (whole (goal.at.returns s).Start) m.table m.run m.j m.invariant.1
     (omega (arith, m.invariant.0, c.loop-j-test.false))

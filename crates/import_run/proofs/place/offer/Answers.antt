@@ -16,7 +16,7 @@ use Rattle.import_run.specs.Runs.{After, taken, offered, copies_out, copied_tabl
 use Rattle.import_run.proofs.PlaceLaws.{Copied, steady_sweeps, steady_takes, steady_copies}
 use native.Mathlib.Omega.{arith}
 use Rattle.import_run.proofs.place.offer.Goals as goal
-use Rattle.import_run.proofs.place.offer.Tie as tie
+use Rattle.import_run.proofs.place.offer.Goals.{Start}
 
 -- a turn that is no copy-out
 other : (T : Turn) (l : Label) (t : List ℕ) (r : Run) (n : ℕ) (b : Block) (d : Slot) → OneOf (0 ∷ 1 ∷ 2 ∷ []) (tag_of turn-type.the_type T)
@@ -27,7 +27,7 @@ other (Opens s f n hand) l t r m b d k = refl
 other (CopiesOut s n) l t r m b d k = absurd (⊎_elim (λ z. omega arith) (⊎_elim (λ z. omega arith) (λ z. omega arith)) k)
 
 -- one that is
-copied : (s : tie.Start) {u : Slot} {n : ℕ} → s.args.turn ≡ CopiesOut u n
+copied : (s : Start) {u : Slot} {n : ℕ} → s.args.turn ≡ CopiesOut u n
     → Copied s.args.l s.args.table.now s.args.run.hand s.args.number u n
 copied s {u} {n} e = steady_copies s.requires.steady s.args.number s.args.b s.requires.b_lt_blocks u n (sym s.requires.turn_value ∙ e)
 
@@ -56,7 +56,7 @@ copy_out-next-requires c =
 pub offer_at-again-requires : goal.offer_at-again-requires
 offer_at-again-requires c =
     let k = c in
-    let C = copied k.before.before.before.before.before.before.before.before.before k.in-CopiesOut.is in
+    let C = copied (goal.at.offer_at-again-requires k).Start k.in-CopiesOut.is in
     (rw (ap (λ (e : After). e.table) k.copy_out-next.ensures) (steady_sweeps C.steady), tt)
 
 pub take-requires-2 : goal.take-requires-2

@@ -6,40 +6,40 @@ use Rattle.import_run.specs.declared.Run.{Run}
 use Rattle.import_run.specs.Runs.{After, meets, taken, Takes}
 use native.Mathlib.Omega.{arith}
 use Rattle.import_run.proofs.place.take.Goals as goal
-use Rattle.import_run.proofs.place.take.Tie as tie
+use Rattle.import_run.proofs.place.take.Goals.{Start}
 
 -- what is left by a turn that is known
-after : (s : tie.Start) {T : Turn} → s.args.turn ≡ T → {e : After}
+after : (s : Start) {T : Turn} → s.args.turn ≡ T → {e : After}
     → e ≡ taken T s.args.l s.args.table.now s.args.run s.args.b s.args.d
     → e ≡ taken s.args.turn s.args.l s.args.table.now s.args.run s.args.b s.args.d
 after s e f = let a = s.args in f ∙ ap (λ (T : Turn). taken T a.l a.table.now a.run a.b a.d) (sym e)
 
-doable : (s : tie.Start) {T : Turn} → s.args.turn ≡ T → Takes T s.args.l s.args.table.now s.args.d
+doable : (s : Start) {T : Turn} → s.args.turn ≡ T → Takes T s.args.l s.args.table.now s.args.d
 doable s e = rw e at s.requires.takes
 
 pub land-requires : goal.land-requires
 land-requires c =
     let s = c in
-    record { lands = doable s c.in-Passes.is; landings_bound = s.requires.early.few_landings }
+    record { lands = doable (goal.at.land-requires s).Start c.in-Passes.is; landings_bound = s.requires.early.few_landings }
 
 pub open-requires : goal.open-requires
 open-requires c =
     let s = c in
-    record { table_len = s.requires.table_len; s_lt_slots = doable s c.in-Opens.is; early = s.requires.early }
+    record { table_len = s.requires.table_len; s_lt_slots = doable (goal.at.open-requires s).Start c.in-Opens.is; early = s.requires.early }
 
 pub returns-in-Refused : goal.returns-in-Refused
-returns-in-Refused c = after c.before.before.before.before.before.before c.in-Refused.is
+returns-in-Refused c = after (goal.at.returns-in-Refused c).Start c.in-Refused.is
     (λ i. record { run = c.met.ensures i; table = c.args.table.now })
 
 pub returns-in-Passes : goal.returns-in-Passes
 returns-in-Passes c =
     let d = c in
-    after d.before.before.before.before.before.before.before.before d.in-Passes.is d.land.ensures
+    after (goal.at.returns-in-Passes d).Start d.in-Passes.is d.land.ensures
 
 pub returns-in-Opens : goal.returns-in-Opens
 returns-in-Opens c =
     let d = c in
-    after d.before.before.before.before.before.before.before.before.before d.in-Opens.is d.open.ensures
+    after (goal.at.returns-in-Opens d).Start d.in-Opens.is d.open.ensures
 
 pub returns-in-CopiesOut : goal.returns-in-CopiesOut
-returns-in-CopiesOut c = after c.before.before.before.before c.in-CopiesOut.is refl
+returns-in-CopiesOut c = after (goal.at.returns-in-CopiesOut c).Start c.in-CopiesOut.is refl

@@ -1,3 +1,4 @@
+use borrow.Author.Rules.{rules}
 use Rattle.layout.specs.Places.{data_place}
 use Rattle.layout.proofs.places.data_place.Goals as goal
 

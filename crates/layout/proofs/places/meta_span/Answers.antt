@@ -1,3 +1,4 @@
+use borrow.Author.Rules.{rules}
 use Rattle.layout.specs.Places.{meta_span}
 use Rattle.layout.proofs.places.meta_span.Goals as goal
 

@@ -1,3 +1,4 @@
+use borrow.Author.Rules.{rules}
 use Rattle.layout.specs.Places.{ssd_length}
 use Rattle.layout.proofs.places.ssd_length.Goals as goal
 

@@ -1,3 +1,4 @@
+use borrow.Author.Rules.{rules}
 use Rattle.layout.specs.Stamps.{largest_stamp}
 use Rattle.layout.proofs.stamps.largest_stamp.Goals as goal
 

@@ -7,7 +7,7 @@ use Rattle.judging.specs.Judging.{refuse_if, list_then}
 use Rattle.locating.proofs.ListLaws.{none_listed, many_listed, other-room, listed_well}
 use native.Mathlib.Omega.{arith}
 use Rattle.locating.proofs.list.judge_list.Goals as goal
-use Rattle.locating.proofs.list.judge_list.Tie as tie
+use Rattle.locating.proofs.list.judge_list.Goals.{Else-n-room, Start}
 
 pub returns-then-n-eq0 : goal.returns-then-n-eq0
 returns-then-n-eq0 c = let a = c.args in none_listed a.blocks.now a.room a.limit c.if-n-eq0.true
@@ -22,10 +22,10 @@ returns-then-n-room c =
     other-room a.blocks.now a.room a.limit e.if-n-eq0.false (omega (arith, e.if-n-gt64.false)) c.if-n-room.true
 
 -- where it is not 16
-abbrev start : tie.Else3 → tie.Start
-start e = e.before.before.before.before
+abbrev start : Else-n-room → Start
+start e = (goal.at.Else-n-room e).Start
 
-well : (e : tie.Else3) → let a = (start e).args in
+well : (e : Else-n-room) → let a = (start e).args in
     list_then a.blocks.now a.room a.limit 0 ≡ refuse_if (leb a.limit (highest a.blocks.now)) 7 0
 well e =
     let a = (start e).args in
@@ -34,9 +34,9 @@ well e =
 pub returns-then-limit-highest : goal.returns-then-limit-highest
 returns-then-limit-highest c =
     let h = c in
-    sym (well h.before.before.before ∙ rw (le-leb _ _ (subst (λ (n : ℕ). (start h.before.before.before).args.limit ≤ n) h.highest.ensures c.if-limit-highest.true)))
+    sym (well (goal.at.returns-then-limit-highest h).Else-n-room ∙ rw (le-leb _ _ (subst (λ (n : ℕ). (start (goal.at.returns-then-limit-highest h).Else-n-room).args.limit ≤ n) h.highest.ensures c.if-limit-highest.true)))
 
 pub returns : goal.returns
 returns c =
     let h = c in
-    sym (well h.before.before.before ∙ rw (lt-leb _ _ (subst (λ (n : ℕ). n < (start h.before.before.before).args.limit) h.highest.ensures c.if-limit-highest.false)))
+    sym (well (goal.at.returns h).Else-n-room ∙ rw (lt-leb _ _ (subst (λ (n : ℕ). n < (start (goal.at.returns h).Else-n-room).args.limit) h.highest.ensures c.if-limit-highest.false)))

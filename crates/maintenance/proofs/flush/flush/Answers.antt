@@ -14,13 +14,13 @@ use Rattle.judging.proofs.ReadyLaws.{ready}
 use Rattle.layout.proofs.PlaceLaws.{meta_of-low}
 use Rattle.judging.proofs.CallLaws.{flush_idle, flush_spent, flush_done}
 use Rattle.maintenance.proofs.flush.flush.Goals as goal
-use Rattle.maintenance.proofs.flush.flush.Tie as tie
+use Rattle.maintenance.proofs.flush.flush.Goals.{Else-number-ne0, Start}
 
 -- what is found where 3 to 6 are passed
-abbrev start : tie.Else1 → tie.Start
-start c = c.before.before.before.before.before
+abbrev start : Else-number-ne0 → Start
+start c = (goal.at.Else-number-ne0 c).Start
 
-passed : (c : tie.Else1) → let a = (start c).args in
+passed : (c : Else-number-ne0) → let a = (start c).args in
     ready_then (length a.ssd.now) (length a.hdd.now) 4096 a.table.now a.state 0 ≡ 0
 passed c = let a = (start c).args in
     (looked _ a.table.now (record { 0 = 0 }) c.judge_ready-seen.ensures c.if-number-ne0.false).none
@@ -37,24 +37,24 @@ pub returns-then-not-state : goal.returns-then-not-state
 unfolding confirmed perform
 returns-then-not-state c =
     let e = c in
-    let a = (start e).args in
-    rw c.answered.ensures (flush_idle a.ssd.now a.hdd.now a.table.now a.state (passed e) (not-true _ c.if-not-state.true))
+    let a = (start (goal.at.returns-then-not-state e).Else-number-ne0).args in
+    rw c.answered.ensures (flush_idle a.ssd.now a.hdd.now a.table.now a.state (passed (goal.at.returns-then-not-state e).Else-number-ne0) (not-true _ c.if-not-state.true))
 
 pub returns-then-top-state : goal.returns-then-top-state
 returns-then-top-state c =
     let n = c in
     let e = n in
-    let a = (start e).args in
+    let a = (start (goal.at.returns-then-top-state e).Else-number-ne0).args in
     rw c.refused-then-top-state.ensures
-    (flush_spent a.ssd.now a.hdd.now a.table.now a.state (passed e) (not-false _ n.if-not-state.false)
+    (flush_spent a.ssd.now a.hdd.now a.table.now a.state (passed (goal.at.returns-then-top-state e).Else-number-ne0) (not-false _ n.if-not-state.false)
     (le-leb (largest_stamp (label_in a.state)) _ (omega (arith, n.largest_stamp-top.ensures, c.if-top-state.true))))
 
 pub confirm-requires : goal.confirm-requires
 confirm-requires c =
     let n = c in
     let e = n in
-    let a = (start e).args in
-    let B = ready a.ssd.now a.hdd.now 4096 a.table.now a.state (passed e) in record { fits_record = B.box.fits; p_bound = meta_of-low (label_in a.state) (record { 0 = 0 }) B.box.sound.limits.some_slot; newest_bound = omega (arith, n.largest_stamp-top.ensures, c.if-top-state.false) }
+    let a = (start (goal.at.confirm-requires e).Else-number-ne0).args in
+    let B = ready a.ssd.now a.hdd.now 4096 a.table.now a.state (passed (goal.at.confirm-requires e).Else-number-ne0) in record { fits_record = B.box.fits; p_bound = meta_of-low (label_in a.state) (record { 0 = 0 }) B.box.sound.limits.some_slot; newest_bound = omega (arith, n.largest_stamp-top.ensures, c.if-top-state.false) }
 
 pub returns : goal.returns
 unfolding confirmed perform
@@ -62,8 +62,8 @@ returns c =
     let k = c in
     let n = k in
     let e = n in
-    let a = (start e).args in
+    let a = (start (goal.at.returns e).Else-number-ne0).args in
     let z = c.confirm.ensures in
     rw (z.0, z.1)
-    (flush_done a.ssd.now a.hdd.now a.table.now a.state (passed e) (not-false _ n.if-not-state.false)
+    (flush_done a.ssd.now a.hdd.now a.table.now a.state (passed (goal.at.returns e).Else-number-ne0) (not-false _ n.if-not-state.false)
     (lt-leb (largest_stamp (label_in a.state)) _ (omega (arith, n.largest_stamp-top.ensures, k.if-top-state.false))))

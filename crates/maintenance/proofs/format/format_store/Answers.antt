@@ -1,3 +1,4 @@
+use borrow.Author.Rules.{rules}
 use mathlib.Core.Path.{◌∙◌}
 use Rattle.layout.proofs.PlaceLaws.{label_within}
 use Rattle.maintenance.proofs.FormatLaws.{label-stored, place-page, meta_step_stored}

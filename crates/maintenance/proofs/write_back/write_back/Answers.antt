@@ -11,24 +11,24 @@ use Rattle.judging.proofs.ServeLaws.{refused_by, write_back_judges}
 use Rattle.judging.proofs.ServedLaws.{Served, served}
 use Rattle.judging.proofs.CallLaws.{write_back_open, write_back_is}
 use Rattle.maintenance.proofs.write_back.write_back.Goals as goal
-use Rattle.maintenance.proofs.write_back.write_back.Tie as tie
+use Rattle.maintenance.proofs.write_back.write_back.Goals.{Else-number-ne0, Start}
 
 -- 3 to 7 are passed
-abbrev start : tie.Else1 → tie.Start
-start c = c.before.before.before.before.before
+abbrev start : Else-number-ne0 → Start
+start c = (goal.at.Else-number-ne0 c).Start
 
-known : (c : tie.Else1) → let a = (start c).args in
+known : (c : Else-number-ne0) → let a = (start c).args in
     Served a.ssd.now a.hdd.now 4096 a.table.now a.state a.block 0 c.judge_block-seen.result
 known c = let a = (start c).args in
     served a.ssd.now a.hdd.now 4096 a.table.now a.state a.block 0 c.judge_block-seen.ensures c.if-number-ne0.false
 
-shut : (c : tie.Else1) (k : Condition) → c.judge_block-seen.result.condition ≡ k → is_open k ≡ true → let a = (start c).args in
+shut : (c : Else-number-ne0) (k : Condition) → c.judge_block-seen.result.condition ≡ k → is_open k ≡ true → let a = (start c).args in
     let x = box_of a.ssd.now a.hdd.now a.table.now a.state in
     left (refusing 8 x) x.images ≡ write_back_of a.ssd.now a.hdd.now a.table.now a.state a.block
 shut c k e o = let a = (start c).args in
     write_back_open a.ssd.now a.hdd.now a.table.now a.state a.block k ((known c).is k e) (known c).none o
 
-done : (c : tie.Else1) (k : Condition) → c.judge_block-seen.result.condition ≡ k → is_open k ≡ false → let a = (start c).args in
+done : (c : Else-number-ne0) (k : Condition) → c.judge_block-seen.result.condition ≡ k → is_open k ≡ false → let a = (start c).args in
     let x = box_of a.ssd.now a.hdd.now a.table.now a.state in
     left (perform (writing_back x k) x) x.images ≡ write_back_of a.ssd.now a.hdd.now a.table.now a.state a.block
 done c k e o = let a = (start c).args in
@@ -45,35 +45,35 @@ returns-then-number-ne0 c =
 pub copy_out-stored-requires : goal.copy_out-stored-requires
 copy_out-stored-requires c =
     let e = c in
-    let R = (known e).row _ c.in-Dirty.is in
-    let L = (known e).box.box.sound in
-    ((known e).box.box.fits, (L.hdd-size, (L.limits.blocks-most, (R.low, (rw R.block_is (known e).low, R.dirty_is)))))
+    let R = (known (goal.at.copy_out-stored-requires e).Else-number-ne0).row _ c.in-Dirty.is in
+    let L = (known (goal.at.copy_out-stored-requires e).Else-number-ne0).box.box.sound in
+    ((known (goal.at.copy_out-stored-requires e).Else-number-ne0).box.box.fits, (L.hdd-size, (L.limits.blocks-most, (R.low, (rw R.block_is (known (goal.at.copy_out-stored-requires e).Else-number-ne0).low, R.dirty_is)))))
 
 pub returns-in-NotCached : goal.returns-in-NotCached
 unfolding perform
 returns-in-NotCached c =
     rw c.answered.ensures
-    (done c.before.before.before.before _ c.in-NotCached.is refl)
+    (done (goal.at.returns-in-NotCached c).Else-number-ne0 _ c.in-NotCached.is refl)
 
 pub returns-in-Clean : goal.returns-in-Clean
 unfolding perform
 returns-in-Clean c =
     rw c.answered-in-Clean.ensures
-    (done c.before.before.before.before _ c.in-Clean.is refl)
+    (done (goal.at.returns-in-Clean c).Else-number-ne0 _ c.in-Clean.is refl)
 
 pub returns-in-Dirty : goal.returns-in-Dirty
 unfolding perform
 returns-in-Dirty c =
     let z = c.copy_out-stored.ensures in
     rw (c.stored.ensures, z.0, z.1, z.2)
-    (done c.before.before.before.before.before.before.before.before.before.before.before.before _ c.in-Dirty.is refl)
+    (done (goal.at.returns-in-Dirty c).Else-number-ne0 _ c.in-Dirty.is refl)
 
 pub returns-in-Writing : goal.returns-in-Writing
 returns-in-Writing c =
     rw c.refused-in-Writing.ensures
-    (shut c.before.before.before.before _ c.in-Writing.is refl)
+    (shut (goal.at.returns-in-Writing c).Else-number-ne0 _ c.in-Writing.is refl)
 
 pub returns-in-Fetching : goal.returns-in-Fetching
 returns-in-Fetching c =
     rw c.refused-in-Fetching.ensures
-    (shut c.before.before.before.before _ c.in-Fetching.is refl)
+    (shut (goal.at.returns-in-Fetching c).Else-number-ne0 _ c.in-Fetching.is refl)

@@ -1,3 +1,4 @@
+use borrow.Author.Rules.{rules}
 use mathlib.Core.Path.{refl}
 use Rattle.pages.specs.Pages.{padded}
 use Rattle.metadata.proofs.page.encode_meta.Goals as goal

@@ -10,7 +10,7 @@ use Rattle.judging.proofs.SlotLaws.{flags_low}
 use Rattle.judging.proofs.ServedLaws.{Served, served}
 use Rattle.judging.proofs.CallLaws.{look_up_is}
 use Rattle.read_path.proofs.look_up.look_up.Goals as goal
-use Rattle.read_path.proofs.look_up.look_up.Tie as tie
+use Rattle.read_path.proofs.look_up.look_up.Goals.{Else-number-ne0, Start}
 
 pub returns-then-number-ne0 : goal.returns-then-number-ne0
 returns-then-number-ne0 c =
@@ -22,16 +22,16 @@ returns-then-number-ne0 c =
     e.judge_block-seen.result.number (found _ a.table.now a.block e.judge_block-seen.ensures) c.if-number-ne0.true)
 
 -- 3 to 7 are passed
-abbrev start : tie.Else1 → tie.Start
-start c = c.before.before.before.before.before
+abbrev start : Else-number-ne0 → Start
+start c = (goal.at.Else-number-ne0 c).Start
 
-known : (c : tie.Else1) → let a = (start c).args in
+known : (c : Else-number-ne0) → let a = (start c).args in
     Served a.ssd.now a.hdd.now 4096 a.table.now a.state a.block 0 c.judge_block-seen.result
 known c = let a = (start c).args in
     served a.ssd.now a.hdd.now 4096 a.table.now a.state a.block 0 c.judge_block-seen.ensures c.if-number-ne0.false
 
 -- what the call leaves, by the block's condition
-done : (c : tie.Else1) (k : Condition) → c.judge_block-seen.result.condition ≡ k → let a = (start c).args in
+done : (c : Else-number-ne0) (k : Condition) → c.judge_block-seen.result.condition ≡ k → let a = (start c).args in
     let x = box_of a.ssd.now a.hdd.now a.table.now a.state in
     left (perform (looking_up k) x) x.images ≡ look_up_of a.ssd.now a.hdd.now a.table.now a.state a.block
 done c k e = let a = (start c).args in
@@ -40,45 +40,45 @@ done c k e = let a = (start c).args in
 pub use_slot-requires : goal.use_slot-requires
 use_slot-requires c =
     let e = c in
-    let a = (start e).args in
-    let R = (known e).row _ c.in-Clean.is in
-    record { s_in_bounds = R.within; s_bound = flags_low a.state a.table.now (known e).box.box.sound.table-size (known e).box.box.rows _ R.low }
+    let a = (start (goal.at.use_slot-requires e).Else-number-ne0).args in
+    let R = (known (goal.at.use_slot-requires e).Else-number-ne0).row _ c.in-Clean.is in
+    record { s_in_bounds = R.within; s_bound = flags_low a.state a.table.now (known (goal.at.use_slot-requires e).Else-number-ne0).box.box.sound.table-size (known (goal.at.use_slot-requires e).Else-number-ne0).box.box.rows _ R.low }
 
 pub use_slot-requires-in-Dirty : goal.use_slot-requires-in-Dirty
 use_slot-requires-in-Dirty c =
     let e = c in
-    let a = (start e).args in
-    let R = (known e).row _ c.in-Dirty.is in
-    (R.within, flags_low a.state a.table.now (known e).box.box.sound.table-size (known e).box.box.rows _ R.low)
+    let a = (start (goal.at.use_slot-requires-in-Dirty e).Else-number-ne0).args in
+    let R = (known (goal.at.use_slot-requires-in-Dirty e).Else-number-ne0).row _ c.in-Dirty.is in
+    (R.within, flags_low a.state a.table.now (known (goal.at.use_slot-requires-in-Dirty e).Else-number-ne0).box.box.sound.table-size (known (goal.at.use_slot-requires-in-Dirty e).Else-number-ne0).box.box.rows _ R.low)
 
 pub returns-in-NotCached : goal.returns-in-NotCached
 unfolding perform
 returns-in-NotCached c =
     let k = c.in-NotCached.is in
-    rw (c.answered.ensures, k) (done c.before.before.before.before _ k)
+    rw (c.answered.ensures, k) (done (goal.at.returns-in-NotCached c).Else-number-ne0 _ k)
 
 pub returns-in-Clean : goal.returns-in-Clean
 unfolding perform
 returns-in-Clean c =
     let u = c in
     let k = u in
-    rw (c.answered-in-Clean.ensures, u.use_slot.ensures) (done k.before.before.before.before.before.before.before.before.before _ k.in-Clean.is)
+    rw (c.answered-in-Clean.ensures, u.use_slot.ensures) (done (goal.at.returns-in-Clean k).Else-number-ne0 _ k.in-Clean.is)
 
 pub returns-in-Dirty : goal.returns-in-Dirty
 unfolding perform
 returns-in-Dirty c =
     let u = c in
     let k = u in
-    rw (c.answered-in-Dirty.ensures, u.use_slot-in-Dirty.ensures) (done k.before.before.before.before.before.before.before.before.before _ k.in-Dirty.is)
+    rw (c.answered-in-Dirty.ensures, u.use_slot-in-Dirty.ensures) (done (goal.at.returns-in-Dirty k).Else-number-ne0 _ k.in-Dirty.is)
 
 pub returns-in-Writing : goal.returns-in-Writing
 unfolding perform
 returns-in-Writing c =
     let k = c.in-Writing.is in
-    rw (c.answered-in-Writing.ensures, k) (done c.before.before.before.before _ k)
+    rw (c.answered-in-Writing.ensures, k) (done (goal.at.returns-in-Writing c).Else-number-ne0 _ k)
 
 pub returns-in-Fetching : goal.returns-in-Fetching
 unfolding perform
 returns-in-Fetching c =
     let k = c.in-Fetching.is in
-    rw (c.answered-in-Fetching.ensures, k) (done c.before.before.before.before _ k)
+    rw (c.answered-in-Fetching.ensures, k) (done (goal.at.returns-in-Fetching c).Else-number-ne0 _ k)

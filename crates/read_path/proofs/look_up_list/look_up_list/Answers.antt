@@ -12,7 +12,7 @@ use Rattle.locating.specs.Places.{closed_words, slots_there}
 use Rattle.locating.proofs.ListLaws.{listed_fits}
 use Rattle.locating.proofs.PlaceLaws.{places_in_is, rows-low, words_are, slots_are}
 use Rattle.read_path.proofs.look_up_list.look_up_list.Goals as goal
-use Rattle.read_path.proofs.look_up_list.look_up_list.Tie as tie
+use Rattle.read_path.proofs.look_up_list.look_up_list.Goals.{After-judge_list-listed, Else-number-ne0, Start}
 
 pub returns-then-number-ne0 : goal.returns-then-number-ne0
 returns-then-number-ne0 c =
@@ -23,44 +23,44 @@ returns-then-number-ne0 c =
     (rw c.refused.ensures r.0, r.1)
 
 -- what is found where 3 to 6 are passed
-abbrev start : tie.Else1 → tie.Start
-start e = e.before.before.before.before.before.before.before
+abbrev start : Else-number-ne0 → Start
+start e = (goal.at.Else-number-ne0 e).Start
 
-passed : (e : tie.Else1) → let a = (start e).args in
+passed : (e : Else-number-ne0) → let a = (start e).args in
     ready_then (length a.ssd.now) (length a.hdd.now) 4096 a.table.now a.state 0 ≡ 0
 passed e = let a = (start e).args in
     (looked _ a.table.now (record { 0 = 0 }) e.judge_ready-seen.ensures e.if-number-ne0.false).none
 
-box : (e : tie.Else1) → let a = (start e).args in ReadyBox a.ssd.now a.hdd.now 4096 a.table.now a.state
+box : (e : Else-number-ne0) → let a = (start e).args in ReadyBox a.ssd.now a.hdd.now 4096 a.table.now a.state
 box e = let a = (start e).args in ready a.ssd.now a.hdd.now 4096 a.table.now a.state (passed e)
 
 pub returns-then-listed-ne0 : goal.returns-then-listed-ne0
 returns-then-listed-ne0 c =
     let j = c in
     let e = j in
-    let a = (start e).args in
-    let r = list-refused a.ssd.now a.hdd.now a.table.now a.state a.blocks.now a.words.now (passed e)
+    let a = (start (goal.at.returns-then-listed-ne0 e).Else-number-ne0).args in
+    let r = list-refused a.ssd.now a.hdd.now a.table.now a.state a.blocks.now a.words.now (passed (goal.at.returns-then-listed-ne0 e).Else-number-ne0)
     j.judge_list-listed.result j.judge_list-listed.ensures c.if-listed-ne0.true in
     (rw c.refused-then-listed-ne0.ensures r.0, r.1)
 
 -- and where the list is not refused
-fits : (j : tie.After-judge_list) → j.judge_list-listed.result ≡ 0 → let a = (start j.before.before).args in
+fits : (j : After-judge_list-listed) → j.judge_list-listed.result ≡ 0 → let a = (start (goal.at.After-judge_list-listed j).Else-number-ne0).args in
     length a.blocks.now ≡ length a.words.now
-fits j z = let a = (start j.before.before).args in
+fits j z = let a = (start (goal.at.After-judge_list-listed j).Else-number-ne0).args in
     listed_fits a.blocks.now (length a.words.now) a.state.label.blocks (sym j.judge_list-listed.ensures ∙ z)
 
 pub locate-requires : goal.locate-requires
 locate-requires c =
     let j = c in
     let e = j in
-    let a = (start e).args in
-    record { table_len = (box e).box.sound.table-size; words_len = sym (fits j c.if-listed-ne0.false); slots_bound = (box e).box.ranges.slots-most }
+    let a = (start (goal.at.locate-requires e).Else-number-ne0).args in
+    record { table_len = (box (goal.at.locate-requires e).Else-number-ne0).box.sound.table-size; words_len = sym (fits (goal.at.locate-requires j).After-judge_list-listed c.if-listed-ne0.false); slots_bound = (box (goal.at.locate-requires e).Else-number-ne0).box.ranges.slots-most }
 
 pub use_places-requires : goal.use_places-requires
 use_places-requires c =
     let k = c in
     let e = k in
-    let a = (start e).args in record { by_index = λ j h. subst (λ (ws : List ℕ). 2 * get_or ws j 0 ≤ length a.table.now) (sym k.locate.ensures) (places_in_is a.table.now a.blocks.now j); by_index_2 = rows-low a.state a.table.now (box e).box.sound.table-size (box e).box.rows }
+    let a = (start (goal.at.use_places-requires e).Else-number-ne0).args in record { by_index = λ j h. subst (λ (ws : List ℕ). 2 * get_or ws j 0 ≤ length a.table.now) (sym k.locate.ensures) (places_in_is a.table.now a.blocks.now j); by_index_2 = rows-low a.state a.table.now (box (goal.at.use_places-requires e).Else-number-ne0).box.sound.table-size (box (goal.at.use_places-requires e).Else-number-ne0).box.rows }
 
 pub returns : goal.returns
 unfolding perform
@@ -70,10 +70,10 @@ returns c =
     let f = k in
     let j = f in
     let e = j in
-    let a = (start e).args in
+    let a = (start (goal.at.returns e).Else-number-ne0).args in
     let t = a.table.now in
     let ws = k.locate.ensures in
-    let r = list_is a.ssd.now a.hdd.now t a.state a.blocks.now a.words.now (passed e) (sym j.judge_list-listed.ensures ∙ f.if-listed-ne0.false) in
+    let r = list_is a.ssd.now a.hdd.now t a.state a.blocks.now a.words.now (passed (goal.at.returns e).Else-number-ne0) (sym j.judge_list-listed.ensures ∙ f.if-listed-ne0.false) in
     let rows = u.use_places.ensures.1 ∙ ap (λ (w : List ℕ). used_all (slots_there t w) t) ws
     ∙ ap (λ (ss : List Slot). used_all ss t) (slots_are t a.blocks.now) in
     let words = u.use_places.ensures.0 ∙ ap (closed_words t) ws ∙ words_are t a.blocks.now in

@@ -1,3 +1,4 @@
+use borrow.Author.Rules.{rules}
 use Prim.Native.Nat.{◌-◌, ◌+◌, ◌≤◌, ◌<◌}
 use mathlib.Core.Path.{◌≡◌, sym, ap, ◌∙◌}
 use mathlib.Core.Bool.{true}
@@ -12,46 +13,45 @@ use Rattle.record.proofs.CallerLaws.{padded-callers}
 use Rattle.record.proofs.LeaveLaws.{Leaving, Moved, leaving_begin, moved_begin, next_most, one_place, moved_on, some_slot, all_moved, without-beside}
 use native.Mathlib.Omega.{arith}
 use Rattle.record.proofs.window.leave.Goals as goal
-use Rattle.record.proofs.window.leave.Tie as tie
-use Rattle.record.proofs.window.leave.Invariants.{invariant-loop-i, decreases-loop-i}
+use Rattle.record.proofs.window.leave.Goals.{After-met-gone, Start}
 
 -- the window's length is one more than its last place
-module _ (s : tie.Start invariant-loop-i decreases-loop-i) where
+module _ (s : Start) where
   size : length s.args.w.slots ≡ 63
   size = search (rules, length-mapped)
 
-  callers-size : length s.args.t2 ≡ 63
+  callers-size : length s.args.callers ≡ 63
   callers-size = search rules
 
   some : 1 ≤ s.args.w.count
-  some = some_slot s.args.s s.args.w.slots s.args.w.count s.pre.1
+  some = some_slot s.args.s s.args.w.slots s.args.w.count s.requires.w_value
 
   last_place : s.args.w.count - 1 + 1 ≡ s.args.w.count
   last_place = omega (arith, some)
 
   here : listed s.args.s (take (s.args.w.count - 1 + 1) s.args.w.slots) ≡ true
-  here = rw last_place s.pre.1
+  here = rw last_place s.requires.w_value
 
-  same_size : length (take (s.args.w.count - 1 + 1) s.args.t2) ≡ length (take (s.args.w.count - 1 + 1) s.args.w.slots)
+  same_size : length (take (s.args.w.count - 1 + 1) s.args.callers) ≡ length (take (s.args.w.count - 1 + 1) s.args.w.slots)
   same_size =
-      let a = length-take (s.args.w.count - 1 + 1) s.args.t2 in
+      let a = length-take (s.args.w.count - 1 + 1) s.args.callers in
       let b = length-take (s.args.w.count - 1 + 1) s.args.w.slots in
       omega (arith, size, callers-size)
 
 pub overflow_sub-last : goal.overflow_sub-last
-overflow_sub-last c = some c.before.before.before
+overflow_sub-last c = some (goal.at.overflow_sub-last c).Start
 
 pub loop-i-init : goal.loop-i-init
 loop-i-init c =
     let s = c in
     let z = length-take (s.args.w.count - 1 + 1) s.args.w.slots in (
-      leaving_begin s.args.s (take (s.args.w.count - 1 + 1) s.args.w.slots) (here s) (omega (arith, last_place s, s.requires.count_le_window_most)),
+      leaving_begin s.args.s (take (s.args.w.count - 1 + 1) s.args.w.slots) (here (goal.at.loop-i-init s).Start) (omega (arith, last_place (goal.at.loop-i-init s).Start, s.requires.count_le_window_most)),
       moved_begin _ s.args.s _ _ (omega arith),
-      moved_begin 0 s.args.s _ _ (same_size s),
+      moved_begin 0 s.args.s _ _ (same_size (goal.at.loop-i-init s).Start),
     )
 
 -- the place that is read is at most one on
-one_on : (c : tie.After-met invariant-loop-i decreases-loop-i) → c.met-gone.result ≤ 1
+one_on : (c : After-met-gone) → c.met-gone.result ≤ 1
 one_on c =
     let l = c.loop-i in
     let s = c in
@@ -63,22 +63,22 @@ overflow_add-k c = omega (arith, one_on c)
 pub offset_bounds-slots-k : goal.offset_bounds-slots-k
 offset_bounds-slots-k c =
     let s = c in
-    omega (arith, one_on c, some s, s.requires.count_le_window_most)
+    omega (arith, one_on c, some (goal.at.offset_bounds-slots-k s).Start, s.requires.count_le_window_most)
 
 pub bounds-slots-k : goal.bounds-slots-k
 bounds-slots-k c =
     let s = c in
-    omega (arith, one_on c, some s, s.requires.count_le_window_most)
+    omega (arith, one_on c, some (goal.at.bounds-slots-k s).Start, s.requires.count_le_window_most)
 
 pub offset_bounds-callers-k : goal.offset_bounds-callers-k
 offset_bounds-callers-k c =
     let s = c in
-    omega (arith, one_on c.before.before, some s, s.requires.count_le_window_most)
+    omega (arith, one_on (goal.at.offset_bounds-callers-k c).After-met-gone, some (goal.at.offset_bounds-callers-k s).Start, s.requires.count_le_window_most)
 
 pub bounds-callers-k : goal.bounds-callers-k
 bounds-callers-k c =
     let s = c in
-    omega (arith, one_on c.before.before, some s, s.requires.count_le_window_most)
+    omega (arith, one_on (goal.at.bounds-callers-k c).After-met-gone, some (goal.at.bounds-callers-k s).Start, s.requires.count_le_window_most)
 
 pub loop-i-preserved : goal.loop-i-preserved
 loop-i-preserved c =
@@ -88,11 +88,11 @@ loop-i-preserved c =
     let g = c.met-gone.result in
     let e = c.met-gone.ensures in
     let h : l.i + 1 < n = omega arith in
-    let m : n ≤ length s.args.w.slots = omega (arith, size s, last_place s, s.requires.count_le_window_most) in
-    let k : n ≤ length s.args.t2 = omega (arith, callers-size s, last_place s, s.requires.count_le_window_most) in (
+    let m : n ≤ length s.args.w.slots = omega (arith, size (goal.at.loop-i-preserved s).Start, last_place (goal.at.loop-i-preserved s).Start, s.requires.count_le_window_most) in
+    let k : n ≤ length s.args.callers = omega (arith, callers-size (goal.at.loop-i-preserved s).Start, last_place (goal.at.loop-i-preserved s).Start, s.requires.count_le_window_most) in (
       one_place s.args.s s.args.w.slots n l.gone l.i g _ l.invariant.0 e h m,
-      moved_on s.args.s s.args.w.slots n l.gone l.i g _ l.invariant.0 e h m _ s.args.w.slots l.false (here s) m l.invariant.1,
-      moved_on s.args.s s.args.w.slots n l.gone l.i g _ l.invariant.0 e h m 0 s.args.t2 l.named (here s) k l.invariant.2,
+      moved_on s.args.s s.args.w.slots n l.gone l.i g _ l.invariant.0 e h m _ s.args.w.slots l.false (here (goal.at.loop-i-preserved s).Start) m l.invariant.1,
+      moved_on s.args.s s.args.w.slots n l.gone l.i g _ l.invariant.0 e h m 0 s.args.callers l.named (here (goal.at.loop-i-preserved s).Start) k l.invariant.2,
     )
 
 pub returns : goal.returns
@@ -103,10 +103,10 @@ returns c =
     let w = take n s.args.w.slots in
     let z = length-take n s.args.w.slots in
     let a : l.false ≡ array_of (without s.args.s w) =
-    all_moved _ s.args.s w w l.false l.i l.invariant.1 (omega arith) (here s) ∙ padded-slots _
+    all_moved _ s.args.s w w l.false l.i l.invariant.1 (omega arith) (here (goal.at.returns s).Start) ∙ padded-slots _
     ∙ ap array_of (sym (without-beside s.args.s w))
     in
-    let b : l.named ≡ caller_array (beside s.args.s w (take n s.args.t2)) =
-    all_moved 0 s.args.s w _ l.named l.i l.invariant.2 (omega arith) (here s) ∙ padded-callers _
+    let b : l.named ≡ caller_array (beside s.args.s w (take n s.args.callers)) =
+    all_moved 0 s.args.s w _ l.named l.i l.invariant.2 (omega arith) (here (goal.at.returns s).Start) ∙ padded-callers _
     in
-    (λ i. record { slots = (rw (last_place s) at a) i; callers = (rw (last_place s) at b) i })
+    (λ i. record { slots = (rw (last_place (goal.at.returns s).Start) at a) i; callers = (rw (last_place (goal.at.returns s).Start) at b) i })

@@ -1,3 +1,4 @@
+use borrow.Author.Rules.{rules}
 use Prim.Native.Nat.{ℕ, ◌+◌, ◌-◌, ◌≤◌, ◌<◌}
 use mathlib.Core.Path.{◌≡◌, refl, ap, ◌∙◌}
 use mathlib.Core.List.{List, [], ◌∷◌}
@@ -24,7 +25,7 @@ further cs i n m h e f = rw (add-one, take-suc cs i 0 h, by_more, e, f)
 pub loop-i-preserved : goal.loop-i-preserved
 loop-i-preserved c =
     let l = c.loop-i in
-    let cs = c.args.t1 in
+    let cs = c.args.callers in
     let all : length cs ≡ 63 = search rules in
     (omega arith, omega (arith, c.is_import-counted.ensures.1), further cs l.i _ _ (omega arith) l.invariant.2 c.is_import-counted.ensures.0)
 
@@ -32,4 +33,4 @@ pub returns : goal.returns
 returns c =
     let l = c.loop-i in
     let e : l.i ≡ c.args.count = omega arith in
-    l.invariant.2 ∙ ap (λ (n : ℕ). open_by 1 (take n c.args.t1)) e
+    l.invariant.2 ∙ ap (λ (n : ℕ). open_by 1 (take n c.args.callers)) e

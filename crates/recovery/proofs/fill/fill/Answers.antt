@@ -1,3 +1,4 @@
+use borrow.Author.Rules.{rules}
 use lib.ListN.{length-set, length, take}
 use Rattle.recovery.proofs.FillLaws.{rows_none, row-filled, rows-filled}
 use Prim.Native.Nat.{◌*◌, ◌-◌, ◌≤◌}

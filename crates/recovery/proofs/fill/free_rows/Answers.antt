@@ -1,3 +1,4 @@
+use borrow.Author.Rules.{rules}
 use Rattle.recovery.proofs.FillLaws.{freed-left, freed_end}
 use Prim.Native.Nat.{◌-◌, ◌≤◌}
 use mathlib.Core.Path.{◌≡◌, sym, ◌∙◌}

@@ -1,17 +1,17 @@
+use borrow.Author.Rules.{rules}
 use Prim.Native.Nat.{ℕ, ◌-◌, ◌≤◌, ◌<◌}
 use mathlib.Core.Path.{◌≡◌, ◌∙◌}
 use lib.ListN.{length, get_or}
 use Rattle.slot_map.proofs.TextLaws.{byte_at, row_byte, space_byte, filled_more, least-low, letters_are}
 use native.Mathlib.Omega.{arith}
 use Rattle.slot_map.proofs.text.put_letters.Goals as goal
-use Rattle.slot_map.proofs.text.put_letters.Tie as tie
-use Rattle.slot_map.proofs.text.put_letters.Invariants.{invariant-loop-i, decreases-loop-i, invariant-loop-i-2, decreases-loop-i-2}
+use Rattle.slot_map.proofs.text.put_letters.Goals.{After-least-n, Start}
 
 -- where the letters begin, and how many there are
-abbrev start : tie.After-least invariant-loop-i decreases-loop-i invariant-loop-i-2 decreases-loop-i-2 → tie.Start invariant-loop-i decreases-loop-i invariant-loop-i-2 decreases-loop-i-2
-start c = c.before.before.before.before
+abbrev start : After-least-n → Start
+start c = (goal.at.After-least-n c).Start
 
-few : (c : tie.After-least invariant-loop-i decreases-loop-i invariant-loop-i-2 decreases-loop-i-2) → let a = (start c).args in
+few : (c : After-least-n) → let a = (start c).args in
     (c.least-n.result ≤ a.l.slots - a.first) × (c.least-n.result ≤ 60)
 few c = let a = (start c).args in least-low c.least-n.result (a.l.slots - a.first) 60 c.least-n.ensures
 
@@ -20,20 +20,20 @@ loop-i-init c = (search rules, search rules, λ j h. absurd (omega arith))
 
 pub bounds-table-from : goal.bounds-table-from
 bounds-table-from c =
-    let f = few c.before.before.before.before in
-    let P = (start c.before.before.before.before).requires in
+    let f = few (goal.at.bounds-table-from c).After-least-n in
+    let P = (start (goal.at.bounds-table-from c).After-least-n).requires in
     omega (arith, f.0, P.1.0, P.1.1, c.loop-i.invariant.0)
 
 pub bounds-part-i : goal.bounds-part-i
 bounds-part-i c =
-    let f = few c.before.before.before.before.before in
+    let f = few (goal.at.bounds-part-i c).After-least-n in
     omega (arith, f.1, c.loop-i.invariant.1)
 
 pub loop-i-preserved : goal.loop-i-preserved
 loop-i-preserved c =
     let L = c.loop-i in
     let e = c in
-    let a = (start e).args in
+    let a = (start (goal.at.loop-i-preserved e).After-least-n).args in
     let i : ℕ = L.i in
     let low : i < e.least-n.result = omega arith in
     let f = few e in (
@@ -46,14 +46,14 @@ loop-i-preserved c =
 pub loop-i-2-init : goal.loop-i-2-init
 loop-i-2-init c =
     let L = c.loop-i in
-    let f = few c.before.before.before in
+    let f = few (goal.at.loop-i-2-init c).After-least-n in
     (search rules, omega (arith, f.1), L.invariant.1, L.invariant.2)
 
 pub loop-i-2-preserved : goal.loop-i-2-preserved
 loop-i-2-preserved c =
     let L = c.loop-i-2 in
     let e = c in
-    let a = (start e).args in (
+    let a = (start (goal.at.loop-i-2-preserved e).After-least-n).args in (
       search rules,
       search rules,
       search rules,
@@ -65,7 +65,7 @@ pub returns : goal.returns
 returns c =
     let L = c.loop-i-2 in
     let e = c in
-    let a = (start e).args in
+    let a = (start (goal.at.returns e).After-least-n).args in
     let n : L.i ≡ 60 = omega arith in
-    letters_are a.l a.table.now L.part a.first e.least-n.result (start e).requires.first_lt_slots e.least-n.ensures L.invariant.2
+    letters_are a.l a.table.now L.part a.first e.least-n.result (start (goal.at.returns e).After-least-n).requires.first_lt_slots e.least-n.ensures L.invariant.2
     (λ j h. L.invariant.3 j (omega arith))

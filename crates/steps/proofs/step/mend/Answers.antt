@@ -6,10 +6,10 @@ use Rattle.protocol.specs.Plan.{lowest_page}
 use Rattle.record.proofs.RecordLaws.{window_is}
 use Rattle.steps.proofs.MendLaws.{mended_fits, mends-low}
 use Rattle.steps.proofs.step.mend.Goals as goal
-use Rattle.steps.proofs.step.mend.Tie as tie
+use Rattle.steps.proofs.step.mend.Goals.{After-lowest_page-p}
 
 -- the lowest page, by the record's own window
-page_is : (c : tie.After-lowest_page) → c.lowest_page-p.result ≡ lowest_page (window_in c.args.state)
+page_is : (c : After-lowest_page-p) → c.lowest_page-p.result ≡ lowest_page (window_in c.args.state)
 page_is c =
     let s = c in
     c.lowest_page-p.ensures ∙ ap (λ (w : Window). lowest_page (slots_in w)) c.window_of.ensures ∙ ap lowest_page
@@ -23,7 +23,7 @@ lowest_page-p-requires c =
 pub confirm-requires : goal.confirm-requires
 confirm-requires c =
     let s = c in
-    let p = page_is c.before.before.before in
+    let p = page_is (goal.at.confirm-requires c).After-lowest_page-p in
     let F = mended_fits _ _ s.args.state _ _ s.requires.fits_record s.requires.state_value c.mended-next.ensures in record {
       fits_record = F;
       p_bound = rw (c.mended-next.ensures, p) (mends-low s.args.state s.requires.state_value s.requires.le_count);
@@ -34,6 +34,6 @@ confirm-requires c =
 pub returns : goal.returns
 returns c =
     let s = c in
-    let p = page_is c.before.before.before.before.before.before in
+    let p = page_is (goal.at.returns c).After-lowest_page-p in
     let e = c.mended-next.ensures in
     (rw (c.confirm.ensures.0, e, p), rw (c.confirm.ensures.1, e, p))

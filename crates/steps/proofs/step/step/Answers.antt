@@ -14,18 +14,18 @@ use Rattle.judging.proofs.ServeLaws.{refused_by}
 use Rattle.judging.proofs.ReadyLaws.{SoundBox, sound}
 use Rattle.steps.proofs.StepLaws.{step_judges, step_ready, step_formats, step_spent, step_mends, steps_low, some_pending}
 use Rattle.steps.proofs.step.step.Goals as goal
-use Rattle.steps.proofs.step.step.Tie as tie
+use Rattle.steps.proofs.step.step.Goals.{Else-number-ne0, Start}
 
 -- what is found where 3 to 5 are passed
-abbrev start : tie.Else1 → tie.Start
-start c = c.before.before.before.before.before
+abbrev start : Else-number-ne0 → Start
+start c = (goal.at.Else-number-ne0 c).Start
 
-passed : (c : tie.Else1) → let a = (start c).args in
+passed : (c : Else-number-ne0) → let a = (start c).args in
     sound_then (length a.ssd.now) (length a.hdd.now) 4096 a.table.now a.state 0 ≡ 0
 passed c = let a = (start c).args in
     (looked _ a.table.now (record { 0 = 0 }) c.judge_box-judged.ensures c.if-number-ne0.false).none
 
-box : (c : tie.Else1) → let a = (start c).args in SoundBox a.ssd.now a.hdd.now 4096 a.table.now a.state
+box : (c : Else-number-ne0) → let a = (start c).args in SoundBox a.ssd.now a.hdd.now 4096 a.table.now a.state
 box c = let a = (start c).args in sound a.ssd.now a.hdd.now 4096 a.table.now a.state (passed c)
 
 pub returns-then-number-ne0 : goal.returns-then-number-ne0
@@ -47,9 +47,9 @@ pub returns-then-top-state : goal.returns-then-top-state
 returns-then-top-state c =
     let n = c in
     let e = n in
-    let a = (start e).args in
+    let a = (start (goal.at.returns-then-top-state e).Else-number-ne0).args in
     rw c.refused-then-top-state.ensures
-    (step_spent a.ssd.now a.hdd.now a.table.now a.state (passed e) n.in-Recovering.is
+    (step_spent a.ssd.now a.hdd.now a.table.now a.state (passed (goal.at.returns-then-top-state e).Else-number-ne0) n.in-Recovering.is
     (le-leb (largest_stamp (label_in a.state)) _ (omega (arith, n.largest_stamp-top.ensures, c.if-top-state.true))))
 
 pub mend-requires : goal.mend-requires
@@ -61,17 +61,17 @@ mend-requires c =
 pub returns-in-Ready : goal.returns-in-Ready
 returns-in-Ready c =
     let e = c in
-    let a = (start e).args in
+    let a = (start (goal.at.returns-in-Ready e).Else-number-ne0).args in
     rw c.refused-in-Ready.ensures
-    (step_ready a.ssd.now a.hdd.now a.table.now a.state (passed e) c.in-Ready.is)
+    (step_ready a.ssd.now a.hdd.now a.table.now a.state (passed (goal.at.returns-in-Ready e).Else-number-ne0) c.in-Ready.is)
 
 pub returns-in-Formatting : goal.returns-in-Formatting
 returns-in-Formatting c =
     let e = c in
-    let a = (start e).args in
+    let a = (start (goal.at.returns-in-Formatting e).Else-number-ne0).args in
     let z = c.format_step.ensures in
     rw (z.0, z.1)
-    (step_formats a.ssd.now a.hdd.now a.table.now a.state (passed e) _
+    (step_formats a.ssd.now a.hdd.now a.table.now a.state (passed (goal.at.returns-in-Formatting e).Else-number-ne0) _
     c.in-Formatting.is)
 
 pub returns-else-top-state : goal.returns-else-top-state
@@ -80,8 +80,8 @@ returns-else-top-state c =
     let k = c in
     let n = k in
     let e = n in
-    let a = (start e).args in
+    let a = (start (goal.at.returns-else-top-state e).Else-number-ne0).args in
     let z = c.mend.ensures in
     rw (z.0, z.1)
-    (step_mends a.ssd.now a.hdd.now a.table.now a.state (passed e) n.in-Recovering.is
+    (step_mends a.ssd.now a.hdd.now a.table.now a.state (passed (goal.at.returns-else-top-state e).Else-number-ne0) n.in-Recovering.is
     (lt-leb (largest_stamp (label_in a.state)) _ (omega (arith, n.largest_stamp-top.ensures, k.if-top-state.false))))

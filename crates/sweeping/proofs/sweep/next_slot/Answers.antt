@@ -1,3 +1,4 @@
+use borrow.Author.Rules.{rules}
 use native.Mathlib.Omega.{arith}
 use Rattle.sweeping.proofs.SweepLaws.{next_in, next_wraps}
 use Rattle.sweeping.proofs.sweep.next_slot.Goals as goal

@@ -17,31 +17,31 @@ use Rattle.judging.proofs.SlotLaws.{flags_low}
 use Rattle.judging.proofs.ServedLaws.{Served, served}
 use Rattle.judging.proofs.CallLaws.{land_wrong, land_is}
 use Rattle.write_path.proofs.land.land.Goals as goal
-use Rattle.write_path.proofs.land.land.Tie as tie
+use Rattle.write_path.proofs.land.land.Goals.{Else-number-ne0, Start}
 
 -- 3 to 7 are passed
-abbrev start : tie.Else1 → tie.Start
-start c = c.before.before.before.before.before.before
+abbrev start : Else-number-ne0 → Start
+start c = (goal.at.Else-number-ne0 c).Start
 
-known : (c : tie.Else1) → let a = (start c).args in
+known : (c : Else-number-ne0) → let a = (start c).args in
     Served a.ssd.now a.hdd.now (length a.page.now) a.table.now a.state a.block 0 c.judge_block-seen.result
 known c = let a = (start c).args in
     served a.ssd.now a.hdd.now (length a.page.now) a.table.now a.state a.block 0 c.judge_block-seen.ensures c.if-number-ne0.false
 
-wrong : (c : tie.Else1) (k : Condition) → c.judge_block-seen.result.condition ≡ k → takes_write k ≡ false → let a = (start c).args in
+wrong : (c : Else-number-ne0) (k : Condition) → c.judge_block-seen.result.condition ≡ k → takes_write k ≡ false → let a = (start c).args in
     let x = box_of a.ssd.now a.hdd.now a.table.now a.state in
     left (refusing 9 x) x.images ≡ land_of a.ssd.now a.hdd.now a.table.now a.state a.block a.page.now
 wrong c k e o = let a = (start c).args in
     land_wrong a.ssd.now a.hdd.now a.table.now a.state a.block k ((known c).is k e) a.page.now (known c).none o
 
-done : (c : tie.Else1) (k : Condition) → c.judge_block-seen.result.condition ≡ k → takes_write k ≡ true → let a = (start c).args in
+done : (c : Else-number-ne0) (k : Condition) → c.judge_block-seen.result.condition ≡ k → takes_write k ≡ true → let a = (start c).args in
     let x = box_of a.ssd.now a.hdd.now a.table.now a.state in
     left (perform (landing a.page.now k) x) x.images ≡ land_of a.ssd.now a.hdd.now a.table.now a.state a.block a.page.now
 done c k e o = let a = (start c).args in
     land_is a.ssd.now a.hdd.now a.table.now a.state a.block k ((known c).is k e) a.page.now (known c).none o
 
 -- the flags of a slot's row
-low-flags : (c : tie.Else1) (s : Slot) → s.0 < (start c).args.state.label.slots → row_flags (start c).args.table.now s < 16
+low-flags : (c : Else-number-ne0) (s : Slot) → s.0 < (start c).args.state.label.slots → row_flags (start c).args.table.now s < 16
 low-flags c = let a = (start c).args in
     flags_low a.state a.table.now (known c).box.box.sound.table-size (known c).box.box.rows
 
@@ -56,36 +56,36 @@ returns-then-number-ne0 c =
 pub store_page-stored-requires : goal.store_page-stored-requires
 store_page-stored-requires c =
     let e = c in
-    let R = (known e).row _ c.in-Dirty.is in
-    ((known e).box.box.sound.ssd-size, ((known e).box.box.page-size, ((known e).box.box.fits.slots-most, R.low)))
+    let R = (known (goal.at.store_page-stored-requires e).Else-number-ne0).row _ c.in-Dirty.is in
+    ((known (goal.at.store_page-stored-requires e).Else-number-ne0).box.box.sound.ssd-size, ((known (goal.at.store_page-stored-requires e).Else-number-ne0).box.box.page-size, ((known (goal.at.store_page-stored-requires e).Else-number-ne0).box.box.fits.slots-most, R.low)))
 
 pub land_row-requires : goal.land_row-requires
 land_row-requires c =
     let e = c in
-    let R = (known e).row _ c.in-Dirty.is in
-    record { s_in_bounds = R.within; s_bound = low-flags e _ R.low }
+    let R = (known (goal.at.land_row-requires e).Else-number-ne0).row _ c.in-Dirty.is in
+    record { s_in_bounds = R.within; s_bound = low-flags (goal.at.land_row-requires e).Else-number-ne0 _ R.low }
 
 pub store_page-stored-requires-in-Writing : goal.store_page-stored-requires-in-Writing
 store_page-stored-requires-in-Writing c =
     let e = c in
-    let R = (known e).row _ c.in-Writing.is in
-    ((known e).box.box.sound.ssd-size, ((known e).box.box.page-size, ((known e).box.box.fits.slots-most, R.low)))
+    let R = (known (goal.at.store_page-stored-requires-in-Writing e).Else-number-ne0).row _ c.in-Writing.is in
+    ((known (goal.at.store_page-stored-requires-in-Writing e).Else-number-ne0).box.box.sound.ssd-size, ((known (goal.at.store_page-stored-requires-in-Writing e).Else-number-ne0).box.box.page-size, ((known (goal.at.store_page-stored-requires-in-Writing e).Else-number-ne0).box.box.fits.slots-most, R.low)))
 
 pub close_slot-next-requires : goal.close_slot-next-requires
 close_slot-next-requires c =
     let e = c in
-    let R = (known e).row _ c.in-Writing.is in
-    ((known e).box.box.record_kept, (open_listed _ _ _ _ _ (known e).box _ R.low R.writing_is, (R.within, low-flags e _ R.low)))
+    let R = (known (goal.at.close_slot-next-requires e).Else-number-ne0).row _ c.in-Writing.is in
+    ((known (goal.at.close_slot-next-requires e).Else-number-ne0).box.box.record_kept, (open_listed _ _ _ _ _ (known (goal.at.close_slot-next-requires e).Else-number-ne0).box _ R.low R.writing_is, (R.within, low-flags (goal.at.close_slot-next-requires e).Else-number-ne0 _ R.low)))
 
 pub returns-in-NotCached : goal.returns-in-NotCached
 returns-in-NotCached c =
     rw c.refused-in-NotCached.ensures
-    (wrong c.before.before.before.before _ c.in-NotCached.is refl)
+    (wrong (goal.at.returns-in-NotCached c).Else-number-ne0 _ c.in-NotCached.is refl)
 
 pub returns-in-Clean : goal.returns-in-Clean
 returns-in-Clean c =
     rw c.refused-in-Clean.ensures
-    (wrong c.before.before.before.before _ c.in-Clean.is refl)
+    (wrong (goal.at.returns-in-Clean c).Else-number-ne0 _ c.in-Clean.is refl)
 
 pub returns-in-Dirty : goal.returns-in-Dirty
 unfolding perform
@@ -94,8 +94,8 @@ returns-in-Dirty c =
     let k = c.in-Dirty.is in
     let z = c.land_row.ensures in
     let d = c.store_page-stored.ensures in
-    rw (c.stored.ensures, d.0, d.1, z, ((known e).row _ k).writing_is)
-    (rw (perform, ((known e).row _ k).writing_is) at (done e _ k refl))
+    rw (c.stored.ensures, d.0, d.1, z, ((known (goal.at.returns-in-Dirty e).Else-number-ne0).row _ k).writing_is)
+    (rw (perform, ((known (goal.at.returns-in-Dirty e).Else-number-ne0).row _ k).writing_is) at (done (goal.at.returns-in-Dirty e).Else-number-ne0 _ k refl))
 
 pub returns-in-Writing : goal.returns-in-Writing
 unfolding perform
@@ -104,10 +104,10 @@ returns-in-Writing c =
     let k = c.in-Writing.is in
     let z = c.close_slot-next.ensures in
     let d = c.store_page-stored-in-Writing.ensures in
-    rw (c.stored-in-Writing.ensures, d.0, d.1, z.0, z.1, ((known e).row _ k).writing_is)
-    (rw (perform, ((known e).row _ k).writing_is) at (done e _ k refl))
+    rw (c.stored-in-Writing.ensures, d.0, d.1, z.0, z.1, ((known (goal.at.returns-in-Writing e).Else-number-ne0).row _ k).writing_is)
+    (rw (perform, ((known (goal.at.returns-in-Writing e).Else-number-ne0).row _ k).writing_is) at (done (goal.at.returns-in-Writing e).Else-number-ne0 _ k refl))
 
 pub returns-in-Fetching : goal.returns-in-Fetching
 returns-in-Fetching c =
     rw c.refused-in-Fetching.ensures
-    (wrong c.before.before.before.before _ c.in-Fetching.is refl)
+    (wrong (goal.at.returns-in-Fetching c).Else-number-ne0 _ c.in-Fetching.is refl)

@@ -11,19 +11,19 @@ use Rattle.judging.proofs.ServedLaws.{Served, served}
 use Rattle.turns.proofs.TurnLaws.{pass_is, seen, where_within}
 use Rattle.performing.proofs.PerformLaws.{offer_performs, offer_turned}
 use Rattle.write_path.proofs.offer.offer.Goals as goal
-use Rattle.write_path.proofs.offer.offer.Tie as tie
+use Rattle.write_path.proofs.offer.offer.Goals.{After-offer-turn, Else-number-ne0, Start}
 
 -- 3 to 7 are passed
-abbrev start : tie.Else1 → tie.Start
-start c = c.before.before.before.before.before
+abbrev start : Else-number-ne0 → Start
+start c = (goal.at.Else-number-ne0 c).Start
 
-known : (c : tie.Else1) → let a = (start c).args in
+known : (c : Else-number-ne0) → let a = (start c).args in
     Served a.ssd.now a.hdd.now 4096 a.table.now a.state a.block a.caller c.judge_block-seen.result
 known c = let a = (start c).args in
     served a.ssd.now a.hdd.now 4096 a.table.now a.state a.block a.caller c.judge_block-seen.ensures c.if-number-ne0.false
 
 -- the slot that the block's condition names
-within : (c : tie.Else1) → Within (start c).args.state.label.slots c.judge_block-seen.result.condition
+within : (c : Else-number-ne0) → Within (start c).args.state.label.slots c.judge_block-seen.result.condition
 within c =
     let a = (start c).args in
     let k = c.judge_block-seen.result.condition in
@@ -46,22 +46,22 @@ offer-turn-requires c =
     )
 
 -- what its turn leaves is what the call does
-offered : (d : tie.After-offer) → let a = (start d.before).args in let x = box_of a.ssd.now a.hdd.now a.table.now a.state in
+offered : (d : After-offer-turn) → let a = (start (goal.at.After-offer-turn d).Else-number-ne0).args in let x = box_of a.ssd.now a.hdd.now a.table.now a.state in
     left (turned d.offer-turn.result a.block a.caller x) x.images ≡ offer_of a.ssd.now a.hdd.now a.table.now a.state a.block a.caller
 offered d =
     let e = d in
-    let a = (start e).args in
+    let a = (start (goal.at.After-offer-turn e).Else-number-ne0).args in
     let x = box_of a.ssd.now a.hdd.now a.table.now a.state in
     ap (λ (T : Turn). left (turned T a.block a.caller x) x.images)
-    (d.offer-turn.ensures ∙ ap (offer_turn a.table.now a.state a.caller) (sym ((known e).is _ refl)))
-    ∙ ap (λ (f : Effect). left f x.images) (sym (offer_turned a.ssd.now a.hdd.now a.table.now a.state a.block a.caller (known e).none))
+    (d.offer-turn.ensures ∙ ap (offer_turn a.table.now a.state a.caller) (sym ((known (goal.at.After-offer-turn e).Else-number-ne0).is _ refl)))
+    ∙ ap (λ (f : Effect). left f x.images) (sym (offer_turned a.ssd.now a.hdd.now a.table.now a.state a.block a.caller (known (goal.at.After-offer-turn e).Else-number-ne0).none))
 
 pub returns-then-passes : goal.returns-then-passes
 unfolding confirmed perform
 returns-then-passes c =
     let p = c in
     let d = p in
-    let a = (start d.before.before.before.before.before).args in
+    let a = (start (goal.at.returns-then-passes d).Else-number-ne0).args in
     let x = box_of a.ssd.now a.hdd.now a.table.now a.state in
     rw c.answered.ensures
     (ap (λ (T : Turn). left (turned T a.block a.caller x) x.images) (sym (pass_is d.offer-turn.result (sym p.passes.ensures ∙ c.if-passes.true))) ∙ offered d)
@@ -70,12 +70,12 @@ pub perform-requires : goal.perform-requires
 perform-requires c =
     let d = c in
     let e = d in
-    let a = (start e).args in
-    let B = (known e).box.box in
-    let p = offer_performs a.ssd.now a.hdd.now a.table.now a.state a.block a.caller (known e).none e.judge_block-seen.result.condition (within e) in
+    let a = (start (goal.at.perform-requires e).Else-number-ne0).args in
+    let B = (known (goal.at.perform-requires e).Else-number-ne0).box.box in
+    let p = offer_performs a.ssd.now a.hdd.now a.table.now a.state a.block a.caller (known (goal.at.perform-requires e).Else-number-ne0).none e.judge_block-seen.result.condition (within (goal.at.perform-requires e).Else-number-ne0) in
     record { fits_record = B.fits; hdd_len = B.sound.hdd-size; state_value = B.record_kept; table_value = B.rows; performable = rw d.offer-turn.ensures p }
 
 pub returns : goal.returns
 returns c =
     let f = c in
-    f.perform.ensures ∙ offered f.before.before.before.before.before.before.before.before.before.before.before.before.before
+    f.perform.ensures ∙ offered (goal.at.returns f).After-offer-turn
