@@ -20,7 +20,7 @@ returns-then-n-gt4294967295 c =
     let h = w.loop-i-test.true in
     let e = w.wide-b.ensures.0 in
     too_large _ l.n _
-    (sym l.invariant.2 ∙ next_line a.bytes.now l.i l.false l.n h (sym e ∙ c.if-b-eq10.true)) (omega arith)
+    (sym l.invariant.2 ∙ next_line a.bytes.now l.i l.left l.n h (sym e ∙ c.if-b-eq10.true)) (omega arith)
 
 pub returns-then-b-eq10 : goal.returns-then-b-eq10
 returns-then-b-eq10 c =
@@ -30,7 +30,7 @@ returns-then-b-eq10 c =
     let h = w.loop-i-test.true in
     let e = w.wide-b.ensures.0 in
     fits_line _ l.n _
-    (sym l.invariant.2 ∙ next_line a.bytes.now l.i l.false l.n h (sym e ∙ c.if-b-eq10.true)) (omega arith)
+    (sym l.invariant.2 ∙ next_line a.bytes.now l.i l.left l.n h (sym e ∙ c.if-b-eq10.true)) (omega arith)
 
 pub returns-then-left-eq0 : goal.returns-then-left-eq0
 returns-then-left-eq0 c =
@@ -39,7 +39,7 @@ returns-then-left-eq0 c =
     let a = w.args in
     let h = w.loop-i-test.true in
     let e = w.wide-b.ensures.0 in
-    not-read _ (sym l.invariant.2 ∙ next_full a.bytes.now l.i l.false l.n h c.if-left-eq0.true (λ q. c.if-b-eq10.false (e ∙ q)))
+    not-read _ (sym l.invariant.2 ∙ next_full a.bytes.now l.i l.left l.n h c.if-left-eq0.true (λ q. c.if-b-eq10.false (e ∙ q)))
 
 pub returns-then-b-lt48 : goal.returns-then-b-lt48
 returns-then-b-lt48 c =
@@ -49,7 +49,7 @@ returns-then-b-lt48 c =
     let h = w.loop-i-test.true in
     let e = w.wide-b.ensures.0 in
     not-read _
-    (sym l.invariant.2 ∙ next_low a.bytes.now l.i l.false l.n h (λ q. c.if-b-eq10.false (e ∙ q)) (omega arith))
+    (sym l.invariant.2 ∙ next_low a.bytes.now l.i l.left l.n h (λ q. c.if-b-eq10.false (e ∙ q)) (omega arith))
 
 pub returns-then-b-gt57 : goal.returns-then-b-gt57
 returns-then-b-gt57 c =
@@ -58,20 +58,20 @@ returns-then-b-gt57 c =
     let a = w.args in
     let h = w.loop-i-test.true in
     let e = w.wide-b.ensures.0 in
-    not-read _ (sym l.invariant.2 ∙ next_high a.bytes.now l.i l.false l.n h (omega arith))
+    not-read _ (sym l.invariant.2 ∙ next_high a.bytes.now l.i l.left l.n h (omega arith))
 
 pub overflow_mul-n : goal.overflow_mul-n
 overflow_mul-n c =
     let w = c in
     let l = w.loop-i in
-    let z = nine l.n l.false w.wide-b.result c.if-left-eq0.false l.invariant.0 l.invariant.1 c.if-b-gt57.false in
+    let z = nine l.n l.left w.wide-b.result c.if-left-eq0.false l.invariant.0 l.invariant.1 c.if-b-gt57.false in
     omega arith
 
 pub overflow_add-n : goal.overflow_add-n
 overflow_add-n c =
     let w = c in
     let l = w.loop-i in
-    let z = nine l.n l.false w.wide-b.result c.if-left-eq0.false l.invariant.0 l.invariant.1 c.if-b-gt57.false in
+    let z = nine l.n l.left w.wide-b.result c.if-left-eq0.false l.invariant.0 l.invariant.1 c.if-b-gt57.false in
     omega arith
 
 pub loop-i-preserved : goal.loop-i-preserved
@@ -82,13 +82,13 @@ loop-i-preserved c =
     let h = w.loop-i-test.true in
     let e = w.wide-b.ensures.0 in (
       omega arith,
-      digit_more l.n l.false w.wide-b.result c.if-left-eq0.false l.invariant.0 l.invariant.1 c.if-b-gt57.false,
-      ap (λ (x : ℕ). number_from (l.false - 1) (10 * l.n + (x - 48)) (drop (l.i + 1) a.bytes.now)) e
-          ∙ sym (next_digit a.bytes.now l.i l.false l.n h (l.false - 1) (omega arith) (omega arith) (omega arith))
+      digit_more l.n l.left w.wide-b.result c.if-left-eq0.false l.invariant.0 l.invariant.1 c.if-b-gt57.false,
+      ap (λ (x : ℕ). number_from (l.left - 1) (10 * l.n + (x - 48)) (drop (l.i + 1) a.bytes.now)) e
+          ∙ sym (next_digit a.bytes.now l.i l.left l.n h (l.left - 1) (omega arith) (omega arith) (omega arith))
           ∙ l.invariant.2,
     )
 
 pub returns : goal.returns
 returns c =
     let l = c.loop-i in
-    not-read _ (sym l.invariant.2 ∙ next_none c.args.bytes.now l.i l.false l.n (omega arith))
+    not-read _ (sym l.invariant.2 ∙ next_none c.args.bytes.now l.i l.left l.n (omega arith))

@@ -39,7 +39,7 @@ loop-i-preserved c =
       search rules,
       search rules,
       search rules,
-      run_more a.draws l.i l.s d.draw-s.result (load_of l.ssd l.hdd l.table l.false l.plain l.refusals) _ _ h
+      run_more a.draws l.i l.s d.draw-s.result (load_of l.ssd l.hdd l.table l.left l.plain l.refusals) _ _ h
           d.draw-s.ensures m.make-turn.ensures c.count-refusals.ensures
           ∙ l.invariant.6,
     )

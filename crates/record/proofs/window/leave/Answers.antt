@@ -91,7 +91,7 @@ loop-i-preserved c =
     let m : n ≤ length s.args.w.slots = omega (arith, size (goal.at.loop-i-preserved s).Start, last_place (goal.at.loop-i-preserved s).Start, s.requires.count_le_window_most) in
     let k : n ≤ length s.args.callers = omega (arith, callers-size (goal.at.loop-i-preserved s).Start, last_place (goal.at.loop-i-preserved s).Start, s.requires.count_le_window_most) in (
       one_place s.args.s s.args.w.slots n l.gone l.i g _ l.invariant.0 e h m,
-      moved_on s.args.s s.args.w.slots n l.gone l.i g _ l.invariant.0 e h m _ s.args.w.slots l.false (here (goal.at.loop-i-preserved s).Start) m l.invariant.1,
+      moved_on s.args.s s.args.w.slots n l.gone l.i g _ l.invariant.0 e h m _ s.args.w.slots l.left (here (goal.at.loop-i-preserved s).Start) m l.invariant.1,
       moved_on s.args.s s.args.w.slots n l.gone l.i g _ l.invariant.0 e h m 0 s.args.callers l.named (here (goal.at.loop-i-preserved s).Start) k l.invariant.2,
     )
 
@@ -102,8 +102,8 @@ returns c =
     let n = s.args.w.count - 1 + 1 in
     let w = take n s.args.w.slots in
     let z = length-take n s.args.w.slots in
-    let a : l.false ≡ array_of (without s.args.s w) =
-    all_moved _ s.args.s w w l.false l.i l.invariant.1 (omega arith) (here (goal.at.returns s).Start) ∙ padded-slots _
+    let a : l.left ≡ array_of (without s.args.s w) =
+    all_moved _ s.args.s w w l.left l.i l.invariant.1 (omega arith) (here (goal.at.returns s).Start) ∙ padded-slots _
     ∙ ap array_of (sym (without-beside s.args.s w))
     in
     let b : l.named ≡ caller_array (beside s.args.s w (take n s.args.callers)) =

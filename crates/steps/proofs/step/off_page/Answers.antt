@@ -27,7 +27,7 @@ loop-i-preserved c =
     let s = c in
     let all : length s.args.w.slots ≡ 63 = search (rules, length-mapped) in (
       search rules,
-      more_from s.args.p _ l.false (off_page s.args.p (take l.i s.args.w.slots)) _ l.invariant.1 c.more_off-left.ensures
+      more_from s.args.p _ l.left (off_page s.args.p (take l.i s.args.w.slots)) _ l.invariant.1 c.more_off-left.ensures
           ∙ ap window_from (off_one s.args.p s.args.w.slots l.i _ (omega (arith, s.requires))),
     )
 
