@@ -18,7 +18,7 @@ entry_of-entry-requires c =
     let s = c in
     let l = c.loop-i in
     let all : length s.args.w.slots ≡ 63 = search (rules, length-mapped) in
-    (s.requires.ssd_len, slot-low s.args.l s.args.w.slots s.args.w.count l.i _ s.requires.w_value (omega arith) (omega (arith, s.requires)))
+    record { ssd_len = s.requires.ssd_len; s_lt_slots = slot-low s.args.l s.args.w.slots s.args.w.count l.i _ s.requires.w_value (omega arith) (omega (arith, s.requires)) }
 
 pub returns-then-not-is_open : goal.returns-then-not-is_open
 returns-then-not-is_open c =

@@ -34,11 +34,11 @@ pub offer-turn-requires : goal.offer-turn-requires
 offer-turn-requires c =
     let s = c in
     let a = s.args in
-    let F = s.requires.fair in (
-      fair_seen F,
-      where_within a.state a.table.now a.b a.condition
-          (where_is a.state a.table.now a.b F.size a.condition (sym s.requires.condition_value)),
-    )
+    let F = s.requires.fair in record {
+      seen = fair_seen F;
+      within = where_within a.state a.table.now a.b a.condition
+          (where_is a.state a.table.now a.b F.size a.condition (sym s.requires.condition_value));
+    }
 
 pub perform-requires : goal.perform-requires
 perform-requires c =

@@ -66,7 +66,7 @@ run_all-run-requires c =
     let e = c in
     let a = (start (goal.at.run_all-run-requires e).Else-number-ne0).args in
     let S = scans a.blocks.now a.caller (listed (goal.at.run_all-run-requires e).Else-listed-ne0) in
-    (ready-fair (box (goal.at.run_all-run-requires e).Else-number-ne0), (S.few, (S.once, S.known)))
+    record { fair = ready-fair (box (goal.at.run_all-run-requires e).Else-number-ne0); blocks_len_bound = S.few; blocks_value = S.once; caller_le_import_caller = S.known }
 
 pub returns-then-run-eq13 : goal.returns-then-run-eq13
 returns-then-run-eq13 c =

@@ -97,7 +97,7 @@ pub decide-turn-requires : goal.decide-turn-requires
 decide-turn-requires c =
     let l = c.loop-j in
     let G = l.invariant.1 in
-    (seen_sweeps (fair_seen G.kept.fair), G.found l.j (omega arith) (omega arith))
+    record { sweepable = seen_sweeps (fair_seen G.kept.fair); found = G.found l.j (omega arith) (omega arith) }
 
 pub overflow_cast-result : goal.overflow_cast-result
 overflow_cast-result c =

@@ -17,7 +17,7 @@ pub encode_meta-page-requires : goal.encode_meta-page-requires
 encode_meta-page-requires c =
     let e = c.rows_end-end.ensures in
     let s = c in
-    (rw c.window_of.ensures s.requires.fits_record.window_most_is, (simp (length-take, length-drop) (omega (arith, e.3)), simp (length-take, length-drop) (omega (arith, e))))
+    record { count_le_window_most = rw c.window_of.ensures s.requires.fits_record.window_most_is; rows_len_bound = simp (length-take, length-drop) (omega (arith, e.3)); rows_len = simp (length-take, length-drop) (omega (arith, e)) }
 
 pub store-requires : goal.store-requires
 store-requires c =

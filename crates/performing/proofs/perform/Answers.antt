@@ -79,16 +79,7 @@ copy_out-stored-requires c =
     let g = k.turn-in-CopiesOut-1.given.0 in
     let P = passed s g.1.0 in
     let f = P.dirty_is g.0 d.0 ∙ d.1 in
-    rw k.clear_used-in-CopiesOut.ensures (
-      fits s _,
-      (
-        s.requires.hdd_len,
-        (
-          (record_limits s.args.state s.requires.state_value).blocks-most,
-          (d.0, (dirty-block (label_in s.args.state) (table_after g.1.0 (box s)) P.legal g.0 d.0 f, f)),
-        ),
-      ),
-    )
+    rw k.clear_used-in-CopiesOut.ensures record { fits_record = fits s _; hdd_len = s.requires.hdd_len; blocks_bound = (record_limits s.args.state s.requires.state_value).blocks-most; s_lt_slots = d.0; s_bound = dirty-block (label_in s.args.state) (table_after g.1.0 (box s)) P.legal g.0 d.0 f; s_value = f }
 
 pub returns-in-Refused : goal.returns-in-Refused
 returns-in-Refused c =

@@ -21,7 +21,7 @@ meta_page-page-requires c =
     let s = c in
     let l = c.loop-s in
     let h : l.s < s.args.l.slots = omega (arith, l.invariant.0) in
-    (s.requires.ssd_len, page-low s.args.l l.s l.p (l.invariant.2 h) h)
+    record { ssd_len = s.requires.ssd_len; p_bound = page-low s.args.l l.s l.p (l.invariant.2 h) h }
 
 pub loop-s-2-init : goal.loop-s-2-init
 loop-s-2-init c =
@@ -34,10 +34,7 @@ entry_at-entry-requires c =
     let l = q.loop-s in
     let s = q in
     let h : l.s < s.args.l.slots = omega (arith, l.invariant.0) in
-    let k = c.loop-s-2 in (
-      (page-read s.args.l _ _ l.p s.requires.ssd_len (page-low s.args.l l.s l.p (l.invariant.2 h) h) q.meta_page-page.ensures).1,
-      omega (arith, k.invariant.0, c.page_end-end.ensures),
-    )
+    let k = c.loop-s-2 in record { page_len = (page-read s.args.l _ _ l.p s.requires.ssd_len (page-low s.args.l l.s l.p (l.invariant.2 h) h) q.meta_page-page.ensures).1; i_bound = omega (arith, k.invariant.0, c.page_end-end.ensures) }
 
 pub returns-then-not-visit : goal.returns-then-not-visit
 returns-then-not-visit c =

@@ -39,19 +39,17 @@ pub place-run-requires : goal.place-run-requires
 place-run-requires c =
     let m = c.loop-j in
     let I = m.invariant.1 in
-    let s = c in (
-      I.steady,
-      (
-        I.found m.j (omega arith) (omega arith),
-        (
-          record {
-            few_metadata = omega (arith, I.few_metadata, m.invariant.4, s.requires.blocks_len_bound);
-            few_landings = omega (arith, I.few_landings, m.invariant.4, s.requires.blocks_len_bound);
-          },
-          omega (arith, I.few_copies, m.invariant.4, s.requires.blocks_len_bound),
-        ),
-      ),
-    )
+    let s = c in record {
+      steady = I.steady;
+      found = I.found m.j (omega arith) (omega arith);
+      early = (
+        record {
+          few_metadata = omega (arith, I.few_metadata, m.invariant.4, s.requires.blocks_len_bound);
+          few_landings = omega (arith, I.few_landings, m.invariant.4, s.requires.blocks_len_bound);
+        },
+        omega (arith, I.few_copies, m.invariant.4, s.requires.blocks_len_bound),
+      );
+    }
 
 pub overflow_cast-result : goal.overflow_cast-result
 overflow_cast-result c =

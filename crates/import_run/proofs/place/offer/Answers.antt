@@ -51,13 +51,13 @@ copy_out-next-requires c =
     let p = s.requires in
     let W = steady_sweeps p.steady in
     let C = copied s c.in-CopiesOut.is in
-    ((W.size, W.low), (C.low, (C.was_dirty, p.early.1)))
+    record { table_len = (W.size, W.low); s_lt_slots = C.low; s_value = C.was_dirty; copies_bound = p.early.1 }
 
 pub offer_at-again-requires : goal.offer_at-again-requires
 offer_at-again-requires c =
     let k = c in
     let C = copied (goal.at.offer_at-again-requires k).Start k.in-CopiesOut.is in
-    (rw (ap (λ (e : After). e.table) k.copy_out-next.ensures) (steady_sweeps C.steady), tt)
+    record { sweepable = rw (ap (λ (e : After). e.table) k.copy_out-next.ensures) (steady_sweeps C.steady); within = tt }
 
 pub take-requires-2 : goal.take-requires-2
 take-requires-2 c =

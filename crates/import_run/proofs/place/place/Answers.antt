@@ -17,12 +17,12 @@ returns-then-l-b c =
 pub condition_of-condition-requires : goal.condition_of-condition-requires
 condition_of-condition-requires c =
     let s = c in
-    ((steady_sweeps s.requires.steady).size, s.requires.found)
+    record { table_len = (steady_sweeps s.requires.steady).size; found = s.requires.found }
 
 pub offer_at-turn-requires : goal.offer_at-turn-requires
 offer_at-turn-requires c =
     let s = c in
-    (steady_sweeps s.requires.steady, rw c.condition_of-condition.ensures (condition_within s.requires.steady s.args.b))
+    record { sweepable = steady_sweeps s.requires.steady; within = rw c.condition_of-condition.ensures (condition_within s.requires.steady s.args.b) }
 
 pub offer-requires : goal.offer-requires
 offer-requires c =

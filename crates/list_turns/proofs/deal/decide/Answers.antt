@@ -11,7 +11,7 @@ returns-then-l-b c =
     turn_high a.l a.table.now a.hand a.number a.b c.if-l-b.true
 
 pub condition_of-condition-requires : goal.condition_of-condition-requires
-condition_of-condition-requires c = let p = c.requires in (p.sweepable.size, p.found)
+condition_of-condition-requires c = let p = c.requires in record { table_len = p.sweepable.size; found = p.found }
 
 pub offer_at-requires : goal.offer_at-requires
 offer_at-requires c =

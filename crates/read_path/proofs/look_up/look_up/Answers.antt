@@ -49,7 +49,7 @@ use_slot-requires-in-Dirty c =
     let e = c in
     let a = (start (goal.at.use_slot-requires-in-Dirty e).Else-number-ne0).args in
     let R = (known (goal.at.use_slot-requires-in-Dirty e).Else-number-ne0).row _ c.in-Dirty.is in
-    (R.within, flags_low a.state a.table.now (known (goal.at.use_slot-requires-in-Dirty e).Else-number-ne0).box.box.sound.table-size (known (goal.at.use_slot-requires-in-Dirty e).Else-number-ne0).box.box.rows _ R.low)
+    record { s_in_bounds = R.within; s_bound = flags_low a.state a.table.now (known (goal.at.use_slot-requires-in-Dirty e).Else-number-ne0).box.box.sound.table-size (known (goal.at.use_slot-requires-in-Dirty e).Else-number-ne0).box.box.rows _ R.low }
 
 pub returns-in-NotCached : goal.returns-in-NotCached
 unfolding perform

@@ -14,7 +14,7 @@ use Rattle.record.proofs.state.left.Goals as goal
 pub leave-left-requires : goal.leave-left-requires
 leave-left-requires c =
     let s = c in
-    rw (c.window_of.ensures, window_is s.args.r) ((parts s.args.r s.requires.r_value).most, s.requires.r_value_2)
+    rw (c.window_of.ensures, window_is s.args.r) record { count_le_window_most = (parts s.args.r s.requires.r_value).most; w_value = s.requires.r_value_2 }
 
 pub overflow_sub-next : goal.overflow_sub-next
 overflow_sub-next c =

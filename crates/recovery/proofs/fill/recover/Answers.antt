@@ -14,7 +14,7 @@ pub pending-pending-requires : goal.pending-pending-requires
 pending-pending-requires c =
     let s = c in
     let k = passed s.args.l (metas_of s.args.l s.args.ssd.now) s.requires.ssd_value in
-    (s.requires.ssd_len, (k.legal, rw (← length_metas s.args.l s.args.ssd.now) (found _ _ c.newest-found.ensures).on_page_is))
+    record { ssd_len = s.requires.ssd_len; ssd_value = k.legal; at_bound = rw (← length_metas s.args.l s.args.ssd.now) (found _ _ c.newest-found.ensures).on_page_is }
 
 pub free_rows-requires : goal.free_rows-requires
 free_rows-requires c =

@@ -44,17 +44,13 @@ recover-next-requires c =
     let e = (sym c.label_of.ensures
     ∙ c.in-Legal.is) in
     let z = sizes a.ssd.now a.hdd.now a.table.now a.state _ e
-    (sym c.lengths_ok.ensures ∙ not-false _ c.if-not-lengths_ok.false) in (
-      z.0,
-      (
-        z.1,
-        (
-          limits a.ssd.now _ e,
-          sym c.pages_ok.ensures
-              ∙ not-false _ c.if-not-pages_ok.false,
-        ),
-      ),
-    )
+    (sym c.lengths_ok.ensures ∙ not-false _ c.if-not-lengths_ok.false) in record {
+      ssd_len = z.0;
+      table_len = z.1;
+      limits = limits a.ssd.now _ e;
+      ssd_value = sym c.pages_ok.ensures
+          ∙ not-false _ c.if-not-pages_ok.false;
+    }
 
 pub returns : goal.returns
 returns c =

@@ -19,7 +19,7 @@ more_off-left-requires c =
     let l = c.loop-i in
     let s = c in
     let w = take l.i s.args.w.slots in
-    rw l.invariant.1 (from_zero (off_page s.args.p w), omega (arith, off_most s.args.p w, length-take l.i s.args.w.slots, s.requires))
+    rw l.invariant.1 record { zero_past = from_zero (off_page s.args.p w); count_lt_window_most = omega (arith, off_most s.args.p w, length-take l.i s.args.w.slots, s.requires) }
 
 pub loop-i-preserved : goal.loop-i-preserved
 loop-i-preserved c =

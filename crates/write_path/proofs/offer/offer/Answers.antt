@@ -40,10 +40,7 @@ returns-then-number-ne0 c =
 pub offer-turn-requires : goal.offer-turn-requires
 offer-turn-requires c =
     let e = c in
-    let a = (start e).args in (
-      seen a.ssd.now a.hdd.now 4096 a.table.now a.state a.block a.caller _ (known e),
-      within e,
-    )
+    let a = (start e).args in record { seen = seen a.ssd.now a.hdd.now 4096 a.table.now a.state a.block a.caller _ (known e); within = within e }
 
 -- what its turn leaves is what the call does
 offered : (d : After-offer-turn) → let a = (start (goal.at.After-offer-turn d).Else-number-ne0).args in let x = box_of a.ssd.now a.hdd.now a.table.now a.state in
