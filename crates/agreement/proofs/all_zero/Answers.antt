@@ -35,7 +35,7 @@ returns-then-not-is_zero c =
     let s = c in
     let all : length s.args.w.slots ≡ 63 = search (rules, length-mapped) in
     stop _ _ l.invariant.1 (each_left s.args.w.slots s.args.w.count l.i _ (omega arith) (omega (arith, s.requires.count_le_window_most)) _)
-    (sym c.is_zero.ensures ∙ not-true _ c.if-not-is_zero.true)
+    (sym c.is_zero.ensures ∙ c.if-not-is_zero.true)
 
 pub loop-i-preserved : goal.loop-i-preserved
 loop-i-preserved c =
@@ -45,7 +45,7 @@ loop-i-preserved c =
       omega arith,
       go_on _ _ l.invariant.1
           (each_left s.args.w.slots s.args.w.count l.i _ (omega arith) (omega (arith, s.requires.count_le_window_most)) _)
-          (sym c.is_zero.ensures ∙ not-false _ c.if-not-is_zero.false),
+          (sym c.is_zero.ensures ∙ c.if-not-is_zero.false),
     )
 
 pub returns : goal.returns

@@ -3,7 +3,7 @@ use borrow.Author.Tests.{not-true, not-false}
 use Rattle.agreement.proofs.ready_agrees.Goals as goal
 
 pub returns-then-not-all_writing : goal.returns-then-not-all_writing
-returns-then-not-all_writing c = rw (sym c.all_writing.ensures ∙ not-true _ c.if-not-all_writing.true)
+returns-then-not-all_writing c = rw (sym c.all_writing.ensures ∙ c.if-not-all_writing.true)
 
 pub returns : goal.returns
-returns c = rw (sym c.all_writing.ensures ∙ not-false _ c.if-not-all_writing.false)
+returns c = rw (sym c.all_writing.ensures ∙ c.if-not-all_writing.false)

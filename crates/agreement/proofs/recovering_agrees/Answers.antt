@@ -6,7 +6,7 @@ pub returns-then-w-eq0 : goal.returns-then-w-eq0
 returns-then-w-eq0 c = rw (eq-eqb _ _ c.if-w-eq0.true)
 
 pub returns-then-not-all_zero : goal.returns-then-not-all_zero
-returns-then-not-all_zero c = rw (ne_eqb _ _ c.if-w-eq0.false, sym c.all_zero.ensures ∙ not-true _ c.if-not-all_zero.true)
+returns-then-not-all_zero c = rw (ne_eqb _ _ c.if-w-eq0.false, sym c.all_zero.ensures ∙ c.if-not-all_zero.true)
 
 pub returns : goal.returns
-returns c = rw (ne_eqb _ _ c.if-w-eq0.false, sym c.all_zero.ensures ∙ not-false _ c.if-not-all_zero.false)
+returns c = rw (ne_eqb _ _ c.if-w-eq0.false, sym c.all_zero.ensures ∙ c.if-not-all_zero.false)

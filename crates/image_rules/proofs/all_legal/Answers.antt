@@ -27,7 +27,7 @@ returns-then-not-legal_page c =
     stop (page_test s.args.l l.p (get_or (metas_of s.args.l s.args.ssd.now) l.p [])) _ l.invariant.2
     (legal-left s.args.l s.args.ssd.now l.p h)
     (ap (page_test s.args.l l.p) (sym (page-read s.args.l _ _ _ s.requires.ssd_len h c.meta_page.ensures).0) ∙ sym c.legal_page.ensures
-    ∙ not-true _ c.if-not-legal_page.true)
+    ∙ c.if-not-legal_page.true)
 
 pub loop-p-preserved : goal.loop-p-preserved
 loop-p-preserved c =
@@ -39,7 +39,7 @@ loop-p-preserved c =
       go_on (page_test s.args.l l.p (get_or (metas_of s.args.l s.args.ssd.now) l.p [])) _ l.invariant.2
           (legal-left s.args.l s.args.ssd.now l.p h)
           (ap (page_test s.args.l l.p) (sym (page-read s.args.l _ _ _ s.requires.ssd_len h c.meta_page.ensures).0) ∙ sym c.legal_page.ensures
-          ∙ not-false _ c.if-not-legal_page.false),
+          ∙ c.if-not-legal_page.false),
     )
 
 pub returns : goal.returns

@@ -29,7 +29,7 @@ returns-then-not-is_open c =
     (omega (arith, s.requires)) in
     let q = ap (λ (e : Entry). valid e.flags && writing e.flags) (sym c.entry_of-entry.ensures) ∙ sym
     c.is_open.ensures in
-    stop _ _ l.invariant.1 o (q ∙ not-true _ c.if-not-is_open.true)
+    stop _ _ l.invariant.1 o (q ∙ c.if-not-is_open.true)
 
 pub loop-i-preserved : goal.loop-i-preserved
 loop-i-preserved c =
@@ -40,7 +40,7 @@ loop-i-preserved c =
     (omega (arith, s.requires)) in
     let q = ap (λ (e : Entry). valid e.flags && writing e.flags) (sym c.entry_of-entry.ensures) ∙ sym
     c.is_open.ensures in
-    (omega arith, go_on _ _ l.invariant.1 o (q ∙ not-false _ c.if-not-is_open.false))
+    (omega arith, go_on _ _ l.invariant.1 o (q ∙ c.if-not-is_open.false))
 
 pub returns : goal.returns
 returns c =

@@ -10,29 +10,28 @@ use Rattle.stored.proofs.RuleLaws.{page_bad, stamps_bad, blocks_bad, by_open}
 use Rattle.image_rules.proofs.pages_ok.Goals as goal
 
 pub returns-then-not-all_legal : goal.returns-then-not-all_legal
-returns-then-not-all_legal c = page_bad _ _ (sym c.all_legal.ensures ∙ not-true _ c.if-not-all_legal.true)
+returns-then-not-all_legal c = page_bad _ _ (sym c.all_legal.ensures ∙ c.if-not-all_legal.true)
 
 pub returns-then-not-stamps_differ : goal.returns-then-not-stamps_differ
-returns-then-not-stamps_differ c = stamps_bad _ _ (sym c.all_legal.ensures ∙ not-false _ c.if-not-all_legal.false)
-    (sym c.stamps_differ.ensures ∙ not-true _ c.if-not-stamps_differ.true)
+returns-then-not-stamps_differ c = stamps_bad _ _ (sym c.all_legal.ensures ∙ c.if-not-all_legal.false)
+    (sym c.stamps_differ.ensures ∙ c.if-not-stamps_differ.true)
 
 pub none_twice-requires : goal.none_twice-requires
 none_twice-requires c =
     let s = c in
-    record { ssd_len = s.requires.ssd_len; limits = s.requires.limits; ssd_value = sym c.all_legal.ensures ∙ not-false _ c.if-not-all_legal.false }
+    record { ssd_len = s.requires.ssd_len; limits = s.requires.limits; ssd_value = sym c.all_legal.ensures ∙ c.if-not-all_legal.false }
 
 pub returns-then-not-none_twice : goal.returns-then-not-none_twice
 returns-then-not-none_twice c = blocks_bad _ _
-    (sym c.all_legal.ensures ∙ not-false _ c.if-not-all_legal.false)
-    (sym c.stamps_differ.ensures ∙ not-false _ c.if-not-stamps_differ.false)
-    (sym c.none_twice.ensures ∙ not-true _ c.if-not-none_twice.true)
+    (sym c.all_legal.ensures ∙ c.if-not-all_legal.false)
+    (sym c.stamps_differ.ensures ∙ c.if-not-stamps_differ.false)
+    (sym c.none_twice.ensures ∙ c.if-not-none_twice.true)
 
 pub pending-requires : goal.pending-requires
 pending-requires c =
     let s = c in record {
       ssd_len = s.requires.ssd_len;
-      ssd_value = sym c.all_legal.ensures ∙ not-false _
-          c.if-not-all_legal.false;
+      ssd_value = sym c.all_legal.ensures ∙ c.if-not-all_legal.false;
       at_bound = rw (← length_metas s.args.l s.args.ssd.now)
           (found _ _ c.newest-found.ensures).on_page_is;
     }
@@ -41,8 +40,7 @@ pub all_open-requires : goal.all_open-requires
 all_open-requires c =
     let s = c in
     let w = newest_bounded s.args.l (metas_of s.args.l s.args.ssd.now) _
-    (sym c.all_legal.ensures ∙ not-false _
-    c.if-not-all_legal.false) (found _ _ c.newest-found.ensures).on_page_is in
+    (sym c.all_legal.ensures ∙ c.if-not-all_legal.false) (found _ _ c.newest-found.ensures).on_page_is in
     let z = pending_bounded s.args.l _ _ c.pending.ensures w in
     record { ssd_len = s.requires.ssd_len; count_le_window_most = z.0; w_value = z.1 }
 
@@ -55,8 +53,6 @@ returns c =
     ap (λ (v : Window). take v.count v.slots) c.pending.ensures ∙ take-array _ ∙ ap
     (λ (m : Newest). m.window) n.newest_is in
     c.all_open.ensures ∙ ap (all_open_in pages) w
-    ∙ by_open _ _ (sym c.all_legal.ensures ∙ not-false _
-    c.if-not-all_legal.false)
-    (sym c.stamps_differ.ensures ∙ not-false _
-    c.if-not-stamps_differ.false)
-    (sym c.none_twice.ensures ∙ not-false _ c.if-not-none_twice.false)
+    ∙ by_open _ _ (sym c.all_legal.ensures ∙ c.if-not-all_legal.false)
+    (sym c.stamps_differ.ensures ∙ c.if-not-stamps_differ.false)
+    (sym c.none_twice.ensures ∙ c.if-not-none_twice.false)

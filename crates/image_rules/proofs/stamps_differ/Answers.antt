@@ -22,7 +22,7 @@ returns-then-not-stamp_alone c =
     (stamp_in (stamp_of (get_or (metas_of s.args.l s.args.ssd.now) l.p []))
     (drop (l.p + 1) (metas_of s.args.l s.args.ssd.now)))) _ l.invariant.2 (differ_left s.args.l s.args.ssd.now l.p h)
     (ap (λ (t : ℕ). eqb t 0 || not (stamp_in t (drop (l.p + 1) (metas_of s.args.l s.args.ssd.now))))
-    (sym c.stamp_at-stamp.ensures) ∙ sym c.stamp_alone.ensures ∙ not-true _ c.if-not-stamp_alone.true)
+    (sym c.stamp_at-stamp.ensures) ∙ sym c.stamp_alone.ensures ∙ c.if-not-stamp_alone.true)
 
 pub loop-p-preserved : goal.loop-p-preserved
 loop-p-preserved c =
@@ -35,7 +35,7 @@ loop-p-preserved c =
           (stamp_in (stamp_of (get_or (metas_of s.args.l s.args.ssd.now) l.p []))
           (drop (l.p + 1) (metas_of s.args.l s.args.ssd.now)))) _ l.invariant.2 (differ_left s.args.l s.args.ssd.now l.p h)
           (ap (λ (t : ℕ). eqb t 0 || not (stamp_in t (drop (l.p + 1) (metas_of s.args.l s.args.ssd.now))))
-          (sym c.stamp_at-stamp.ensures) ∙ sym c.stamp_alone.ensures ∙ not-false _ c.if-not-stamp_alone.false),
+          (sym c.stamp_at-stamp.ensures) ∙ sym c.stamp_alone.ensures ∙ c.if-not-stamp_alone.false),
     )
 
 pub returns : goal.returns

@@ -14,12 +14,12 @@ returns-then-not-record_ok c =
     let s = c in
     let a = s.args in
     rw (bad_record a.ssd a.hdd a.page a.table.now a.state 0
-    (sym c.record_ok.ensures ∙ not-true _ c.if-not-record_ok.true))
+    (sym c.record_ok.ensures ∙ c.if-not-record_ok.true))
     c.refused.ensures
 
 -- 3 is passed
 kept : (c : Else-not-record_ok) → record_test c.args.state ≡ true
-kept c = sym c.record_ok.ensures ∙ not-false _ c.if-not-record_ok.false
+kept c = sym c.record_ok.ensures ∙ c.if-not-record_ok.false
 
 -- the lengths, by the record's own label
 lengths-are : (c : After-lengths_ok) → let a = c.args in
@@ -33,12 +33,12 @@ returns-then-not-lengths_ok c =
     let e = c in
     let k = e in
     let a = k.args in
-    rw (bad_length a.ssd a.hdd a.page a.table.now a.state 0 (kept (goal.at.returns-then-not-lengths_ok k).Else-not-record_ok) (lengths-are (goal.at.returns-then-not-lengths_ok e).After-lengths_ok ∙ not-true _ c.if-not-lengths_ok.true))
+    rw (bad_length a.ssd a.hdd a.page a.table.now a.state 0 (kept (goal.at.returns-then-not-lengths_ok k).Else-not-record_ok) (lengths-are (goal.at.returns-then-not-lengths_ok e).After-lengths_ok ∙ c.if-not-lengths_ok.true))
     c.refused-then-not-lengths_ok.ensures
 
 lengths : (c : Else-not-lengths_ok) → let a = c.args in
     lengths_test (label_in a.state) a.ssd a.hdd (length a.table.now) ≡ true
-lengths c = lengths-are (goal.at.Else-not-lengths_ok c).After-lengths_ok ∙ not-false _ c.if-not-lengths_ok.false
+lengths c = lengths-are (goal.at.Else-not-lengths_ok c).After-lengths_ok ∙ c.if-not-lengths_ok.false
 
 pub returns-then-page-ne4096 : goal.returns-then-page-ne4096
 returns-then-page-ne4096 c =

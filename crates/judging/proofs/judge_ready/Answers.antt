@@ -29,10 +29,10 @@ on c rest = let a = c.args in
 pub returns-then-not-is_ready : goal.returns-then-not-is_ready
 returns-then-not-is_ready c =
     let r = c in
-    rw (on (goal.at.returns-then-not-is_ready r).Else-judged-ne0 _, sym r.is_ready.ensures ∙ not-true _ c.if-not-is_ready.true) c.refused.ensures
+    rw (on (goal.at.returns-then-not-is_ready r).Else-judged-ne0 _, sym r.is_ready.ensures ∙ c.if-not-is_ready.true) c.refused.ensures
 
 pub returns : goal.returns
 returns c =
     let r = c in
     let e = r in
-    rw (on (goal.at.returns r).Else-judged-ne0 _, sym r.is_ready.ensures ∙ not-false _ c.if-not-is_ready.false) (rw (sound (goal.at.returns r).Else-judged-ne0) at e.judge_box-judged.ensures)
+    rw (on (goal.at.returns r).Else-judged-ne0 _, sym r.is_ready.ensures ∙ c.if-not-is_ready.false) (rw (sound (goal.at.returns r).Else-judged-ne0) at e.judge_box-judged.ensures)

@@ -22,13 +22,13 @@ scan-is c =
 
 seen : (c : Else-not-scan) → let s = (goal.at.Else-not-scan c).Start in
     Scanned (label_in s.args.state) s.args.table.now s.args.b c.scan-scan.result
-seen c = scanned _ _ _ _ (scan-is (goal.at.Else-not-scan c).After-scan-scan) (not-false _ c.if-not-scan.false)
+seen c = scanned _ _ _ _ (scan-is (goal.at.Else-not-scan c).After-scan-scan) c.if-not-scan.false
 
 pub returns-then-not-scan : goal.returns-then-not-scan
 returns-then-not-scan c =
     let s = c in
     let q : legal_rows (label_in s.args.state) s.args.table.now ≡ false =
-    sym (scan_judges _ _ _ _ (scan-is (goal.at.returns-then-not-scan c).After-scan-scan)) ∙ not-true _ c.if-not-scan.true in
+    sym (scan_judges _ _ _ _ (scan-is (goal.at.returns-then-not-scan c).After-scan-scan)) ∙ c.if-not-scan.true in
     rw (rows_bad s.args.state s.args.table.now q) c.refused.ensures
 
 pub agrees-requires : goal.agrees-requires
@@ -42,7 +42,7 @@ returns-then-not-agrees c =
     let s = c in
     let e = c in
     let q : rows_test s.args.state s.args.table.now ≡ false =
-    sym (rows_agree _ _ (seen (goal.at.returns-then-not-agrees e).Else-not-scan).rows) ∙ sym e.agrees.ensures ∙ not-true _ c.if-not-agrees.true in
+    sym (rows_agree _ _ (seen (goal.at.returns-then-not-agrees e).Else-not-scan).rows) ∙ sym e.agrees.ensures ∙ c.if-not-agrees.true in
     rw q c.refused-then-not-agrees.ensures
 
 pub condition-condition-requires : goal.condition-condition-requires
@@ -56,6 +56,6 @@ returns c =
     let e = c in
     let k = seen (goal.at.returns e).Else-not-scan in
     let q : rows_test s.args.state s.args.table.now ≡ true =
-    sym (rows_agree _ _ k.rows) ∙ sym e.agrees.ensures ∙ not-false _ c.if-not-agrees.false in
+    sym (rows_agree _ _ k.rows) ∙ sym e.agrees.ensures ∙ c.if-not-agrees.false in
     let n = condition_is s.args.table.now s.args.b s.args.state.label.slots s.requires.table_len in
     rw (q, c.condition-condition.ensures, k.open_are, k.found_at, n)

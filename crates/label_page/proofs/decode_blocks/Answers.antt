@@ -15,7 +15,7 @@ key : (c : Else-not-begins)
     (a.at + 7 ≤ length a.bytes.now) × (after blocks_key (drop a.at a.bytes.now) ≡ some (drop (a.at + 7) a.bytes.now))
 key c =
     let s = c in
-    met s.args.bytes.now s.args.at s.requires blocks_key (sym c.begins.ensures ∙ not-false _ c.if-not-begins.false)
+    met s.args.bytes.now s.args.at s.requires blocks_key (sym c.begins.ensures ∙ c.if-not-begins.false)
 
 -- and a number after it
 line : (c : In-Number-2)
@@ -30,7 +30,7 @@ line c =
 pub returns-then-not-begins : goal.returns-then-not-begins
 returns-then-not-begins c =
     let b = c in
-    rw (missed (after blocks_key _) (sym b.begins.ensures ∙ not-true _ c.if-not-begins.true))
+    rw (missed (after blocks_key _) (sym b.begins.ensures ∙ c.if-not-begins.true))
 
 pub overflow_add-at : goal.overflow_add-at
 overflow_add-at c = omega (arith, key c)

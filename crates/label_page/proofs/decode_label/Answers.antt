@@ -13,7 +13,7 @@ use Rattle.label_page.proofs.decode_label.Goals.{Else-not-begins, In-Number-2}
 head : (c : Else-not-begins) → let page = c.args.page.now in (27 ≤ length page) × (after head_text page ≡ some (drop 27 page))
 head c =
     let page = c.args.page.now in
-    met page 0 (omega arith) head_text (sym c.begins.ensures ∙ not-false _ c.if-not-begins.false)
+    met page 0 (omega arith) head_text (sym c.begins.ensures ∙ c.if-not-begins.false)
 
 -- and a number after them
 line : (c : In-Number-2)
@@ -29,7 +29,7 @@ pub returns-then-not-begins : goal.returns-then-not-begins
 returns-then-not-begins c =
     let b = c in
     let page = b.args.page.now in
-    rw (head_read page, missed (after head_text page) (sym b.begins.ensures ∙ not-true _ c.if-not-begins.true))
+    rw (head_read page, missed (after head_text page) (sym b.begins.ensures ∙ c.if-not-begins.true))
 
 pub scan_number-requires : goal.scan_number-requires
 scan_number-requires c = (head c).0

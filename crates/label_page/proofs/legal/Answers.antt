@@ -21,14 +21,14 @@ tail : (c : After-all_zero) → let a = c.args in all_zero (drop a.at a.bytes.no
 tail c = let a = c.args in sym (c.all_zero.ensures ∙ zero_to_end a.bytes.now a.at)
 
 pub returns-then-not-within_limits : goal.returns-then-not-within_limits
-returns-then-not-within_limits c = rw (limits (goal.at.returns-then-not-within_limits c).After-within_limits ∙ not-true _ c.if-not-within_limits.true)
+returns-then-not-within_limits c = rw (limits (goal.at.returns-then-not-within_limits c).After-within_limits ∙ c.if-not-within_limits.true)
 
 pub returns-then-not-all_zero : goal.returns-then-not-all_zero
 returns-then-not-all_zero c =
-    rw (limits (goal.at.returns-then-not-all_zero c).After-within_limits ∙ not-false _ c.if-not-within_limits.false, tail (goal.at.returns-then-not-all_zero c).After-all_zero ∙ not-true _ c.if-not-all_zero.true)
+    rw (limits (goal.at.returns-then-not-all_zero c).After-within_limits ∙ c.if-not-within_limits.false, tail (goal.at.returns-then-not-all_zero c).After-all_zero ∙ c.if-not-all_zero.true)
 
 pub returns : goal.returns
 returns c =
     let w = c in
-    rw (limits (goal.at.returns w).After-within_limits ∙ not-false _ c.if-not-within_limits.false, tail (goal.at.returns c).After-all_zero ∙ not-false _ c.if-not-all_zero.false)
+    rw (limits (goal.at.returns w).After-within_limits ∙ c.if-not-within_limits.false, tail (goal.at.returns c).After-all_zero ∙ c.if-not-all_zero.false)
     (ap Legal w.label-l.ensures)

@@ -7,7 +7,7 @@ pub returns-then-not-is_copied_out : goal.returns-then-not-is_copied_out
 returns-then-not-is_copied_out c =
     let i = c in
     not-again _ _ _ i.begin-q.ensures
-    (sym i.is_copied_out.ensures ∙ not-true _ c.if-not-is_copied_out.true)
+    (sym i.is_copied_out.ensures ∙ c.if-not-is_copied_out.true)
 
 pub returns : goal.returns
 returns c =
@@ -15,4 +15,4 @@ returns c =
     let e = k in
     let i = e in
     made_again _ _ _ i.begin-q.ensures _
-    (sym i.is_copied_out.ensures ∙ not-false _ e.if-not-is_copied_out.false) k.begin.ensures
+    (sym i.is_copied_out.ensures ∙ e.if-not-is_copied_out.false) k.begin.ensures

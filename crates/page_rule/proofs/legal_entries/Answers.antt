@@ -14,10 +14,10 @@ pub loop-i-init : goal.loop-i-init
 loop-i-init c = (omega arith, λ j h. absurd (omega arith))
 
 pub returns-then-not-legal_entry : goal.returns-then-not-legal_entry
-returns-then-not-legal_entry c = entries_fail _ _ _ c.loop-i.i (omega arith) (sym c.legal_entry.ensures ∙ not-true c.legal_entry.result c.if-not-legal_entry.true)
+returns-then-not-legal_entry c = entries_fail _ _ _ c.loop-i.i (omega arith) (sym c.legal_entry.ensures ∙ c.if-not-legal_entry.true)
 
 pub loop-i-preserved : goal.loop-i-preserved
-loop-i-preserved c = (omega arith, below_more _ _ c.loop-i.invariant.1 (sym c.legal_entry.ensures ∙ not-false c.legal_entry.result c.if-not-legal_entry.false))
+loop-i-preserved c = (omega arith, below_more _ _ c.loop-i.invariant.1 (sym c.legal_entry.ensures ∙ c.if-not-legal_entry.false))
 
 pub returns : goal.returns
 returns c = entries_pass _ _ _ (λ j h. c.loop-i.invariant.1 j (omega arith))

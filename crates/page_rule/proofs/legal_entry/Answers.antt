@@ -18,7 +18,7 @@ pair-told : (c : After-legal_pair) → let e = decode_entry (entry_part (start c
 pair-told c = rw (← c.entry_at-entry.ensures) c.legal_pair.ensures
 
 pair-passed : (c : Else-not-legal_pair) → let s = start (goal.at.Else-not-legal_pair c).After-legal_pair in let e = decode_entry (entry_part s.args.page.now s.args.i) in pair_test s.args.l e.block.0 e.flags ≡ true
-pair-passed c = sym (pair-told (goal.at.Else-not-legal_pair c).After-legal_pair) ∙ not-false c.legal_pair.result c.if-not-legal_pair.false
+pair-passed c = sym (pair-told (goal.at.Else-not-legal_pair c).After-legal_pair) ∙ c.if-not-legal_pair.false
 
 zero-told : (c : After-all_zero) → let s = start (goal.at.After-all_zero c).After-legal_pair in c.all_zero.result ≡ all_zero (drop 5 (entry_part s.args.page.now s.args.i))
 zero-told c =
@@ -27,20 +27,20 @@ zero-told c =
 
 pub returns-then-not-legal_pair : goal.returns-then-not-legal_pair
 unfolding entry_test
-returns-then-not-legal_pair c = rw (← pair-told (goal.at.returns-then-not-legal_pair c).After-legal_pair, not-true c.legal_pair.result c.if-not-legal_pair.true)
+returns-then-not-legal_pair c = rw (← pair-told (goal.at.returns-then-not-legal_pair c).After-legal_pair, c.if-not-legal_pair.true)
 
 pub returns-then-not-all_zero : goal.returns-then-not-all_zero
 unfolding entry_test
-returns-then-not-all_zero c = rw (pair-passed (goal.at.returns-then-not-all_zero c).Else-not-legal_pair, ← zero-told (goal.at.returns-then-not-all_zero c).After-all_zero, not-true c.all_zero.result c.if-not-all_zero.true)
+returns-then-not-all_zero c = rw (pair-passed (goal.at.returns-then-not-all_zero c).Else-not-legal_pair, ← zero-told (goal.at.returns-then-not-all_zero c).After-all_zero, c.if-not-all_zero.true)
 
 pub returns-then-p-i : goal.returns-then-p-i
 unfolding entry_test
 returns-then-p-i c =
     let z = c in
-    rw (pair-passed (goal.at.returns-then-p-i z).Else-not-legal_pair, ← zero-told z, not-false z.all_zero.result c.if-not-all_zero.false, lt-ltb _ _ c.if-p-i.true)
+    rw (pair-passed (goal.at.returns-then-p-i z).Else-not-legal_pair, ← zero-told z, c.if-not-all_zero.false, lt-ltb _ _ c.if-p-i.true)
 
 pub returns : goal.returns
 unfolding entry_test
 returns c =
     let z = c in
-    rw (pair-passed (goal.at.returns z).Else-not-legal_pair, ← zero-told z, not-false z.all_zero.result c.if-not-all_zero.false, le-ltb _ _ c.if-p-i.false, ← z.entry_at-entry.ensures)
+    rw (pair-passed (goal.at.returns z).Else-not-legal_pair, ← zero-told z, c.if-not-all_zero.false, le-ltb _ _ c.if-p-i.false, ← z.entry_at-entry.ensures)

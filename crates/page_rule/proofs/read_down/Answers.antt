@@ -38,7 +38,7 @@ abbrev start2 : Else-not-legal_count → Start
 start2 c = (goal.at.Else-not-legal_count c).Start
 
 count-passed : (c : Else-not-legal_count) → Field (start2 c) 2 ≡ true
-count-passed c = sym c.legal_count.ensures ∙ not-false _ c.if-not-legal_count.false
+count-passed c = sym c.legal_count.ensures ∙ c.if-not-legal_count.false
 
 passed2 : (c : Else-not-legal_count) → Read (start2 c) 2 ≡ true
 passed2 c = next (start2 c) 1 (first (start2 c)) (count-passed c)
@@ -48,14 +48,14 @@ start4 c = start2 (goal.at.Else-not-all_zero c).Else-not-legal_count
 
 passed4 : (c : Else-not-all_zero) → Read (start4 c) 3 ≡ true
 passed4 c =
-    next (start4 c) 2 (passed2 (goal.at.Else-not-all_zero c).Else-not-legal_count) (sym c.all_zero.ensures ∙ not-false _ c.if-not-all_zero.false)
+    next (start4 c) 2 (passed2 (goal.at.Else-not-all_zero c).Else-not-legal_count) (sym c.all_zero.ensures ∙ c.if-not-all_zero.false)
 
 abbrev start6 : Else-not-legal_window → Start
 start6 c = start4 (goal.at.Else-not-legal_window c).Else-not-all_zero
 
 passed6 : (c : Else-not-legal_window) → Read (start6 c) 4 ≡ true
 passed6 c =
-    next (start6 c) 3 (passed4 (goal.at.Else-not-legal_window c).Else-not-all_zero) (sym c.legal_window.ensures ∙ not-false _ c.if-not-legal_window.false)
+    next (start6 c) 3 (passed4 (goal.at.Else-not-legal_window c).Else-not-all_zero) (sym c.legal_window.ensures ∙ c.if-not-legal_window.false)
 
 abbrev start8 : Else-not-all_zero-2 → Start
 start8 c = start6 (goal.at.Else-not-all_zero-2 c).Else-not-legal_window
@@ -70,7 +70,7 @@ start10 c = start8 (goal.at.Else-not-legal_entries c).Else-not-all_zero-2
 
 passed10 : (c : Else-not-legal_entries) → Read (start10 c) 6 ≡ true
 passed10 c =
-    let f = sym c.legal_entries.ensures ∙ not-false _ c.if-not-legal_entries.false in
+    let f = sym c.legal_entries.ensures ∙ c.if-not-legal_entries.false in
     next (start10 c) 5 (passed8 (goal.at.Else-not-legal_entries c).Else-not-all_zero-2) f
 
 pub returns-then-rows-lt2 : goal.returns-then-rows-lt2
@@ -79,7 +79,7 @@ returns-then-rows-lt2 c = let s = c in stops s 1 (first (goal.at.returns-then-ro
 pub returns-then-not-legal_count : goal.returns-then-not-legal_count
 returns-then-not-legal_count c =
     let s = c in
-    refuses (goal.at.returns-then-not-legal_count s).Start 1 (first (goal.at.returns-then-not-legal_count s).Start) (sym c.legal_count.ensures ∙ not-true _ c.if-not-legal_count.true) (omega arith)
+    refuses (goal.at.returns-then-not-legal_count s).Start 1 (first (goal.at.returns-then-not-legal_count s).Start) (sym c.legal_count.ensures ∙ c.if-not-legal_count.true) (omega arith)
 
 pub returns-then-rows-lt3 : goal.returns-then-rows-lt3
 returns-then-rows-lt3 c = stops (start2 (goal.at.returns-then-rows-lt3 c).Else-not-legal_count) 2 (passed2 (goal.at.returns-then-rows-lt3 c).Else-not-legal_count) (omega arith)
@@ -87,7 +87,7 @@ returns-then-rows-lt3 c = stops (start2 (goal.at.returns-then-rows-lt3 c).Else-n
 pub returns-then-not-all_zero : goal.returns-then-not-all_zero
 returns-then-not-all_zero c =
     let b = c in
-    refuses (start2 (goal.at.returns-then-not-all_zero b).Else-not-legal_count) 2 (passed2 (goal.at.returns-then-not-all_zero b).Else-not-legal_count) (sym c.all_zero.ensures ∙ not-true _ c.if-not-all_zero.true) (omega arith)
+    refuses (start2 (goal.at.returns-then-not-all_zero b).Else-not-legal_count) 2 (passed2 (goal.at.returns-then-not-all_zero b).Else-not-legal_count) (sym c.all_zero.ensures ∙ c.if-not-all_zero.true) (omega arith)
 
 pub returns-then-rows-lt4 : goal.returns-then-rows-lt4
 returns-then-rows-lt4 c = stops (start4 (goal.at.returns-then-rows-lt4 c).Else-not-all_zero) 3 (passed4 (goal.at.returns-then-rows-lt4 c).Else-not-all_zero) (omega arith)
@@ -98,7 +98,7 @@ legal_window-requires c = record { page_len = search rules; page_bound = ((count
 pub returns-then-not-legal_window : goal.returns-then-not-legal_window
 returns-then-not-legal_window c =
     let b = c in
-    refuses (start4 (goal.at.returns-then-not-legal_window b).Else-not-all_zero) 3 (passed4 (goal.at.returns-then-not-legal_window b).Else-not-all_zero) (sym c.legal_window.ensures ∙ not-true _ c.if-not-legal_window.true) (omega arith)
+    refuses (start4 (goal.at.returns-then-not-legal_window b).Else-not-all_zero) 3 (passed4 (goal.at.returns-then-not-legal_window b).Else-not-all_zero) (sym c.legal_window.ensures ∙ c.if-not-legal_window.true) (omega arith)
 
 pub returns-then-rows-lt5 : goal.returns-then-rows-lt5
 returns-then-rows-lt5 c = stops (start6 (goal.at.returns-then-rows-lt5 c).Else-not-legal_window) 4 (passed6 (goal.at.returns-then-rows-lt5 c).Else-not-legal_window) (omega arith)
@@ -106,7 +106,7 @@ returns-then-rows-lt5 c = stops (start6 (goal.at.returns-then-rows-lt5 c).Else-n
 pub returns-then-not-all_zero-2 : goal.returns-then-not-all_zero-2
 returns-then-not-all_zero-2 c =
     let b = c in
-    let f = sym c.all_zero-2.ensures ∙ not-true _ c.if-not-all_zero-2.true in
+    let f = sym c.all_zero-2.ensures ∙ c.if-not-all_zero-2.true in
     refuses (start6 (goal.at.returns-then-not-all_zero-2 b).Else-not-legal_window) 4 (passed6 (goal.at.returns-then-not-all_zero-2 b).Else-not-legal_window) f (omega arith)
 
 pub returns-then-rows-lt6 : goal.returns-then-rows-lt6
@@ -115,7 +115,7 @@ returns-then-rows-lt6 c = stops (start8 (goal.at.returns-then-rows-lt6 c).Else-n
 pub returns-then-not-legal_entries : goal.returns-then-not-legal_entries
 returns-then-not-legal_entries c =
     let b = c in
-    let f = sym c.legal_entries.ensures ∙ not-true _ c.if-not-legal_entries.true in
+    let f = sym c.legal_entries.ensures ∙ c.if-not-legal_entries.true in
     refuses (start8 (goal.at.returns-then-not-legal_entries b).Else-not-all_zero-2) 5 (passed8 (goal.at.returns-then-not-legal_entries b).Else-not-all_zero-2) f (omega arith)
 
 pub returns-then-rows-lt7 : goal.returns-then-rows-lt7

@@ -7,10 +7,10 @@ use Rattle.record_rule.proofs.callers_ok.Goals as goal
 pub returns-then-not-known : goal.returns-then-not-known
 returns-then-not-known c =
     let all : length c.args.callers ≡ 63 = search rules in
-    rw (eq-eqb _ _ all, sym c.known.ensures ∙ not-true _ c.if-not-known.true)
+    rw (eq-eqb _ _ all, sym c.known.ensures ∙ c.if-not-known.true)
 
 pub returns : goal.returns
 returns c =
     let b = c in
     let all : length b.args.callers ≡ 63 = search rules in
-    rw (eq-eqb _ _ all, sym b.known.ensures ∙ not-false _ b.if-not-known.false) c.nobody_from.ensures
+    rw (eq-eqb _ _ all, sym b.known.ensures ∙ b.if-not-known.false) c.nobody_from.ensures

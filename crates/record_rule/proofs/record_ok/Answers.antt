@@ -18,11 +18,11 @@ use Rattle.record_rule.proofs.record_ok.Goals as goal
 use Rattle.record_rule.proofs.record_ok.Goals.{After-window_ok, Else-l-hand, Else-not-steps_ok, Else-not-within_limits}
 
 limits : (c : Else-not-within_limits) → within_limits c.args.r.label ≡ true
-limits c = sym c.within_limits.ensures ∙ not-false _ c.if-not-within_limits.false
+limits c = sym c.within_limits.ensures ∙ c.if-not-within_limits.false
 
 pub returns-then-not-within_limits : goal.returns-then-not-within_limits
 unfolding record_test
-returns-then-not-within_limits c = rw (sym c.within_limits.ensures ∙ not-true _ c.if-not-within_limits.true)
+returns-then-not-within_limits c = rw (sym c.within_limits.ensures ∙ c.if-not-within_limits.true)
 
 -- what the first two tests leave
 first_two : (c : Else-l-hand) (rest : Bool) → let r = c.args.r in
@@ -35,13 +35,13 @@ returns-then-l-hand c = rw (limits (goal.at.returns-then-l-hand c).Else-not-with
 
 pub returns-then-not-steps_ok : goal.returns-then-not-steps_ok
 unfolding record_test
-returns-then-not-steps_ok c = rw (first_two (goal.at.returns-then-not-steps_ok c).Else-l-hand _, sym c.steps_ok.ensures ∙ not-true _ c.if-not-steps_ok.true)
+returns-then-not-steps_ok c = rw (first_two (goal.at.returns-then-not-steps_ok c).Else-l-hand _, sym c.steps_ok.ensures ∙ c.if-not-steps_ok.true)
 
 -- what the first three tests leave
 first_three : (c : Else-not-steps_ok) (rest : Bool)
     → let r = c.args.r in
     (within_limits r.label && (ltb r.hand.0 r.label.slots && (steps_test r.label r.phase && rest))) ≡ rest
-first_three c rest = rw (first_two (goal.at.Else-not-steps_ok c).Else-l-hand _, sym c.steps_ok.ensures ∙ not-false _ c.if-not-steps_ok.false)
+first_three c rest = rw (first_two (goal.at.Else-not-steps_ok c).Else-l-hand _, sym c.steps_ok.ensures ∙ c.if-not-steps_ok.false)
 
 pub returns-then-r : goal.returns-then-r
 unfolding record_test
@@ -85,7 +85,7 @@ four c rest =
 
 pub returns-then-not-window_ok : goal.returns-then-not-window_ok
 unfolding record_test
-returns-then-not-window_ok c = sym (four (goal.at.returns-then-not-window_ok c).After-window_ok _ ∙ rw (not-true c.window_ok.result c.if-not-window_ok.true))
+returns-then-not-window_ok c = sym (four (goal.at.returns-then-not-window_ok c).After-window_ok _ ∙ rw (c.if-not-window_ok.true))
 
 pub callers_ok-requires : goal.callers_ok-requires
 callers_ok-requires c =
@@ -104,4 +104,4 @@ returns c =
     let n = c in
     let e = n in
     let t = rw n.named_places.ensures at c.callers_ok.ensures in
-    sym (four (goal.at.returns e).After-window_ok _ ∙ rw (not-false e.window_ok.result e.if-not-window_ok.false) (sym t))
+    sym (four (goal.at.returns e).After-window_ok _ ∙ rw (e.if-not-window_ok.false) (sym t))

@@ -8,7 +8,7 @@ use Rattle.record_rule.proofs.window_ok.Goals as goal
 pub returns-then-not-in_range : goal.returns-then-not-in_range
 returns-then-not-in_range c =
     let all : length c.args.w.slots ≡ 63 = search (rules, length-mapped) in
-    rw (eq-eqb _ _ all, sym c.in_range.ensures ∙ not-true _ c.if-not-in_range.true)
+    rw (eq-eqb _ _ all, sym c.in_range.ensures ∙ c.if-not-in_range.true)
 
 pub returns-then-not-distinct_slots : goal.returns-then-not-distinct_slots
 returns-then-not-distinct_slots c =
@@ -16,9 +16,9 @@ returns-then-not-distinct_slots c =
     let all : length b.args.w.slots ≡ 63 = search (rules, length-mapped) in
     rw (
       eq-eqb _ _ all,
-      sym b.in_range.ensures ∙ not-false _ b.if-not-in_range.false,
+      sym b.in_range.ensures ∙ b.if-not-in_range.false,
       sym c.distinct_slots.ensures
-          ∙ not-true _ c.if-not-distinct_slots.true,
+          ∙ c.if-not-distinct_slots.true,
     )
 
 pub returns : goal.returns
@@ -28,8 +28,8 @@ returns c =
     let all : length b.args.w.slots ≡ 63 = search (rules, length-mapped) in
     rw (
       eq-eqb _ _ all,
-      sym b.in_range.ensures ∙ not-false _ b.if-not-in_range.false,
+      sym b.in_range.ensures ∙ b.if-not-in_range.false,
       sym d.distinct_slots.ensures
-          ∙ not-false _ d.if-not-distinct_slots.false,
+          ∙ d.if-not-distinct_slots.false,
     )
     c.zero_past.ensures

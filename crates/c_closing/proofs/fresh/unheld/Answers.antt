@@ -3,7 +3,7 @@ use borrow.Author.Tests.{not-true, not-false}
 use Rattle.c_closing.proofs.fresh.unheld.Goals as goal
 
 pub returns-then-not-within_limits : goal.returns-then-not-within_limits
-returns-then-not-within_limits c = rw (sym c.within_limits.ensures ∙ not-true _ c.if-not-within_limits.true)
+returns-then-not-within_limits c = rw (sym c.within_limits.ensures ∙ c.if-not-within_limits.true)
 
 pub returns : goal.returns
-returns c = rw (sym c.within_limits.ensures ∙ not-false _ c.if-not-within_limits.false)
+returns c = rw (sym c.within_limits.ensures ∙ c.if-not-within_limits.false)

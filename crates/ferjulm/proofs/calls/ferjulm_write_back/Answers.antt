@@ -12,12 +12,12 @@ pub returns-then-not-is_record : goal.returns-then-not-is_record
 returns-then-not-is_record c =
     let r = c in
     let a = r.args in
-    let b = barred (writeBack (record { 0 = a.block })) a.ssd.now a.hdd.now a.table.now a.words.now (sym r.is_record.ensures ∙ not-true _ c.if-not-is_record.true) in
+    let b = barred (writeBack (record { 0 = a.block })) a.ssd.now a.hdd.now a.table.now a.words.now (sym r.is_record.ensures ∙ c.if-not-is_record.true) in
     (b.left, b.place (record { image = a.image.now; offset = a.offset.now }))
 
 -- past the first test the words are a record
 legal : (c : Else-not-is_record) → is_record c.args.words.now ≡ true
-legal c = sym c.is_record.ensures ∙ not-false _ c.if-not-is_record.false
+legal c = sym c.is_record.ensures ∙ c.if-not-is_record.false
 
 pub unpack-state-requires : goal.unpack-state-requires
 unpack-state-requires c = record_length _ (legal c)

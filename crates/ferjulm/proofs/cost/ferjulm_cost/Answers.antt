@@ -21,13 +21,13 @@ lent s = let a = s.args in record {
 
 -- past the first test the words are a record
 legal : (c : Else-not-is_record) → is_record c.args.words.now ≡ true
-legal c = sym c.is_record.ensures ∙ not-false _ c.if-not-is_record.false
+legal c = sym c.is_record.ensures ∙ c.if-not-is_record.false
 
 pub returns-then-not-is_record : goal.returns-then-not-is_record
 returns-then-not-is_record c =
     let s = c in
     let a = s.args in
-    no_cost a.ssd.now a.hdd.now a.table.now a.words.now a.blocks.now a.caller a.scratch.now (lent (goal.at.returns-then-not-is_record s).Start) (sym c.is_record.ensures ∙ not-true _ c.if-not-is_record.true)
+    no_cost a.ssd.now a.hdd.now a.table.now a.words.now a.blocks.now a.caller a.scratch.now (lent (goal.at.returns-then-not-is_record s).Start) (sym c.is_record.ensures ∙ c.if-not-is_record.true)
 
 pub unpack-state-requires : goal.unpack-state-requires
 unpack-state-requires c = record_length _ (legal c)

@@ -14,7 +14,7 @@ pub returns-then-not-is_record : goal.returns-then-not-is_record
 returns-then-not-is_record c =
     let r = c in
     let a = r.args in
-    let e = sym r.is_record.ensures ∙ not-true _ c.if-not-is_record.true in (
+    let e = sym r.is_record.ensures ∙ c.if-not-is_record.true in (
       (barred (look_up_list a.blocks.now (length a.located.now)) a.ssd.now a.hdd.now a.table.now a.words.now e).left,
       located_barred a.blocks.now a.ssd.now a.hdd.now a.table.now a.words.now a.located.now e,
     )
@@ -24,7 +24,7 @@ abbrev start : Else-not-is_record → Start
 start e = (goal.at.Else-not-is_record e).Start
 
 legal : (e : Else-not-is_record) → is_record (start e).args.words.now ≡ true
-legal e = sym e.is_record.ensures ∙ not-false _ e.if-not-is_record.false
+legal e = sym e.is_record.ensures ∙ e.if-not-is_record.false
 
 pub unpack-state-requires : goal.unpack-state-requires
 unpack-state-requires c = record_length _ (legal c)

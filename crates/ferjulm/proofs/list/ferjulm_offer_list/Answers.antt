@@ -12,7 +12,7 @@ pub returns-then-not-is_record : goal.returns-then-not-is_record
 returns-then-not-is_record c =
     let r = c in
     let a = r.args in
-    let e = sym r.is_record.ensures ∙ not-true _ c.if-not-is_record.true in
+    let e = sym r.is_record.ensures ∙ c.if-not-is_record.true in
     let b = barred (offer_list a.blocks.now a.caller) a.ssd.now a.hdd.now a.table.now a.words.now e in
     (b.left, b.places a.dealt.now, b.place (record { image = a.image.now; offset = a.offset.now }))
 
@@ -21,7 +21,7 @@ abbrev start : Else-not-is_record → Start
 start e = (goal.at.Else-not-is_record e).Start
 
 legal : (e : Else-not-is_record) → is_record (start e).args.words.now ≡ true
-legal e = sym e.is_record.ensures ∙ not-false _ e.if-not-is_record.false
+legal e = sym e.is_record.ensures ∙ e.if-not-is_record.false
 
 pub unpack-state-requires : goal.unpack-state-requires
 unpack-state-requires c = record_length _ (legal c)

@@ -15,11 +15,11 @@ returns-then-not-is_record c =
     let a = r.args in
     no_view a.ssd.now a.hdd.now a.table.now a.words.now (record { 0 = a.block })
     (record { image = a.image.now; offset = a.offset.now })
-    (sym r.is_record.ensures ∙ not-true _ c.if-not-is_record.true)
+    (sym r.is_record.ensures ∙ c.if-not-is_record.true)
 
 -- past the first test the words are a record
 legal : (c : Else-not-is_record) → is_record c.args.words.now ≡ true
-legal c = sym c.is_record.ensures ∙ not-false _ c.if-not-is_record.false
+legal c = sym c.is_record.ensures ∙ c.if-not-is_record.false
 
 pub unpack-state-requires : goal.unpack-state-requires
 unpack-state-requires c = record_length _ (legal c)

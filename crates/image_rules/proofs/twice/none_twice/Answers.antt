@@ -12,7 +12,7 @@ pub loop-start-init : goal.loop-start-init
 loop-start-init c = (search rules, search rules, refl, once_none _)
 
 pub returns-then-not-range_once : goal.returns-then-not-range_once
-returns-then-not-range_once c = found_twice _ _ (sym c.range_once.ensures ∙ not-true _ c.if-not-range_once.true)
+returns-then-not-range_once c = found_twice _ _ (sym c.range_once.ensures ∙ c.if-not-range_once.true)
 
 pub loop-start-preserved : goal.loop-start-preserved
 loop-start-preserved c =
@@ -21,7 +21,7 @@ loop-start-preserved c =
       omega (arith, l.invariant.0),
       omega (arith, l.invariant.2),
       once_more l.start _ l.invariant.3
-          (sym c.range_once.ensures ∙ not-false _ c.if-not-range_once.false),
+          (sym c.range_once.ensures ∙ c.if-not-range_once.false),
     )
 
 pub returns : goal.returns

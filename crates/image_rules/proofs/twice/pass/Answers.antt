@@ -53,7 +53,7 @@ returns-then-not-visit c =
     ∙ entry_on pages k.s l.p k.i (omega (arith, k.invariant.0)) (omega (arith, k.invariant.0, z)) in
     let v = c.visit.ensures ∙ ap (λ (x : Entry). visited s.args.start k.map x.block.0 x.flags) e in
     let o = fresh-left s.args.start k.map s.args.l.slots f k.s (omega (arith, l.invariant.0, z)) in
-    stop _ _ (k.invariant.3 ∙ l.invariant.4) o (ap (λ (x : Visit). x.fresh) (sym v) ∙ not-true _ c.if-not-visit.true)
+    stop _ _ (k.invariant.3 ∙ l.invariant.4) o (ap (λ (x : Visit). x.fresh) (sym v) ∙ c.if-not-visit.true)
 
 pub loop-s-2-preserved : goal.loop-s-2-preserved
 loop-s-2-preserved c =
@@ -77,7 +77,7 @@ loop-s-2-preserved c =
       omega (arith, c.visit.auto, k.invariant.2),
       ap (λ (m : List ℕ). all_fresh s.args.start m (drop (2 * (k.s + 1)) (rows_from s.args.l.slots f)))
           (ap (λ (x : Visit). x.map) v)
-          ∙ go_on _ _ k.invariant.3 o (ap (λ (x : Visit). x.fresh) (sym v) ∙ not-false _ c.if-not-visit.false),
+          ∙ go_on _ _ k.invariant.3 o (ap (λ (x : Visit). x.fresh) (sym v) ∙ c.if-not-visit.false),
     )
 
 pub overflow_add-p : goal.overflow_add-p

@@ -38,13 +38,13 @@ returns-then-not-pages_ok c =
     let l = sym i.label_of.ensures ∙ i.in-Legal.is in
     let m = eq-eqb _ _ (i.if-ssd-ssd_length.false ∙ i.ssd_length.ensures) in
     let k = le-leb _ _ i.if-ssd-gt65536.false in
-    written_as c.put_refusal-then-not-pages_ok.ensures (bad_pages _ _ l m k (sym i.pages_ok.ensures ∙ not-true _ i.if-not-pages_ok.true)) (omega arith)
+    written_as c.put_refusal-then-not-pages_ok.ensures (bad_pages _ _ l m k (sym i.pages_ok.ensures ∙ i.if-not-pages_ok.true)) (omega arith)
 
 pub put_image-requires : goal.put_image-requires
 put_image-requires c =
     let i = c in
     let s = i in
-    let l = sym i.label_of.ensures ∙ i.in-Legal.is in record { page_len = s.requires; ssd_len = (i.if-ssd-ssd_length.false ∙ i.ssd_length.ensures, c.if-ssd-gt65536.false); limits = limits s.args.ssd.now _ l; ssd_value = sym c.pages_ok.ensures ∙ not-false _ c.if-not-pages_ok.false }
+    let l = sym i.label_of.ensures ∙ i.in-Legal.is in record { page_len = s.requires; ssd_len = (i.if-ssd-ssd_length.false ∙ i.ssd_length.ensures, c.if-ssd-gt65536.false); limits = limits s.args.ssd.now _ l; ssd_value = sym c.pages_ok.ensures ∙ c.if-not-pages_ok.false }
 
 pub returns : goal.returns
 returns c =
@@ -52,4 +52,4 @@ returns c =
     let l = sym i.label_of.ensures ∙ i.in-Legal.is in
     let m = eq-eqb _ _ (i.if-ssd-ssd_length.false ∙ i.ssd_length.ensures) in
     let k = le-leb _ _ i.if-ssd-gt65536.false in
-    written_as c.put_image.ensures (listed_as _ _ l m k (sym i.pages_ok.ensures ∙ not-false _ i.if-not-pages_ok.false)) (omega arith)
+    written_as c.put_image.ensures (listed_as _ _ l m k (sym i.pages_ok.ensures ∙ i.if-not-pages_ok.false)) (omega arith)

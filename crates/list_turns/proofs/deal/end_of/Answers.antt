@@ -6,12 +6,12 @@ use Rattle.list_turns.proofs.deal.end_of.Goals as goal
 pub returns-then-not-on_page : goal.returns-then-not-on_page
 returns-then-not-on_page c =
     let a = c.args in
-    end_other a.l a.newest a.p a.page (sym c.on_page.ensures ∙ not-true _ c.if-not-on_page.true)
+    end_other a.l a.newest a.p a.page (sym c.on_page.ensures ∙ c.if-not-on_page.true)
 
 pub returns-then-page-ne0 : goal.returns-then-page-ne0
 returns-then-page-ne0 c =
     let a = c.args in
-    end_again a.l a.newest a.p a.page (sym c.on_page.ensures ∙ not-false _ c.if-not-on_page.false)
+    end_again a.l a.newest a.p a.page (sym c.on_page.ensures ∙ c.if-not-on_page.false)
     c.if-page-ne0.true
 
 pub returns-then-is_spent : goal.returns-then-is_spent

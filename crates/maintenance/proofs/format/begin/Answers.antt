@@ -6,17 +6,17 @@ use Rattle.maintenance.proofs.format.begin.Goals as goal
 use Rattle.maintenance.proofs.format.begin.Goals.{Else-not-within_limits}
 
 pub returns-then-not-within_limits : goal.returns-then-not-within_limits
-returns-then-not-within_limits c = (rw (sym c.within_limits.ensures ∙ not-true _ c.if-not-within_limits.true), refl)
+returns-then-not-within_limits c = (rw (sym c.within_limits.ensures ∙ c.if-not-within_limits.true), refl)
 
 -- the limits are kept
 limits : (c : Else-not-within_limits) → within_limits c.args.l ≡ true
-limits c = sym c.within_limits.ensures ∙ not-false _ c.if-not-within_limits.false
+limits c = sym c.within_limits.ensures ∙ c.if-not-within_limits.false
 
 pub returns-then-not-lengths_ok : goal.returns-then-not-lengths_ok
-returns-then-not-lengths_ok c = (rw (limits (goal.at.returns-then-not-lengths_ok c).Else-not-within_limits, sym c.lengths_ok.ensures ∙ not-true _ c.if-not-lengths_ok.true), refl)
+returns-then-not-lengths_ok c = (rw (limits (goal.at.returns-then-not-lengths_ok c).Else-not-within_limits, sym c.lengths_ok.ensures ∙ c.if-not-lengths_ok.true), refl)
 
 pub returns : goal.returns
 returns c =
     let t = c in
     let k = t in
-    (rw (limits (goal.at.returns k).Else-not-within_limits, sym k.lengths_ok.ensures ∙ not-false _ k.if-not-lengths_ok.false), t.clear_table.ensures)
+    (rw (limits (goal.at.returns k).Else-not-within_limits, sym k.lengths_ok.ensures ∙ k.if-not-lengths_ok.false), t.clear_table.ensures)

@@ -17,14 +17,14 @@ returns-then-not-lengths_ok c =
     rw c.refused-then-not-lengths_ok.ensures
     (wrong_length a.ssd.now a.hdd.now a.table.now a.state _
     (sym c.label_of.ensures ∙ c.in-Legal.is)
-    (sym c.lengths_ok.ensures ∙ not-true _ c.if-not-lengths_ok.true))
+    (sym c.lengths_ok.ensures ∙ c.if-not-lengths_ok.true))
 
 pub pages_ok-requires : goal.pages_ok-requires
 pages_ok-requires c =
     let a = c.args in
     let e = (sym c.label_of.ensures ∙ c.in-Legal.is) in record {
       ssd_len = (sizes a.ssd.now a.hdd.now a.table.now a.state _ e
-          (sym c.lengths_ok.ensures ∙ not-false _ c.if-not-lengths_ok.false)).0;
+          (sym c.lengths_ok.ensures ∙ c.if-not-lengths_ok.false)).0;
       limits = limits a.ssd.now _ e;
     }
 
@@ -35,8 +35,8 @@ returns-then-not-pages_ok c =
     (bad_pages a.ssd.now a.hdd.now a.table.now a.state _
     (sym c.label_of.ensures
     ∙ c.in-Legal.is)
-    (sym c.lengths_ok.ensures ∙ not-false _ c.if-not-lengths_ok.false)
-    (sym c.pages_ok.ensures ∙ not-true _ c.if-not-pages_ok.true))
+    (sym c.lengths_ok.ensures ∙ c.if-not-lengths_ok.false)
+    (sym c.pages_ok.ensures ∙ c.if-not-pages_ok.true))
 
 pub recover-next-requires : goal.recover-next-requires
 recover-next-requires c =
@@ -44,12 +44,12 @@ recover-next-requires c =
     let e = (sym c.label_of.ensures
     ∙ c.in-Legal.is) in
     let z = sizes a.ssd.now a.hdd.now a.table.now a.state _ e
-    (sym c.lengths_ok.ensures ∙ not-false _ c.if-not-lengths_ok.false) in record {
+    (sym c.lengths_ok.ensures ∙ c.if-not-lengths_ok.false) in record {
       ssd_len = z.0;
       table_len = z.1;
       limits = limits a.ssd.now _ e;
       ssd_value = sym c.pages_ok.ensures
-          ∙ not-false _ c.if-not-pages_ok.false;
+          ∙ c.if-not-pages_ok.false;
     }
 
 pub returns : goal.returns
@@ -60,7 +60,5 @@ returns c =
     (taken a.ssd.now a.hdd.now a.table.now a.state _
     (sym c.label_of.ensures
     ∙ c.in-Legal.is)
-    (sym c.lengths_ok.ensures ∙ not-false _
-    c.if-not-lengths_ok.false) _
-    (sym c.pages_ok.ensures ∙ not-false _
-    c.if-not-pages_ok.false) c.recover-next.ensures)
+    (sym c.lengths_ok.ensures ∙ c.if-not-lengths_ok.false) _
+    (sym c.pages_ok.ensures ∙ c.if-not-pages_ok.false) c.recover-next.ensures)

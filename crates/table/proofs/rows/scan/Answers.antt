@@ -22,11 +22,11 @@ returns-then-not-legal c =
     let l = c.loop-i in
     let a = c.args in
     broken a.l a.table.now (record { 0 = a.b.0 }) a.l.slots l.legal l.writing l.busy l.at l.i l.invariant
-    c.loop-i-test.false (not-true _ c.if-not-legal.true)
+    c.loop-i-test.false c.if-not-legal.true
 
 pub returns : goal.returns
 returns c =
     let l = c.loop-i in
     let a = c.args in
     whole a.l a.table.now (record { 0 = a.b.0 }) a.l.slots l.legal l.writing l.busy l.at l.i l.invariant refl
-    c.loop-i-test.false (not-false _ c.if-not-legal.false)
+    c.loop-i-test.false c.if-not-legal.false
