@@ -16,35 +16,31 @@ use Rattle.agreement.proofs.all_zero.Goals as goal
 pub bounds-table-k : goal.bounds-table-k
 bounds-table-k c =
     let l = c.loop-i in
-    let s = c in
-    let all : length s.args.w.slots ≡ 63 = search (rules, length-mapped) in
-    block_in_lem s.args.l s.args.table.now s.args.w.slots s.args.w.count l.i _ s.requires.table_len s.requires.w_value (omega arith)
-    (omega (arith, s.requires.count_le_window_most))
+    let all : length c.args.w.slots ≡ 63 = search (rules, length-mapped) in
+    block_in_lem c.args.l c.args.table.now c.args.w.slots c.args.w.count l.i _ c.requires.table_len c.requires.w_value (omega arith)
+    (omega (arith, c.requires.count_le_window_most))
 
 pub bounds-table-k-in-loop-i : goal.bounds-table-k-in-loop-i
 bounds-table-k-in-loop-i c =
     let l = c.loop-i in
-    let s = c in
-    let all : length s.args.w.slots ≡ 63 = search (rules, length-mapped) in
-    row_in s.args.l s.args.table.now s.args.w.slots s.args.w.count l.i _ s.requires.table_len s.requires.w_value (omega arith)
-    (omega (arith, s.requires.count_le_window_most))
+    let all : length c.args.w.slots ≡ 63 = search (rules, length-mapped) in
+    row_in c.args.l c.args.table.now c.args.w.slots c.args.w.count l.i _ c.requires.table_len c.requires.w_value (omega arith)
+    (omega (arith, c.requires.count_le_window_most))
 
 pub returns-then-not-is_zero : goal.returns-then-not-is_zero
 returns-then-not-is_zero c =
     let l = c.loop-i in
-    let s = c in
-    let all : length s.args.w.slots ≡ 63 = search (rules, length-mapped) in
-    stop _ _ l.invariant.1 (each_left s.args.w.slots s.args.w.count l.i _ (omega arith) (omega (arith, s.requires.count_le_window_most)) _)
+    let all : length c.args.w.slots ≡ 63 = search (rules, length-mapped) in
+    stop _ _ l.invariant.1 (each_left c.args.w.slots c.args.w.count l.i _ (omega arith) (omega (arith, c.requires.count_le_window_most)) _)
     (sym c.is_zero.ensures ∙ c.if-not-is_zero.true)
 
 pub loop-i-preserved : goal.loop-i-preserved
 loop-i-preserved c =
     let l = c.loop-i in
-    let s = c in
-    let all : length s.args.w.slots ≡ 63 = search (rules, length-mapped) in (
+    let all : length c.args.w.slots ≡ 63 = search (rules, length-mapped) in (
       omega arith,
       go_on _ _ l.invariant.1
-          (each_left s.args.w.slots s.args.w.count l.i _ (omega arith) (omega (arith, s.requires.count_le_window_most)) _)
+          (each_left c.args.w.slots c.args.w.count l.i _ (omega arith) (omega (arith, c.requires.count_le_window_most)) _)
           (sym c.is_zero.ensures ∙ c.if-not-is_zero.false),
     )
 
@@ -52,5 +48,4 @@ pub returns : goal.returns
 unfolding each_place
 returns c =
     let l = c.loop-i in
-    let s = c in
-    sym (ap (each_slot _) (window_end s.args.w.slots s.args.w.count l.i (omega arith))) ∙ l.invariant.1
+    sym (ap (each_slot _) (window_end c.args.w.slots c.args.w.count l.i (omega arith))) ∙ l.invariant.1

@@ -17,14 +17,12 @@ loop-n-init c = (omega arith, refl, refl)
 -- src/lib.rt:54:5
 pub loop-n-preserved : goal.loop-n-preserved
 loop-n-preserved c =
-    let w = c in
-    let l = w.loop-n in
-    let s = w in
+    let l = c.loop-n in
     let k : 4 * l.n + 4 - 4 * l.n ≡ 4 = omega arith in (
       omega arith,
       search rules,
-      (λ i. put_mid (4 * l.n) (k i) (l.invariant.2 i) (w.write_word.ensures i))
-          ∙ filled_more s.args.page.now s.args.s l.n s.requires (omega (arith, w.loop-n-test.true)),
+      (λ i. put_mid (4 * l.n) (k i) (l.invariant.2 i) (c.write_word.ensures i))
+          ∙ filled_more c.args.page.now c.args.s l.n c.requires (omega (arith, c.loop-n-test.true)),
     )
 
 -- src/lib.rt:49:1
@@ -36,8 +34,7 @@ pub returns : goal.returns
 unfolding draw_page
 returns c =
     let l = c.loop-n in
-    let s = c in
     let n : l.n ≡ 1024 = omega arith in
     l.invariant.2
-    ∙ ap (λ (m : ℕ). put_mid 0 (4 * m) s.args.page.now (copies m (le_bytes 4 s.args.s))) n
-    ∙ filled-all s.args.page.now _ 4096 (omega (arith, s.requires))
+    ∙ ap (λ (m : ℕ). put_mid 0 (4 * m) c.args.page.now (copies m (le_bytes 4 c.args.s))) n
+    ∙ filled-all c.args.page.now _ 4096 (omega (arith, c.requires))

@@ -14,36 +14,32 @@ use Rattle.image_rules.proofs.all_legal.Goals as goal
 
 pub legal_page-requires : goal.legal_page-requires
 legal_page-requires c =
-    let s = c in
     let l = c.loop-p in
-    let h : l.p < meta_pages s.args.l = omega (arith, l.invariant.0) in
-    record { page_len = (page-read s.args.l _ _ _ s.requires.ssd_len h c.meta_page.ensures).1; p_bound = omega (arith, pages-most s.args.l s.requires.limits, c.loop-p.invariant.0) }
+    let h : l.p < meta_pages c.args.l = omega (arith, l.invariant.0) in
+    record { page_len = (page-read c.args.l _ _ _ c.requires.ssd_len h c.meta_page.ensures).1; p_bound = omega (arith, pages-most c.args.l c.requires.limits, c.loop-p.invariant.0) }
 
 pub returns-then-not-legal_page : goal.returns-then-not-legal_page
 returns-then-not-legal_page c =
-    let s = c in
     let l = c.loop-p in
-    let h : l.p < meta_pages s.args.l = omega (arith, l.invariant.0) in
-    stop (page_test s.args.l l.p (get_or (metas_of s.args.l s.args.ssd.now) l.p [])) _ l.invariant.2
-    (legal-left s.args.l s.args.ssd.now l.p h)
-    (ap (page_test s.args.l l.p) (sym (page-read s.args.l _ _ _ s.requires.ssd_len h c.meta_page.ensures).0) ∙ sym c.legal_page.ensures
+    let h : l.p < meta_pages c.args.l = omega (arith, l.invariant.0) in
+    stop (page_test c.args.l l.p (get_or (metas_of c.args.l c.args.ssd.now) l.p [])) _ l.invariant.2
+    (legal-left c.args.l c.args.ssd.now l.p h)
+    (ap (page_test c.args.l l.p) (sym (page-read c.args.l _ _ _ c.requires.ssd_len h c.meta_page.ensures).0) ∙ sym c.legal_page.ensures
     ∙ c.if-not-legal_page.true)
 
 pub loop-p-preserved : goal.loop-p-preserved
 loop-p-preserved c =
-    let s = c in
     let l = c.loop-p in
-    let h : l.p < meta_pages s.args.l = omega (arith, l.invariant.0) in (
+    let h : l.p < meta_pages c.args.l = omega (arith, l.invariant.0) in (
       l.invariant.0,
       omega arith,
-      go_on (page_test s.args.l l.p (get_or (metas_of s.args.l s.args.ssd.now) l.p [])) _ l.invariant.2
-          (legal-left s.args.l s.args.ssd.now l.p h)
-          (ap (page_test s.args.l l.p) (sym (page-read s.args.l _ _ _ s.requires.ssd_len h c.meta_page.ensures).0) ∙ sym c.legal_page.ensures
+      go_on (page_test c.args.l l.p (get_or (metas_of c.args.l c.args.ssd.now) l.p [])) _ l.invariant.2
+          (legal-left c.args.l c.args.ssd.now l.p h)
+          (ap (page_test c.args.l l.p) (sym (page-read c.args.l _ _ _ c.requires.ssd_len h c.meta_page.ensures).0) ∙ sym c.legal_page.ensures
           ∙ c.if-not-legal_page.false),
     )
 
 pub returns : goal.returns
 returns c =
-    let s = c in
     let l = c.loop-p in
-    sym (legal_end s.args.l s.args.ssd.now l.p (omega (arith, l.invariant.0))) ∙ l.invariant.2
+    sym (legal_end c.args.l c.args.ssd.now l.p (omega (arith, l.invariant.0))) ∙ l.invariant.2

@@ -15,35 +15,31 @@ use Rattle.image_rules.proofs.all_open.Goals as goal
 
 pub entry_of-entry-requires : goal.entry_of-entry-requires
 entry_of-entry-requires c =
-    let s = c in
     let l = c.loop-i in
-    let all : length s.args.w.slots ≡ 63 = search (rules, length-mapped) in
-    record { ssd_len = s.requires.ssd_len; s_lt_slots = slot-low s.args.l s.args.w.slots s.args.w.count l.i _ s.requires.w_value (omega arith) (omega (arith, s.requires)) }
+    let all : length c.args.w.slots ≡ 63 = search (rules, length-mapped) in
+    record { ssd_len = c.requires.ssd_len; s_lt_slots = slot-low c.args.l c.args.w.slots c.args.w.count l.i _ c.requires.w_value (omega arith) (omega (arith, c.requires)) }
 
 pub returns-then-not-is_open : goal.returns-then-not-is_open
 returns-then-not-is_open c =
-    let s = c in
     let l = c.loop-i in
-    let all : length s.args.w.slots ≡ 63 = search (rules, length-mapped) in
-    let o = open_left (metas_of s.args.l s.args.ssd.now) s.args.w.slots s.args.w.count l.i _ (omega arith)
-    (omega (arith, s.requires)) in
+    let all : length c.args.w.slots ≡ 63 = search (rules, length-mapped) in
+    let o = open_left (metas_of c.args.l c.args.ssd.now) c.args.w.slots c.args.w.count l.i _ (omega arith)
+    (omega (arith, c.requires)) in
     let q = ap (λ (e : Entry). valid e.flags && writing e.flags) (sym c.entry_of-entry.ensures) ∙ sym
     c.is_open.ensures in
     stop _ _ l.invariant.1 o (q ∙ c.if-not-is_open.true)
 
 pub loop-i-preserved : goal.loop-i-preserved
 loop-i-preserved c =
-    let s = c in
     let l = c.loop-i in
-    let all : length s.args.w.slots ≡ 63 = search (rules, length-mapped) in
-    let o = open_left (metas_of s.args.l s.args.ssd.now) s.args.w.slots s.args.w.count l.i _ (omega arith)
-    (omega (arith, s.requires)) in
+    let all : length c.args.w.slots ≡ 63 = search (rules, length-mapped) in
+    let o = open_left (metas_of c.args.l c.args.ssd.now) c.args.w.slots c.args.w.count l.i _ (omega arith)
+    (omega (arith, c.requires)) in
     let q = ap (λ (e : Entry). valid e.flags && writing e.flags) (sym c.entry_of-entry.ensures) ∙ sym
     c.is_open.ensures in
     (omega arith, go_on _ _ l.invariant.1 o (q ∙ c.if-not-is_open.false))
 
 pub returns : goal.returns
 returns c =
-    let s = c in
     let l = c.loop-i in
-    sym (open_end (metas_of s.args.l s.args.ssd.now) s.args.w.slots s.args.w.count l.i (omega (arith, l.invariant.0))) ∙ l.invariant.1
+    sym (open_end (metas_of c.args.l c.args.ssd.now) c.args.w.slots c.args.w.count l.i (omega (arith, l.invariant.0))) ∙ l.invariant.1

@@ -18,8 +18,7 @@ returns-then-not-stamps_differ c = stamps_bad _ _ (sym c.all_legal.ensures ∙ c
 
 pub none_twice-requires : goal.none_twice-requires
 none_twice-requires c =
-    let s = c in
-    record { ssd_len = s.requires.ssd_len; limits = s.requires.limits; ssd_value = sym c.all_legal.ensures ∙ c.if-not-all_legal.false }
+    record { ssd_len = c.requires.ssd_len; limits = c.requires.limits; ssd_value = sym c.all_legal.ensures ∙ c.if-not-all_legal.false }
 
 pub returns-then-not-none_twice : goal.returns-then-not-none_twice
 returns-then-not-none_twice c = blocks_bad _ _
@@ -29,25 +28,23 @@ returns-then-not-none_twice c = blocks_bad _ _
 
 pub pending-requires : goal.pending-requires
 pending-requires c =
-    let s = c in record {
-      ssd_len = s.requires.ssd_len;
+    record {
+      ssd_len = c.requires.ssd_len;
       ssd_value = sym c.all_legal.ensures ∙ c.if-not-all_legal.false;
-      at_bound = rw (← length_metas s.args.l s.args.ssd.now)
+      at_bound = rw (← length_metas c.args.l c.args.ssd.now)
           (found _ _ c.newest-found.ensures).on_page_is;
     }
 
 pub all_open-requires : goal.all_open-requires
 all_open-requires c =
-    let s = c in
-    let w = newest_bounded s.args.l (metas_of s.args.l s.args.ssd.now) _
+    let w = newest_bounded c.args.l (metas_of c.args.l c.args.ssd.now) _
     (sym c.all_legal.ensures ∙ c.if-not-all_legal.false) (found _ _ c.newest-found.ensures).on_page_is in
-    let z = pending_bounded s.args.l _ _ c.pending.ensures w in
-    record { ssd_len = s.requires.ssd_len; count_le_window_most = z.0; w_value = z.1 }
+    let z = pending_bounded c.args.l _ _ c.pending.ensures w in
+    record { ssd_len = c.requires.ssd_len; count_le_window_most = z.0; w_value = z.1 }
 
 pub returns : goal.returns
 returns c =
-    let s = c in
-    let pages = metas_of s.args.l s.args.ssd.now in
+    let pages = metas_of c.args.l c.args.ssd.now in
     let n = found _ _ c.newest-found.ensures in
     let w : take c.pending.result.count c.pending.result.slots ≡ (newest_of pages).window =
     ap (λ (v : Window). take v.count v.slots) c.pending.ensures ∙ take-array _ ∙ ap

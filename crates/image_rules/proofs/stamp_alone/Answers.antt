@@ -17,28 +17,25 @@ returns-then-stamp-eq0 c = rw (eq-eqb _ _ c.if-stamp-eq0.true)
 
 pub returns-then-stamp-stamp_at : goal.returns-then-stamp-stamp_at
 returns-then-stamp-stamp_at c =
-    let s = c in
     let l = c.loop-q in
-    let h : l.q < meta_pages s.args.l = omega (arith, l.invariant.0) in
-    let e = hit (eqb s.args.stamp (stamp_of (get_or (metas_of s.args.l s.args.ssd.now) l.q []))) _ l.invariant.2
-    (stamp-left s.args.l s.args.ssd.now l.q h s.args.stamp) (eq-eqb _ _ (c.if-stamp-stamp_at.true ∙ c.stamp_at.ensures)) in
+    let h : l.q < meta_pages c.args.l = omega (arith, l.invariant.0) in
+    let e = hit (eqb c.args.stamp (stamp_of (get_or (metas_of c.args.l c.args.ssd.now) l.q []))) _ l.invariant.2
+    (stamp-left c.args.l c.args.ssd.now l.q h c.args.stamp) (eq-eqb _ _ (c.if-stamp-stamp_at.true ∙ c.stamp_at.ensures)) in
     rw (ne_eqb _ _ c.if-stamp-eq0.false, ← e)
 
 pub loop-q-preserved : goal.loop-q-preserved
 loop-q-preserved c =
-    let s = c in
     let l = c.loop-q in
-    let h : l.q < meta_pages s.args.l = omega (arith, l.invariant.0) in (
+    let h : l.q < meta_pages c.args.l = omega (arith, l.invariant.0) in (
       l.invariant.0,
       omega arith,
-      miss (eqb s.args.stamp (stamp_of (get_or (metas_of s.args.l s.args.ssd.now) l.q []))) _ l.invariant.2
-          (stamp-left s.args.l s.args.ssd.now l.q h s.args.stamp)
+      miss (eqb c.args.stamp (stamp_of (get_or (metas_of c.args.l c.args.ssd.now) l.q []))) _ l.invariant.2
+          (stamp-left c.args.l c.args.ssd.now l.q h c.args.stamp)
           (ne_eqb _ _ (λ z. c.if-stamp-stamp_at.false (z ∙ sym c.stamp_at.ensures))),
     )
 
 pub returns : goal.returns
 returns c =
-    let s = c in
     let l = c.loop-q in
-    let e = sym (stamp_end s.args.l s.args.ssd.now l.q (omega (arith, l.invariant.0)) s.args.stamp) ∙ l.invariant.2 in
+    let e = sym (stamp_end c.args.l c.args.ssd.now l.q (omega (arith, l.invariant.0)) c.args.stamp) ∙ l.invariant.2 in
     rw (ne_eqb _ _ c.if-stamp-eq0.false, ← e)

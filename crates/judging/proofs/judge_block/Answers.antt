@@ -8,10 +8,9 @@ use Rattle.judging.proofs.judge_block.Goals.{Else-judged-ne0}
 
 pub returns-then-judged-ne0 : goal.returns-then-judged-ne0
 returns-then-judged-ne0 c =
-    let e = c in
-    let a = e.args in
-    rw (stops (ready_asks a.ssd a.hdd a.page a.table.now a.state) (λ q. c.if-judged-ne0.true (found (ready_then a.ssd a.hdd a.page a.table.now a.state 0) a.table.now a.b e.judge_ready-judged.ensures ∙ q)) _)
-    e.judge_ready-judged.ensures
+    let a = c.args in
+    rw (stops (ready_asks a.ssd a.hdd a.page a.table.now a.state) (λ q. c.if-judged-ne0.true (found (ready_then a.ssd a.hdd a.page a.table.now a.state 0) a.table.now a.b c.judge_ready-judged.ensures ∙ q)) _)
+    c.judge_ready-judged.ensures
 
 -- 3 to 6 are passed
 ready : (c : Else-judged-ne0) → let a = c.args in
@@ -28,17 +27,12 @@ on c rest = let a = c.args in
 
 pub returns-then-caller-gt-IMPORT : goal.returns-then-caller-gt-IMPORT
 returns-then-caller-gt-IMPORT c =
-    let t = c in
-    rw (on (goal.at.returns-then-caller-gt-IMPORT t).Else-judged-ne0 _, lt-ltb _ _ t.if-caller-gt-IMPORT.true) c.refused.ensures
+    rw (on (goal.at.returns-then-caller-gt-IMPORT c).Else-judged-ne0 _, lt-ltb _ _ c.if-caller-gt-IMPORT.true) c.refused.ensures
 
 pub returns-then-state-b : goal.returns-then-state-b
 returns-then-state-b c =
-    let t = c in
-    let d = t in
-    rw (on (goal.at.returns-then-state-b d).Else-judged-ne0 _, le-ltb _ _ d.if-caller-gt-IMPORT.false, le-leb _ _ t.if-state-b.true) c.refused-then-state-b.ensures
+    rw (on (goal.at.returns-then-state-b c).Else-judged-ne0 _, le-ltb _ _ c.if-caller-gt-IMPORT.false, le-leb _ _ c.if-state-b.true) c.refused-then-state-b.ensures
 
 pub returns : goal.returns
 returns c =
-    let d = c in
-    let k = d in
-    rw (on (goal.at.returns k).Else-judged-ne0 _, le-ltb _ _ d.if-caller-gt-IMPORT.false, lt-leb _ _ c.if-state-b.false) (rw (ready (goal.at.returns k).Else-judged-ne0) at k.judge_ready-judged.ensures)
+    rw (on (goal.at.returns c).Else-judged-ne0 _, le-ltb _ _ c.if-caller-gt-IMPORT.false, lt-leb _ _ c.if-state-b.false) (rw (ready (goal.at.returns c).Else-judged-ne0) at c.judge_ready-judged.ensures)

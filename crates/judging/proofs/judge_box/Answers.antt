@@ -11,8 +11,7 @@ use Rattle.judging.proofs.judge_box.Goals.{After-lengths_ok, Else-not-lengths_ok
 
 pub returns-then-not-record_ok : goal.returns-then-not-record_ok
 returns-then-not-record_ok c =
-    let s = c in
-    let a = s.args in
+    let a = c.args in
     rw (bad_record a.ssd a.hdd a.page a.table.now a.state 0
     (sym c.record_ok.ensures ∙ c.if-not-record_ok.true))
     c.refused.ensures
@@ -30,10 +29,8 @@ lengths-are c =
 
 pub returns-then-not-lengths_ok : goal.returns-then-not-lengths_ok
 returns-then-not-lengths_ok c =
-    let e = c in
-    let k = e in
-    let a = k.args in
-    rw (bad_length a.ssd a.hdd a.page a.table.now a.state 0 (kept (goal.at.returns-then-not-lengths_ok k).Else-not-record_ok) (lengths-are (goal.at.returns-then-not-lengths_ok e).After-lengths_ok ∙ c.if-not-lengths_ok.true))
+    let a = c.args in
+    rw (bad_length a.ssd a.hdd a.page a.table.now a.state 0 (kept (goal.at.returns-then-not-lengths_ok c).Else-not-record_ok) (lengths-are (goal.at.returns-then-not-lengths_ok c).After-lengths_ok ∙ c.if-not-lengths_ok.true))
     c.refused-then-not-lengths_ok.ensures
 
 lengths : (c : Else-not-lengths_ok) → let a = c.args in
@@ -42,21 +39,15 @@ lengths c = lengths-are (goal.at.Else-not-lengths_ok c).After-lengths_ok ∙ c.i
 
 pub returns-then-page-ne4096 : goal.returns-then-page-ne4096
 returns-then-page-ne4096 c =
-    let e = c in
-    let k = e in
-    let a = k.args in
-    rw (bad_page a.ssd a.hdd a.page a.table.now a.state 0 (kept (goal.at.returns-then-page-ne4096 k).Else-not-record_ok) (lengths (goal.at.returns-then-page-ne4096 e).Else-not-lengths_ok) c.if-page-ne4096.true) c.refused-then-page-ne4096.ensures
+    let a = c.args in
+    rw (bad_page a.ssd a.hdd a.page a.table.now a.state 0 (kept (goal.at.returns-then-page-ne4096 c).Else-not-record_ok) (lengths (goal.at.returns-then-page-ne4096 c).Else-not-lengths_ok) c.if-page-ne4096.true) c.refused-then-page-ne4096.ensures
 
 pub look-requires : goal.look-requires
 look-requires c =
-    let e = c in
-    let k = e in
-    let a = k.args in
-    record { state_value = kept (goal.at.look-requires k).Else-not-record_ok; table_len = lengths_table (label_in a.state) a.ssd a.hdd (length a.table.now) (lengths (goal.at.look-requires e).Else-not-lengths_ok) }
+    let a = c.args in
+    record { state_value = kept (goal.at.look-requires c).Else-not-record_ok; table_len = lengths_table (label_in a.state) a.ssd a.hdd (length a.table.now) (lengths (goal.at.look-requires c).Else-not-lengths_ok) }
 
 pub returns : goal.returns
 returns c =
-    let e = c in
-    let k = e in
-    let a = k.args in
-    rw (by_rows a.ssd a.hdd a.page a.table.now a.state 0 (kept (goal.at.returns k).Else-not-record_ok) (lengths (goal.at.returns e).Else-not-lengths_ok) c.if-page-ne4096.false) c.look.ensures
+    let a = c.args in
+    rw (by_rows a.ssd a.hdd a.page a.table.now a.state 0 (kept (goal.at.returns c).Else-not-record_ok) (lengths (goal.at.returns c).Else-not-lengths_ok) c.if-page-ne4096.false) c.look.ensures

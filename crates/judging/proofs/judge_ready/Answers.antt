@@ -8,10 +8,9 @@ use Rattle.judging.proofs.judge_ready.Goals.{Else-judged-ne0}
 
 pub returns-then-judged-ne0 : goal.returns-then-judged-ne0
 returns-then-judged-ne0 c =
-    let e = c in
-    let a = e.args in
-    rw (stops (sound_asks a.ssd a.hdd a.page a.table.now a.state) (λ q. c.if-judged-ne0.true (found (sound_then a.ssd a.hdd a.page a.table.now a.state 0) a.table.now a.b e.judge_box-judged.ensures ∙ q)) _)
-    e.judge_box-judged.ensures
+    let a = c.args in
+    rw (stops (sound_asks a.ssd a.hdd a.page a.table.now a.state) (λ q. c.if-judged-ne0.true (found (sound_then a.ssd a.hdd a.page a.table.now a.state 0) a.table.now a.b c.judge_box-judged.ensures ∙ q)) _)
+    c.judge_box-judged.ensures
 
 -- 3, 4 and 5 are passed
 sound : (c : Else-judged-ne0) → let a = c.args in
@@ -28,11 +27,8 @@ on c rest = let a = c.args in
 
 pub returns-then-not-is_ready : goal.returns-then-not-is_ready
 returns-then-not-is_ready c =
-    let r = c in
-    rw (on (goal.at.returns-then-not-is_ready r).Else-judged-ne0 _, sym r.is_ready.ensures ∙ c.if-not-is_ready.true) c.refused.ensures
+    rw (on (goal.at.returns-then-not-is_ready c).Else-judged-ne0 _, sym c.is_ready.ensures ∙ c.if-not-is_ready.true) c.refused.ensures
 
 pub returns : goal.returns
 returns c =
-    let r = c in
-    let e = r in
-    rw (on (goal.at.returns r).Else-judged-ne0 _, sym r.is_ready.ensures ∙ c.if-not-is_ready.false) (rw (sound (goal.at.returns r).Else-judged-ne0) at e.judge_box-judged.ensures)
+    rw (on (goal.at.returns c).Else-judged-ne0 _, sym c.is_ready.ensures ∙ c.if-not-is_ready.false) (rw (sound (goal.at.returns c).Else-judged-ne0) at c.judge_box-judged.ensures)

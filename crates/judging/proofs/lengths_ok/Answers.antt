@@ -7,12 +7,9 @@ returns-then-ssd-ssd_length c = other-ssd _ _ _ _ λ q. c.if-ssd-ssd_length.true
 
 pub returns-then-hdd-hdd_length : goal.returns-then-hdd-hdd_length
 returns-then-hdd-hdd_length c =
-    let e = c in
-    other-hdd _ _ _ _ (e.if-ssd-ssd_length.false ∙ e.ssd_length.ensures) λ q. c.if-hdd-hdd_length.true (q ∙ sym c.hdd_length.ensures)
+    other-hdd _ _ _ _ (c.if-ssd-ssd_length.false ∙ c.ssd_length.ensures) λ q. c.if-hdd-hdd_length.true (q ∙ sym c.hdd_length.ensures)
 
 pub returns : goal.returns
 returns c =
-    let f = c in
-    let e = f in
     rw c.table_length.ensures
-    (by_table _ _ _ _ (e.if-ssd-ssd_length.false ∙ e.ssd_length.ensures) (f.if-hdd-hdd_length.false ∙ f.hdd_length.ensures))
+    (by_table _ _ _ _ (c.if-ssd-ssd_length.false ∙ c.ssd_length.ensures) (c.if-hdd-hdd_length.false ∙ c.hdd_length.ensures))

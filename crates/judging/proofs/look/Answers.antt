@@ -26,36 +26,29 @@ seen c = scanned _ _ _ _ (scan-is (goal.at.Else-not-scan c).After-scan-scan) c.i
 
 pub returns-then-not-scan : goal.returns-then-not-scan
 returns-then-not-scan c =
-    let s = c in
-    let q : legal_rows (label_in s.args.state) s.args.table.now ≡ false =
+    let q : legal_rows (label_in c.args.state) c.args.table.now ≡ false =
     sym (scan_judges _ _ _ _ (scan-is (goal.at.returns-then-not-scan c).After-scan-scan)) ∙ c.if-not-scan.true in
-    rw (rows_bad s.args.state s.args.table.now q) c.refused.ensures
+    rw (rows_bad c.args.state c.args.table.now q) c.refused.ensures
 
 pub agrees-requires : goal.agrees-requires
 agrees-requires c =
-    let s = c in
     let k = seen c in
-    record { state_value = s.requires.state_value; table_len = s.requires.table_len; table_value = k.rows; writing_value = k.open_are; busy_value = k.busy_are }
+    record { state_value = c.requires.state_value; table_len = c.requires.table_len; table_value = k.rows; writing_value = k.open_are; busy_value = k.busy_are }
 
 pub returns-then-not-agrees : goal.returns-then-not-agrees
 returns-then-not-agrees c =
-    let s = c in
-    let e = c in
-    let q : rows_test s.args.state s.args.table.now ≡ false =
-    sym (rows_agree _ _ (seen (goal.at.returns-then-not-agrees e).Else-not-scan).rows) ∙ sym e.agrees.ensures ∙ c.if-not-agrees.true in
+    let q : rows_test c.args.state c.args.table.now ≡ false =
+    sym (rows_agree _ _ (seen (goal.at.returns-then-not-agrees c).Else-not-scan).rows) ∙ sym c.agrees.ensures ∙ c.if-not-agrees.true in
     rw q c.refused-then-not-agrees.ensures
 
 pub condition-condition-requires : goal.condition-condition-requires
 condition-condition-requires c =
-    let e = c in
-    e.requires.table_len
+    c.requires.table_len
 
 pub returns : goal.returns
 returns c =
-    let s = c in
-    let e = c in
-    let k = seen (goal.at.returns e).Else-not-scan in
-    let q : rows_test s.args.state s.args.table.now ≡ true =
-    sym (rows_agree _ _ k.rows) ∙ sym e.agrees.ensures ∙ c.if-not-agrees.false in
-    let n = condition_is s.args.table.now s.args.b s.args.state.label.slots s.requires.table_len in
+    let k = seen (goal.at.returns c).Else-not-scan in
+    let q : rows_test c.args.state c.args.table.now ≡ true =
+    sym (rows_agree _ _ k.rows) ∙ sym c.agrees.ensures ∙ c.if-not-agrees.false in
+    let n = condition_is c.args.table.now c.args.b c.args.state.label.slots c.requires.table_len in
     rw (q, c.condition-condition.ensures, k.open_are, k.found_at, n)

@@ -13,31 +13,26 @@ use Rattle.label_page.proofs.fill_label.Goals as goal
 
 pub put_number-end-requires : goal.put_number-end-requires
 put_number-end-requires c =
-    let s = c in
-    omega (arith, (within s.args.l).0 s.requires.l_value, decimal-size s.args.l.slots, s.requires.page_value.1)
+    omega (arith, (within c.args.l).0 c.requires.l_value, decimal-size c.args.l.slots, c.requires.page_value.1)
 
 pub put_text-requires-2 : goal.put_text-requires-2
 put_text-requires-2 c =
-    let s = c in
-    omega (arith, c.put_number-end.ensures.0, decimal-size s.args.l.slots, s.requires.page_value.1)
+    omega (arith, c.put_number-end.ensures.0, decimal-size c.args.l.slots, c.requires.page_value.1)
 
 pub overflow_add-end : goal.overflow_add-end
 overflow_add-end c =
-    let s = c in
-    omega (arith, c.put_number-end.ensures.0, decimal-size s.args.l.slots)
+    omega (arith, c.put_number-end.ensures.0, decimal-size c.args.l.slots)
 
 pub put_number-requires : goal.put_number-requires
 put_number-requires c =
-    let s = c in
-    omega (arith, c.put_number-end.ensures.0, (within s.args.l).0 s.requires.l_value, decimal-size s.args.l.slots, decimal-size s.args.l.blocks, s.requires.page_value.1)
+    omega (arith, c.put_number-end.ensures.0, (within c.args.l).0 c.requires.l_value, decimal-size c.args.l.slots, decimal-size c.args.l.blocks, c.requires.page_value.1)
 
 pub returns : goal.returns
 returns c =
-    let s = c in
-    let l = s.args.l in
+    let l = c.args.l in
     let n = length (decimal l.slots) + 1 in
     let m = length (decimal l.blocks) + 1 in
     let q = c.put_number-end in
     c.put_number.ensures.1
-    ∙ (λ i. put_mid (q.result + 7) m ((c.put_text-2.ensures ∙ (λ j. put_mid q.result 7 ((q.ensures.1 ∙ (λ k. put_mid 27 n ((c.put_text.ensures ∙ (λ h. put_mid 0 27 (s.requires.page_value.0 h) head_text)) k) (decimal l.slots ++ (10 ∷ [])))) j) blocks_key)) i) (decimal l.blocks ++ (10 ∷ [])))
+    ∙ (λ i. put_mid (q.result + 7) m ((c.put_text-2.ensures ∙ (λ j. put_mid q.result 7 ((q.ensures.1 ∙ (λ k. put_mid 27 n ((c.put_text.ensures ∙ (λ h. put_mid 0 27 (c.requires.page_value.0 h) head_text)) k) (decimal l.slots ++ (10 ∷ [])))) j) blocks_key)) i) (decimal l.blocks ++ (10 ∷ [])))
     ∙ label_built l q.result q.ensures.0

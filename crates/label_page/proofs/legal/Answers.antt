@@ -29,6 +29,5 @@ returns-then-not-all_zero c =
 
 pub returns : goal.returns
 returns c =
-    let w = c in
-    rw (limits (goal.at.returns w).After-within_limits ∙ c.if-not-within_limits.false, tail (goal.at.returns c).After-all_zero ∙ c.if-not-all_zero.false)
-    (ap Legal w.label-l.ensures)
+    rw (limits (goal.at.returns c).After-within_limits ∙ c.if-not-within_limits.false, tail (goal.at.returns c).After-all_zero ∙ c.if-not-all_zero.false)
+    (ap Legal c.label-l.ensures)

@@ -24,35 +24,27 @@ by_turn c = let s = c in let a = s.args in
 
 pub returns-then-state-b : goal.returns-then-state-b
 returns-then-state-b c =
-    let t = c in
-    let s = t in
-    let a = s.args in
-    rw c.refused.ensures (ap (λ (T : Turn). left (turned T a.b a.caller (box (goal.at.returns-then-state-b s).Start)) (box (goal.at.returns-then-state-b s).Start).images)
-    (turn_high a.state.label a.table.now a.state.hand _ a.b t.if-state-b.true))
+    let a = c.args in
+    rw c.refused.ensures (ap (λ (T : Turn). left (turned T a.b a.caller (box (goal.at.returns-then-state-b c).Start)) (box (goal.at.returns-then-state-b c).Start).images)
+    (turn_high a.state.label a.table.now a.state.hand _ a.b c.if-state-b.true))
 
 pub offer-turn-requires : goal.offer-turn-requires
 offer-turn-requires c =
-    let s = c in
-    let a = s.args in
-    let F = s.requires.fair in record {
+    let a = c.args in
+    let F = c.requires.fair in record {
       seen = fair_seen F;
       within = where_within a.state a.table.now a.b a.condition
-          (where_is a.state a.table.now a.b F.size a.condition (sym s.requires.condition_value));
+          (where_is a.state a.table.now a.b F.size a.condition (sym c.requires.condition_value));
     }
 
 pub perform-requires : goal.perform-requires
 perform-requires c =
-    let o = c in
-    let s = o in
-    let a = s.args in
-    let F = s.requires.fair in
+    let a = c.args in
+    let F = c.requires.fair in
     let p = placing_performs a.table.now a.state a.b a.caller F (place_turn_is a.table.now a.state a.b a.caller F) in
-    record { fits_record = s.requires.fits_record; hdd_len = s.requires.hdd_len; state_value = F.record_kept; table_value = fair-legal F; performable = rw (by_turn (goal.at.perform-requires o).After-offer-turn) p }
+    record { fits_record = c.requires.fits_record; hdd_len = c.requires.hdd_len; state_value = F.record_kept; table_value = fair-legal F; performable = rw (by_turn (goal.at.perform-requires c).After-offer-turn) p }
 
 pub returns : goal.returns
 returns c =
-    let k = c in
-    let o = k in
-    let s = o in
-    let a = s.args in
-    k.perform.ensures ∙ ap (λ (T : Turn). left (turned T a.b a.caller (box (goal.at.returns s).Start)) (box (goal.at.returns s).Start).images) (by_turn (goal.at.returns o).After-offer-turn)
+    let a = c.args in
+    c.perform.ensures ∙ ap (λ (T : Turn). left (turned T a.b a.caller (box (goal.at.returns c).Start)) (box (goal.at.returns c).Start).images) (by_turn (goal.at.returns c).After-offer-turn)

@@ -46,88 +46,65 @@ run_is c = let r = c in let a = (start (goal.at.Else-run-eq13 r).Else-number-ne0
 
 pub returns-then-number-ne0 : goal.returns-then-number-ne0
 returns-then-number-ne0 c =
-    let j = c in
-    let a = j.args in
+    let a = c.args in
     rw c.refused.ensures
-    (offers_unready a.ssd.now a.hdd.now a.table.now a.state a.blocks.now a.caller j.judge_ready-seen.result.number
-    (found _ a.table.now _ j.judge_ready-seen.ensures) c.if-number-ne0.true)
+    (offers_unready a.ssd.now a.hdd.now a.table.now a.state a.blocks.now a.caller c.judge_ready-seen.result.number
+    (found _ a.table.now _ c.judge_ready-seen.ensures) c.if-number-ne0.true)
 
 pub returns-then-listed-ne0 : goal.returns-then-listed-ne0
 returns-then-listed-ne0 c =
-    let k = c in
-    let e = k in
-    let a = (start (goal.at.returns-then-listed-ne0 e).Else-number-ne0).args in
+    let a = (start (goal.at.returns-then-listed-ne0 c).Else-number-ne0).args in
     rw c.refused-then-listed-ne0.ensures
-    (offers_refused a.ssd.now a.hdd.now a.table.now a.state a.blocks.now a.caller (seen (goal.at.returns-then-listed-ne0 e).Else-number-ne0).none k.judge_call-listed.result
-    k.judge_call-listed.ensures c.if-listed-ne0.true)
+    (offers_refused a.ssd.now a.hdd.now a.table.now a.state a.blocks.now a.caller (seen (goal.at.returns-then-listed-ne0 c).Else-number-ne0).none c.judge_call-listed.result
+    c.judge_call-listed.ensures c.if-listed-ne0.true)
 
 pub run_all-run-requires : goal.run_all-run-requires
 run_all-run-requires c =
-    let e = c in
-    let a = (start (goal.at.run_all-run-requires e).Else-number-ne0).args in
-    let S = scans a.blocks.now a.caller (listed (goal.at.run_all-run-requires e).Else-listed-ne0) in
-    record { fair = ready-fair (box (goal.at.run_all-run-requires e).Else-number-ne0); blocks_len_bound = S.few; blocks_value = S.once; caller_le_import_caller = S.known }
+    let a = (start (goal.at.run_all-run-requires c).Else-number-ne0).args in
+    let S = scans a.blocks.now a.caller (listed (goal.at.run_all-run-requires c).Else-listed-ne0) in
+    record { fair = ready-fair (box (goal.at.run_all-run-requires c).Else-number-ne0); blocks_len_bound = S.few; blocks_value = S.once; caller_le_import_caller = S.known }
 
 pub returns-then-run-eq13 : goal.returns-then-run-eq13
 returns-then-run-eq13 c =
-    let r = c in
-    let e = r in
-    let f = e in
-    let a = (start (goal.at.returns-then-run-eq13 f).Else-number-ne0).args in
-    let S = ran_spent a.table.now a.state r.run_all-run.new.table r.run_all-run.result (offered_as a.table.now a.state a.blocks.now a.caller)
-    (refused13 a.table.now a.state a.blocks.now a.caller) c.if-run-eq13.true r.run_all-run.ensures in
-    rw (c.refused-then-run-eq13.ensures, S.1) (spent-leaves a.ssd.now a.hdd.now a.table.now a.state a.blocks.now a.caller (seen (goal.at.returns-then-run-eq13 f).Else-number-ne0).none (listed (goal.at.returns-then-run-eq13 e).Else-listed-ne0) (ready-fair (box (goal.at.returns-then-run-eq13 f).Else-number-ne0)) S.0 S.2)
+    let a = (start (goal.at.returns-then-run-eq13 c).Else-number-ne0).args in
+    let S = ran_spent a.table.now a.state c.run_all-run.new.table c.run_all-run.result (offered_as a.table.now a.state a.blocks.now a.caller)
+    (refused13 a.table.now a.state a.blocks.now a.caller) c.if-run-eq13.true c.run_all-run.ensures in
+    rw (c.refused-then-run-eq13.ensures, S.1) (spent-leaves a.ssd.now a.hdd.now a.table.now a.state a.blocks.now a.caller (seen (goal.at.returns-then-run-eq13 c).Else-number-ne0).none (listed (goal.at.returns-then-run-eq13 c).Else-listed-ne0) (ready-fair (box (goal.at.returns-then-run-eq13 c).Else-number-ne0)) S.0 S.2)
 
 pub alone-requires : goal.alone-requires
 alone-requires c =
-    let w = c in
-    let e3 = w in
-    let r = e3 in
-    let f = r in
-    let a = (start (goal.at.alone-requires f).Else-number-ne0).args in
-    let same = same-table a.ssd.now a.hdd.now a.table.now a.state a.blocks.now a.caller (seen (goal.at.alone-requires f).Else-number-ne0).none (listed (goal.at.alone-requires r).Else-listed-ne0) (ready-fair (box (goal.at.alone-requires f).Else-number-ne0)) r.run_all-run.new.table r.run_all-run.result (run_is (goal.at.alone-requires e3).Else-run-eq13).1 w.if-run-eq0.true in
-    rw same record { fits_record = (box (goal.at.alone-requires f).Else-number-ne0).box.ranges; hdd_len = (box (goal.at.alone-requires f).Else-number-ne0).box.sound.hdd-size; fair = ready-fair (box (goal.at.alone-requires f).Else-number-ne0); condition_value = (seen (goal.at.alone-requires f).Else-number-ne0).condition_is }
+    let a = (start (goal.at.alone-requires c).Else-number-ne0).args in
+    let same = same-table a.ssd.now a.hdd.now a.table.now a.state a.blocks.now a.caller (seen (goal.at.alone-requires c).Else-number-ne0).none (listed (goal.at.alone-requires c).Else-listed-ne0) (ready-fair (box (goal.at.alone-requires c).Else-number-ne0)) c.run_all-run.new.table c.run_all-run.result (run_is (goal.at.alone-requires c).Else-run-eq13).1 c.if-run-eq0.true in
+    rw same record { fits_record = (box (goal.at.alone-requires c).Else-number-ne0).box.ranges; hdd_len = (box (goal.at.alone-requires c).Else-number-ne0).box.sound.hdd-size; fair = ready-fair (box (goal.at.alone-requires c).Else-number-ne0); condition_value = (seen (goal.at.alone-requires c).Else-number-ne0).condition_is }
 
 pub returns-then-run-eq0 : goal.returns-then-run-eq0
 returns-then-run-eq0 c =
-    let k = c in
-    let w = k in
-    let e3 = w in
-    let r = e3 in
-    let f = r in
+    let f = c in
     let a = (start (goal.at.returns-then-run-eq0 f).Else-number-ne0).args in
-    k.alone.ensures
-    ∙ ap (λ (b : Block). left (turned (place_turn r.run_all-run.new.table a.state b a.caller) b a.caller (box_of a.ssd.now a.hdd.now r.run_all-run.new.table a.state)) (record { ssd = a.ssd.now; hdd = a.hdd.now }))
+    c.alone.ensures
+    ∙ ap (λ (b : Block). left (turned (place_turn c.run_all-run.new.table a.state b a.caller) b a.caller (box_of a.ssd.now a.hdd.now c.run_all-run.new.table a.state)) (record { ssd = a.ssd.now; hdd = a.hdd.now }))
     f.first_of-first.ensures
-    ∙ alone_leaves a.ssd.now a.hdd.now a.table.now a.state a.blocks.now a.caller (seen (goal.at.returns-then-run-eq0 f).Else-number-ne0).none (listed (goal.at.returns-then-run-eq0 r).Else-listed-ne0) (ready-fair (box (goal.at.returns-then-run-eq0 f).Else-number-ne0)) r.run_all-run.new.table r.run_all-run.result (run_is (goal.at.returns-then-run-eq0 e3).Else-run-eq13).1 w.if-run-eq0.true
+    ∙ alone_leaves a.ssd.now a.hdd.now a.table.now a.state a.blocks.now a.caller (seen (goal.at.returns-then-run-eq0 f).Else-number-ne0).none (listed (goal.at.returns-then-run-eq0 c).Else-listed-ne0) (ready-fair (box (goal.at.returns-then-run-eq0 f).Else-number-ne0)) c.run_all-run.new.table c.run_all-run.result (run_is (goal.at.returns-then-run-eq0 c).Else-run-eq13).1 c.if-run-eq0.true
 
 pub returns-then-run-eq0-2 : goal.returns-then-run-eq0-2
 unfolding confirmed perform
 returns-then-run-eq0-2 c =
-    let w = c in
-    let e4 = w in
-    let e3 = e4 in
-    let r = e3 in
-    let f = r in
+    let f = c in
     let a = (start (goal.at.returns-then-run-eq0-2 f).Else-number-ne0).args in
     rw c.answered.ensures
-    (passed-leaves a.ssd.now a.hdd.now a.table.now a.state a.blocks.now a.caller (seen (goal.at.returns-then-run-eq0-2 f).Else-number-ne0).none (listed (goal.at.returns-then-run-eq0-2 r).Else-listed-ne0) (ready-fair (box (goal.at.returns-then-run-eq0-2 f).Else-number-ne0)) r.run_all-run.new.table r.run_all-run.result (run_is (goal.at.returns-then-run-eq0-2 e3).Else-run-eq13).1
-    e4.if-run-eq0.false (run_is (goal.at.returns-then-run-eq0-2 e3).Else-run-eq13).0 w.if-run-eq0-2.true)
+    (passed-leaves a.ssd.now a.hdd.now a.table.now a.state a.blocks.now a.caller (seen (goal.at.returns-then-run-eq0-2 f).Else-number-ne0).none (listed (goal.at.returns-then-run-eq0-2 c).Else-listed-ne0) (ready-fair (box (goal.at.returns-then-run-eq0-2 f).Else-number-ne0)) c.run_all-run.new.table c.run_all-run.result (run_is (goal.at.returns-then-run-eq0-2 c).Else-run-eq13).1
+    c.if-run-eq0.false (run_is (goal.at.returns-then-run-eq0-2 c).Else-run-eq13).0 c.if-run-eq0-2.true)
 
 pub confirm-requires : goal.confirm-requires
 confirm-requires c =
-    let w = c in
-    let e4 = w in
-    let e3 = e4 in
-    let r = e3 in
-    let f = r in
+    let f = c in
     let a = (start (goal.at.confirm-requires f).Else-number-ne0).args in
     let P = (seen (goal.at.confirm-requires f).Else-number-ne0).none in
-    let l = listed (goal.at.confirm-requires r).Else-listed-ne0 in
+    let l = listed (goal.at.confirm-requires c).Else-listed-ne0 in
     let F = ready-fair (box (goal.at.confirm-requires f).Else-number-ne0) in
-    let v = r.run_all-run.new.table in
-    let q = r.run_all-run.result in
-    let E = run_is e3 in record { fits_record = state_fits a.ssd.now a.hdd.now a.table.now a.state a.blocks.now a.caller P l F v q E.1 e4.if-run-eq0.false E.0 (box (goal.at.confirm-requires f).Else-number-ne0).box.ranges; p_bound = page_fits a.ssd.now a.hdd.now a.table.now a.state a.blocks.now a.caller P l F v q E.1 e4.if-run-eq0.false E.0 w.if-run-eq0-2.false; newest_bound = stamp-left a.ssd.now a.hdd.now a.table.now a.state a.blocks.now a.caller P l F v q E.1 e4.if-run-eq0.false E.0 w.if-run-eq0-2.false }
+    let v = c.run_all-run.new.table in
+    let q = c.run_all-run.result in
+    let E = run_is (goal.at.confirm-requires c).Else-run-eq13 in record { fits_record = state_fits a.ssd.now a.hdd.now a.table.now a.state a.blocks.now a.caller P l F v q E.1 c.if-run-eq0.false E.0 (box (goal.at.confirm-requires f).Else-number-ne0).box.ranges; p_bound = page_fits a.ssd.now a.hdd.now a.table.now a.state a.blocks.now a.caller P l F v q E.1 c.if-run-eq0.false E.0 c.if-run-eq0-2.false; newest_bound = stamp-left a.ssd.now a.hdd.now a.table.now a.state a.blocks.now a.caller P l F v q E.1 c.if-run-eq0.false E.0 c.if-run-eq0-2.false }
 
 pub shape_of-table : goal.shape_of-table
 shape_of-table c = omega (arith, c.run_all-run.auto)
@@ -135,13 +112,9 @@ shape_of-table c = omega (arith, c.run_all-run.auto)
 pub returns : goal.returns
 unfolding confirmed perform
 returns c =
-    let k = c in
-    let w = k in
-    let e4 = w in
-    let e3 = e4 in
-    let r = e3 in
+    let r = c in
     let f = r in
     let a = (start (goal.at.returns f).Else-number-ne0).args in
-    rw (k.confirm.ensures.0, k.confirm.ensures.1)
-    (stored-leaves a.ssd.now a.hdd.now a.table.now a.state a.blocks.now a.caller (seen (goal.at.returns f).Else-number-ne0).none (listed (goal.at.returns r).Else-listed-ne0) (ready-fair (box (goal.at.returns f).Else-number-ne0)) r.run_all-run.new.table r.run_all-run.result (run_is (goal.at.returns e3).Else-run-eq13).1
-    e4.if-run-eq0.false (run_is (goal.at.returns e3).Else-run-eq13).0 w.if-run-eq0-2.false)
+    rw (c.confirm.ensures.0, c.confirm.ensures.1)
+    (stored-leaves a.ssd.now a.hdd.now a.table.now a.state a.blocks.now a.caller (seen (goal.at.returns f).Else-number-ne0).none (listed (goal.at.returns r).Else-listed-ne0) (ready-fair (box (goal.at.returns f).Else-number-ne0)) r.run_all-run.new.table r.run_all-run.result (run_is (goal.at.returns c).Else-run-eq13).1
+    c.if-run-eq0.false (run_is (goal.at.returns c).Else-run-eq13).0 c.if-run-eq0-2.false)

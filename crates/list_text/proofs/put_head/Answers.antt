@@ -8,15 +8,11 @@ use Rattle.list_text.proofs.put_head.Goals as goal
 pub returns : goal.returns
 unfolding head_text
 returns c =
-    let n = c in
-    let b = n in
-    let s = b in
-    let t = s in
-    let size = t.requires in
-    let h = written-text _ _ 0 layout_line t.put_text.ensures in
+    let size = c.requires in
+    let h = written-text _ _ 0 layout_line c.put_text.ensures in
     written_as
     (written_more
-    (written_more (written_more (written_more h s.put_field-b.ensures (omega (arith, size))) b.put_field-n.ensures (omega (arith, size)))
-    n.put_field-o.ensures (omega (arith, size)))
+    (written_more (written_more (written_more h c.put_field-b.ensures (omega (arith, size))) c.put_field-n.ensures (omega (arith, size)))
+    c.put_field-o.ensures (omega (arith, size)))
     c.put_field.ensures (omega (arith, size)))
     (simp append_assoc) (omega arith)

@@ -2,20 +2,16 @@ use Rattle.load_calls.proofs.begin.Goals as goal
 
 pub returns-in-Write : goal.returns-in-Write
 returns-in-Write c =
-    let k = c in
-    rw k.in-Write.is k.offer.ensures
+    rw c.in-Write.is c.offer.ensures
 
 pub returns-in-Fetch : goal.returns-in-Fetch
 returns-in-Fetch c =
-    let k = c in
-    rw k.in-Fetch.is k.fetch.ensures
+    rw c.in-Fetch.is c.fetch.ensures
 
 pub returns-in-LookUp : goal.returns-in-LookUp
 returns-in-LookUp c =
-    let k = c in
-    rw k.in-LookUp.is k.look_up.ensures
+    rw c.in-LookUp.is c.look_up.ensures
 
 pub returns-in-Flush : goal.returns-in-Flush
 returns-in-Flush c =
-    let k = c in
-    rw k.in-Flush.is k.flush.ensures
+    rw c.in-Flush.is c.flush.ensures

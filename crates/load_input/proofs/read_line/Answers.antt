@@ -13,34 +13,30 @@ returns-then-bytes-at c =
 
 pub returns-then-first-eq48 : goal.returns-then-first-eq48
 returns-then-first-eq48 c =
-    let w = c in
-    let a = w.args in
+    let a = c.args in
     let h : a.at < length a.bytes.now = omega arith in
-    let e = w.wide-first.ensures.0 in
+    let e = c.wide-first.ensures.0 in
     c.read_digits.ensures ∙ line_zero a.bytes.now a.at h (sym e ∙ c.if-first-eq48.true)
 
 pub returns-then-first-lt48 : goal.returns-then-first-lt48
 returns-then-first-lt48 c =
-    let w = c in
-    let a = w.args in
+    let a = c.args in
     let h : a.at < length a.bytes.now = omega arith in
-    let e = w.wide-first.ensures.0 in
+    let e = c.wide-first.ensures.0 in
     line_low a.bytes.now a.at h (omega arith)
 
 pub returns-then-first-gt57 : goal.returns-then-first-gt57
 returns-then-first-gt57 c =
-    let w = c in
-    let a = w.args in
+    let a = c.args in
     let h : a.at < length a.bytes.now = omega arith in
-    let e = w.wide-first.ensures.0 in
+    let e = c.wide-first.ensures.0 in
     line_high a.bytes.now a.at h (omega arith)
 
 pub returns : goal.returns
 returns c =
-    let w = c in
-    let a = w.args in
+    let a = c.args in
     let h : a.at < length a.bytes.now = omega arith in
-    let e = w.wide-first.ensures.0 in
+    let e = c.wide-first.ensures.0 in
     c.read_digits-2.ensures
     ∙ ap (λ (x : ℕ). fitting (number_from 9 (x - 48) (drop (a.at + 1) a.bytes.now))) e
     ∙ line_digit a.bytes.now a.at h (omega arith) (omega arith)

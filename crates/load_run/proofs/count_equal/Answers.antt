@@ -20,13 +20,12 @@ count-n-requires c = omega (arith, c.loop-b.invariant.1, c.loop-b.invariant.0)
 
 pub loop-b-preserved : goal.loop-b-preserved
 loop-b-preserved c =
-    let r = c in
-    let l = r.loop-b in
-    let a = r.args in
+    let l = c.loop-b in
+    let a = c.args in
     let x : Box = box_of a.ssd.now a.hdd.now a.table.now a.state in (
-      omega (arith, r.loop-b-test.true),
-      omega (arith, counted-most r.reads_same.result l.n c.count-n.result c.count-n.ensures, l.invariant.1),
-      c.count-n.ensures ∙ (λ i. counted (r.reads_same.ensures i) (l.invariant.2 i)) ∙ equal_more l.b x a.plain.now,
+      omega (arith, c.loop-b-test.true),
+      omega (arith, counted-most c.reads_same.result l.n c.count-n.result c.count-n.ensures, l.invariant.1),
+      c.count-n.ensures ∙ (λ i. counted (c.reads_same.ensures i) (l.invariant.2 i)) ∙ equal_more l.b x a.plain.now,
     )
 
 pub returns : goal.returns

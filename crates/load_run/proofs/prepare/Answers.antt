@@ -12,18 +12,13 @@ use Rattle.load_run.proofs.prepare.Goals as goal
 
 pub shape_of-table : goal.shape_of-table
 shape_of-table c =
-    let a = c in
-    a.table-1.given
+    c.table-1.given
 
 pub returns : goal.returns
 returns c =
-    let d = c in
-    let b = d in
-    let a = b in
-    let f = a in
-    let n = f in
+    let n = c in
     let s = n.args in
     let e = n.begun-blank.ensures ∙ ap (λ (l : Label). record_of l (record { 0 = 0 }) 0 (Formatting 0) false []) n.label.ensures in
     prepared (box_of s.ssd.now s.hdd.now s.table.now blank_record) _ _ _ _
-    (f.format-begun.ensures ∙ ap (λ (r : Record). format_of s.ssd.now s.hdd.now s.table.now r 4 8) e)
-    a.step-first.ensures b.step-second.ensures d.step-third.ensures
+    (c.format-begun.ensures ∙ ap (λ (r : Record). format_of s.ssd.now s.hdd.now s.table.now r 4 8) e)
+    c.step-first.ensures c.step-second.ensures c.step-third.ensures

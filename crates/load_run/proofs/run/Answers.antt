@@ -22,25 +22,22 @@ count-refusals-requires c = omega arith
 
 pub overflow_add-i : goal.overflow_add-i
 overflow_add-i c =
-    let i = c in
-    omega (arith, i.loop-i-test.true, i.ranges)
+    omega (arith, c.loop-i-test.true, c.ranges)
 
 pub loop-i-preserved : goal.loop-i-preserved
 loop-i-preserved c =
-    let m = c in
-    let d = m in
-    let l = d.loop-i in
-    let a = d.args in
-    let h = d.loop-i-test.true in
-    let n = counted-most m.make-turn.result.refused l.refusals c.count-refusals.result c.count-refusals.ensures in (
+    let l = c.loop-i in
+    let a = c.args in
+    let h = c.loop-i-test.true in
+    let n = counted-most c.make-turn.result.refused l.refusals c.count-refusals.result c.count-refusals.ensures in (
       omega (arith, h),
       omega (arith, n, l.invariant.1),
       search rules,
       search rules,
       search rules,
       search rules,
-      run_more a.draws l.i l.s d.draw-s.result (load_of l.ssd l.hdd l.table l.left l.plain l.refusals) _ _ h
-          d.draw-s.ensures m.make-turn.ensures c.count-refusals.ensures
+      run_more a.draws l.i l.s c.draw-s.result (load_of l.ssd l.hdd l.table l.left l.plain l.refusals) _ _ h
+          c.draw-s.ensures c.make-turn.ensures c.count-refusals.ensures
           ∙ l.invariant.6,
     )
 

@@ -7,13 +7,10 @@ use Rattle.load_text.proofs.put_load.Goals as goal
 pub returns : goal.returns
 unfolding load_text
 returns c =
-    let e = c in
-    let r = e in
-    let d = r in
-    let size = d.requires in
+    let size = c.requires in
     written_as
     (written_more
-    (written_more (written_more d.put_field-d.ensures r.put_field-r.ensures (omega (arith, size)))
-    e.put_field-e.ensures (omega (arith, size)))
+    (written_more (written_more c.put_field-d.ensures c.put_field-r.ensures (omega (arith, size)))
+    c.put_field-e.ensures (omega (arith, size)))
     c.put_field.ensures (omega (arith, size)))
     (simp append_assoc) (omega arith)

@@ -3,13 +3,11 @@ use Rattle.load_turns.proofs.land_opened.Goals as goal
 
 pub returns-in-Write : goal.returns-in-Write
 returns-in-Write c =
-    let k = c in
-    rw k.in-Write.is k.land_write.ensures
+    rw c.in-Write.is c.land_write.ensures
 
 pub returns-in-Fetch : goal.returns-in-Fetch
 returns-in-Fetch c =
-    let k = c in
-    rw k.in-Fetch.is (k.land_fetched.ensures _ _)
+    rw c.in-Fetch.is (c.land_fetched.ensures _ _)
 
 pub returns-in-LookUp : goal.returns-in-LookUp
 unfolding landed

@@ -12,22 +12,15 @@ use Rattle.load_turns.proofs.land_write.Goals as goal
 
 pub returns-then-is_refused : goal.returns-then-is_refused
 returns-then-is_refused c =
-    let i = c in
-    let k = i in
-    let f = k in
-    let a = f.args in
+    let a = c.args in
     let x : Box = box_of a.ssd.now a.hdd.now a.table.now a.state in
-    write_landed a.block (draw_page a.s) x a.plain.now _ true (sym c.if-is_refused.true ∙ i.is_refused.ensures)
-    (k.land-q.ensures ∙ ap (λ (p : List ℕ). result_of (land a.block p) x) f.fill_page.ensures)
+    write_landed a.block (draw_page a.s) x a.plain.now _ true (sym c.if-is_refused.true ∙ c.is_refused.ensures)
+    (c.land-q.ensures ∙ ap (λ (p : List ℕ). result_of (land a.block p) x) c.fill_page.ensures)
 
 pub returns : goal.returns
 returns c =
-    let e = c in
-    let i = e in
-    let k = i in
-    let f = k in
-    let a = f.args in
+    let a = c.args in
     let x : Box = box_of a.ssd.now a.hdd.now a.table.now a.state in
-    write_stored a.block (draw_page a.s) x a.plain.now _ _ i.is_refused.ensures _ e.if-is_refused.false
-    (c.store.ensures ∙ ap (λ (p : List ℕ). put_page a.plain.now a.block.0 p) f.fill_page.ensures)
-    (k.land-q.ensures ∙ ap (λ (p : List ℕ). result_of (land a.block p) x) f.fill_page.ensures)
+    write_stored a.block (draw_page a.s) x a.plain.now _ _ c.is_refused.ensures _ c.if-is_refused.false
+    (c.store.ensures ∙ ap (λ (p : List ℕ). put_page a.plain.now a.block.0 p) c.fill_page.ensures)
+    (c.land-q.ensures ∙ ap (λ (p : List ℕ). result_of (land a.block p) x) c.fill_page.ensures)

@@ -7,26 +7,16 @@ use Rattle.load_turns.proofs.make.Goals as goal
 
 pub returns-then-is_refused : goal.returns-then-is_refused
 returns-then-is_refused c =
-    let i = c in
-    let k = i in
-    let b = k in
-    turn_refused _ _ _ _ _ b.kind_of-kind.ensures b.block_of-block.ensures _
-    k.begin_past-q.ensures _ i.is_refused.ensures c.if-is_refused.true
+    turn_refused _ _ _ _ _ c.kind_of-kind.ensures c.block_of-block.ensures _
+    c.begin_past-q.ensures _ c.is_refused.ensures c.if-is_refused.true
 
 pub land_opened-requires : goal.land_opened-requires
 land_opened-requires c =
-    let i = c in
-    let b = i in
-    let s = b in
-    let q : b.block_of-block.result.0 ≡ s.args.s / 4 % 8 = ap (λ (x : Block). x.0) b.block_of-block.ensures in
-    omega (arith, s.requires)
+    let q : c.block_of-block.result.0 ≡ c.args.s / 4 % 8 = ap (λ (x : Block). x.0) c.block_of-block.ensures in
+    omega (arith, c.requires)
 
 pub returns : goal.returns
 returns c =
-    let m = c in
-    let e = m in
-    let i = e in
-    let k = i in
-    let b = k in
+    let b = c in
     turn_landed _ _ _ _ _ b.kind_of-kind.ensures b.block_of-block.ensures _
-    k.begin_past-q.ensures _ i.is_refused.ensures _ e.if-is_refused.false m.land_opened.ensures
+    c.begin_past-q.ensures _ c.is_refused.ensures _ c.if-is_refused.false c.land_opened.ensures

@@ -8,37 +8,32 @@ use Rattle.moves.proofs.store_meta.Goals as goal
 
 pub rows_end-end-requires : goal.rows_end-end-requires
 rows_end-end-requires c =
-    let s = c in
-    let F = s.requires.fits_record in
-    let h = meta_low (label_in s.args.state) s.args.p s.requires.p_bound in
+    let F = c.requires.fits_record in
+    let h = meta_low (label_in c.args.state) c.args.p c.requires.p_bound in
     (omega (arith, F.table-size), omega (arith, F.table-size, F.slots-most), omega arith, omega (arith, F.table-size))
 
 pub encode_meta-page-requires : goal.encode_meta-page-requires
 encode_meta-page-requires c =
     let e = c.rows_end-end.ensures in
-    let s = c in
-    record { count_le_window_most = rw c.window_of.ensures s.requires.fits_record.window_most_is; rows_len_bound = simp (length-take, length-drop) (omega (arith, e.3)); rows_len = simp (length-take, length-drop) (omega (arith, e)) }
+    record { count_le_window_most = rw c.window_of.ensures c.requires.fits_record.window_most_is; rows_len_bound = simp (length-take, length-drop) (omega (arith, e.3)); rows_len = simp (length-take, length-drop) (omega (arith, e)) }
 
 pub store-requires : goal.store-requires
 store-requires c =
-    let s = c in
-    let a = s.args in record { holds = meta_holds a.ssd.now a.state.label a.p _ s.requires.fits_record.ssd-size s.requires.p_bound c.meta_place-place.ensures; page_len = search rules }
+    let a = c.args in record { holds = meta_holds a.ssd.now a.state.label a.p _ c.requires.fits_record.ssd-size c.requires.p_bound c.meta_place-place.ensures; page_len = search rules }
 
 pub overflow_cast-number : goal.overflow_cast-number
 overflow_cast-number c =
-    let s = c in
-    let F = s.requires.fits_record in
+    let F = c.requires.fits_record in
     omega (
       arith,
-      meta_fits s.args.state.label s.args.p _ F.slots-most s.requires.p_bound
+      meta_fits c.args.state.label c.args.p _ F.slots-most c.requires.p_bound
           c.meta_place-place.ensures,
     )
 
 pub returns : goal.returns
 unfolding store_place
 returns c =
-    let s = c in
-    let a = s.args in
+    let a = c.args in
     let e = c.rows_end-end.ensures in
     let place = c.meta_place-place.ensures in (
       rw place,

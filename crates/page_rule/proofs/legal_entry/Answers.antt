@@ -36,11 +36,9 @@ returns-then-not-all_zero c = rw (pair-passed (goal.at.returns-then-not-all_zero
 pub returns-then-p-i : goal.returns-then-p-i
 unfolding entry_test
 returns-then-p-i c =
-    let z = c in
-    rw (pair-passed (goal.at.returns-then-p-i z).Else-not-legal_pair, ← zero-told z, c.if-not-all_zero.false, lt-ltb _ _ c.if-p-i.true)
+    rw (pair-passed (goal.at.returns-then-p-i c).Else-not-legal_pair, ← zero-told (goal.at.returns-then-p-i c).After-all_zero, c.if-not-all_zero.false, lt-ltb _ _ c.if-p-i.true)
 
 pub returns : goal.returns
 unfolding entry_test
 returns c =
-    let z = c in
-    rw (pair-passed (goal.at.returns z).Else-not-legal_pair, ← zero-told z, c.if-not-all_zero.false, le-ltb _ _ c.if-p-i.false, ← z.entry_at-entry.ensures)
+    rw (pair-passed (goal.at.returns c).Else-not-legal_pair, ← zero-told (goal.at.returns c).After-all_zero, c.if-not-all_zero.false, le-ltb _ _ c.if-p-i.false, ← c.entry_at-entry.ensures)

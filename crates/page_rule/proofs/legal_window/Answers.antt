@@ -18,12 +18,10 @@ window-test s = sym (and_assoc (in_range s.args.l (window_of s.args.page.now)) (
 
 pub returns-then-not-legal_slots : goal.returns-then-not-legal_slots
 returns-then-not-legal_slots c =
-    let s = c in
-    sym (window-test (goal.at.returns-then-not-legal_slots s).Start ∙ halt _ (sym c.legal_slots.ensures ∙ c.if-not-legal_slots.true))
+    sym (window-test (goal.at.returns-then-not-legal_slots c).Start ∙ halt _ (sym c.legal_slots.ensures ∙ c.if-not-legal_slots.true))
 
 pub returns : goal.returns
 returns c =
-    let s = c in
     c.all_zero.ensures
-    ∙ ap (λ (n : ℕ). zero_test (16 + 4 * n) 268 s.args.page.now) c.count_of-count.ensures
-    ∙ sym (window-test (goal.at.returns s).Start ∙ skip _ (sym c.legal_slots.ensures ∙ c.if-not-legal_slots.false))
+    ∙ ap (λ (n : ℕ). zero_test (16 + 4 * n) 268 c.args.page.now) c.count_of-count.ensures
+    ∙ sym (window-test (goal.at.returns c).Start ∙ skip _ (sym c.legal_slots.ensures ∙ c.if-not-legal_slots.false))

@@ -14,26 +14,23 @@ use Rattle.page_rule.proofs.listed_from.Goals as goal
 pub returns-then-s-t : goal.returns-then-s-t
 returns-then-s-t c =
     let l = c.loop-m in
-    let s = c in
-    let page : List ℕ = s.args.page.now in
+    let page : List ℕ = c.args.page.now in
     let e : c.slot_at-t.result ≡ slot_at page l.m = c.slot_at-t.ensures in
-    let q : eqb s.args.s.0 (slot_at page l.m).0 ≡ true = eq-eqb _ _ (rw e at c.if-s-t.true) in
-    let x = listed-left s.args.s page l.m (omega arith) in
+    let q : eqb c.args.s.0 (slot_at page l.m).0 ≡ true = eq-eqb _ _ (rw e at c.if-s-t.true) in
+    let x = listed-left c.args.s page l.m (omega arith) in
     sym (rw q at x) ∙ l.invariant.1
 
 pub loop-m-preserved : goal.loop-m-preserved
 loop-m-preserved c =
     let l = c.loop-m in
-    let s = c in
-    let page : List ℕ = s.args.page.now in
+    let page : List ℕ = c.args.page.now in
     let e : c.slot_at-t.result ≡ slot_at page l.m = c.slot_at-t.ensures in
-    let q : eqb s.args.s.0 (slot_at page l.m).0 ≡ false = ne_eqb _ _ (rw e at c.if-s-t.false) in
-    let x = listed-left s.args.s page l.m (omega arith) in
+    let q : eqb c.args.s.0 (slot_at page l.m).0 ≡ false = ne_eqb _ _ (rw e at c.if-s-t.false) in
+    let x = listed-left c.args.s page l.m (omega arith) in
     (omega arith, sym (rw q at x) ∙ l.invariant.1)
 
 pub returns : goal.returns
 unfolding listed
 returns c =
-    let s = c in
     let l = c.loop-m in
-    sym (ap (listed s.args.s) (window_end s.args.page.now l.m (omega arith))) ∙ l.invariant.1
+    sym (ap (listed c.args.s) (window_end c.args.page.now l.m (omega arith))) ∙ l.invariant.1

@@ -62,7 +62,7 @@ start8 c = start6 (goal.at.Else-not-all_zero-2 c).Else-not-legal_window
 
 passed8 : (c : Else-not-all_zero-2) → Read (start8 c) 5 ≡ true
 passed8 c =
-    let f = not-false (Field (start8 c) 5) (cc c.if-not-all_zero-2.false) in
+    let f = sym c.all_zero-2.ensures ∙ c.if-not-all_zero-2.false in
     next (start8 c) 4 (passed6 (goal.at.Else-not-all_zero-2 c).Else-not-legal_window) f
 
 abbrev start10 : Else-not-legal_entries → Start
@@ -74,20 +74,18 @@ passed10 c =
     next (start10 c) 5 (passed8 (goal.at.Else-not-legal_entries c).Else-not-all_zero-2) f
 
 pub returns-then-rows-lt2 : goal.returns-then-rows-lt2
-returns-then-rows-lt2 c = let s = c in stops s 1 (first (goal.at.returns-then-rows-lt2 s).Start) (omega arith)
+returns-then-rows-lt2 c = stops (goal.at.returns-then-rows-lt2 c).Start 1 (first (goal.at.returns-then-rows-lt2 c).Start) (omega arith)
 
 pub returns-then-not-legal_count : goal.returns-then-not-legal_count
 returns-then-not-legal_count c =
-    let s = c in
-    refuses (goal.at.returns-then-not-legal_count s).Start 1 (first (goal.at.returns-then-not-legal_count s).Start) (sym c.legal_count.ensures ∙ c.if-not-legal_count.true) (omega arith)
+    refuses (goal.at.returns-then-not-legal_count c).Start 1 (first (goal.at.returns-then-not-legal_count c).Start) (sym c.legal_count.ensures ∙ c.if-not-legal_count.true) (omega arith)
 
 pub returns-then-rows-lt3 : goal.returns-then-rows-lt3
 returns-then-rows-lt3 c = stops (start2 (goal.at.returns-then-rows-lt3 c).Else-not-legal_count) 2 (passed2 (goal.at.returns-then-rows-lt3 c).Else-not-legal_count) (omega arith)
 
 pub returns-then-not-all_zero : goal.returns-then-not-all_zero
 returns-then-not-all_zero c =
-    let b = c in
-    refuses (start2 (goal.at.returns-then-not-all_zero b).Else-not-legal_count) 2 (passed2 (goal.at.returns-then-not-all_zero b).Else-not-legal_count) (sym c.all_zero.ensures ∙ c.if-not-all_zero.true) (omega arith)
+    refuses (start2 (goal.at.returns-then-not-all_zero c).Else-not-legal_count) 2 (passed2 (goal.at.returns-then-not-all_zero c).Else-not-legal_count) (sym c.all_zero.ensures ∙ c.if-not-all_zero.true) (omega arith)
 
 pub returns-then-rows-lt4 : goal.returns-then-rows-lt4
 returns-then-rows-lt4 c = stops (start4 (goal.at.returns-then-rows-lt4 c).Else-not-all_zero) 3 (passed4 (goal.at.returns-then-rows-lt4 c).Else-not-all_zero) (omega arith)
@@ -97,33 +95,29 @@ legal_window-requires c = record { page_len = search rules; page_bound = ((count
 
 pub returns-then-not-legal_window : goal.returns-then-not-legal_window
 returns-then-not-legal_window c =
-    let b = c in
-    refuses (start4 (goal.at.returns-then-not-legal_window b).Else-not-all_zero) 3 (passed4 (goal.at.returns-then-not-legal_window b).Else-not-all_zero) (sym c.legal_window.ensures ∙ c.if-not-legal_window.true) (omega arith)
+    refuses (start4 (goal.at.returns-then-not-legal_window c).Else-not-all_zero) 3 (passed4 (goal.at.returns-then-not-legal_window c).Else-not-all_zero) (sym c.legal_window.ensures ∙ c.if-not-legal_window.true) (omega arith)
 
 pub returns-then-rows-lt5 : goal.returns-then-rows-lt5
 returns-then-rows-lt5 c = stops (start6 (goal.at.returns-then-rows-lt5 c).Else-not-legal_window) 4 (passed6 (goal.at.returns-then-rows-lt5 c).Else-not-legal_window) (omega arith)
 
 pub returns-then-not-all_zero-2 : goal.returns-then-not-all_zero-2
 returns-then-not-all_zero-2 c =
-    let b = c in
     let f = sym c.all_zero-2.ensures ∙ c.if-not-all_zero-2.true in
-    refuses (start6 (goal.at.returns-then-not-all_zero-2 b).Else-not-legal_window) 4 (passed6 (goal.at.returns-then-not-all_zero-2 b).Else-not-legal_window) f (omega arith)
+    refuses (start6 (goal.at.returns-then-not-all_zero-2 c).Else-not-legal_window) 4 (passed6 (goal.at.returns-then-not-all_zero-2 c).Else-not-legal_window) f (omega arith)
 
 pub returns-then-rows-lt6 : goal.returns-then-rows-lt6
 returns-then-rows-lt6 c = stops (start8 (goal.at.returns-then-rows-lt6 c).Else-not-all_zero-2) 5 (passed8 (goal.at.returns-then-rows-lt6 c).Else-not-all_zero-2) (omega arith)
 
 pub returns-then-not-legal_entries : goal.returns-then-not-legal_entries
 returns-then-not-legal_entries c =
-    let b = c in
     let f = sym c.legal_entries.ensures ∙ c.if-not-legal_entries.true in
-    refuses (start8 (goal.at.returns-then-not-legal_entries b).Else-not-all_zero-2) 5 (passed8 (goal.at.returns-then-not-legal_entries b).Else-not-all_zero-2) f (omega arith)
+    refuses (start8 (goal.at.returns-then-not-legal_entries c).Else-not-all_zero-2) 5 (passed8 (goal.at.returns-then-not-legal_entries c).Else-not-all_zero-2) f (omega arith)
 
 pub returns-then-rows-lt7 : goal.returns-then-rows-lt7
 returns-then-rows-lt7 c = stops (start10 (goal.at.returns-then-rows-lt7 c).Else-not-legal_entries) 6 (passed10 (goal.at.returns-then-rows-lt7 c).Else-not-legal_entries) (omega arith)
 
 pub returns : goal.returns
 returns c =
-    let b = c in
-    let s = start10 b in
+    let s = start10 (goal.at.returns c).Else-not-legal_entries in
     let a = read_all s.args.l s.args.p s.args.page.now s.args.rows (omega arith) in
-    c.all_zero-3.ensures ∙ sym (a ∙ read_next _ _ _ 6 ∙ skip _ (passed10 (goal.at.returns b).Else-not-legal_entries))
+    c.all_zero-3.ensures ∙ sym (a ∙ read_next _ _ _ 6 ∙ skip _ (passed10 (goal.at.returns c).Else-not-legal_entries))

@@ -47,10 +47,9 @@ fits s n = let F = s.requires.fits_record in record {
 
 pub returns-then-is_spent : goal.returns-then-is_spent
 returns-then-is_spent c =
-    let n = c in
-    let x = box (entry (goal.at.returns-then-is_spent n).In-Opens) in
-    rw (c.refused-then-is_spent.ensures, n.in-Opens.is)
-    (ap (λ (e : Effect). left e x.images) (turn_spent _ _ _ _ (entry (goal.at.returns-then-is_spent n).In-Opens).args.b (entry (goal.at.returns-then-is_spent n).In-Opens).args.caller x (sym n.is_spent.ensures ∙ c.if-is_spent.true)))
+    let x = box (entry (goal.at.returns-then-is_spent c).In-Opens) in
+    rw (c.refused-then-is_spent.ensures, c.in-Opens.is)
+    (ap (λ (e : Effect). left e x.images) (turn_spent _ _ _ _ (entry (goal.at.returns-then-is_spent c).In-Opens).args.b (entry (goal.at.returns-then-is_spent c).In-Opens).args.caller x (sym c.is_spent.ensures ∙ c.if-is_spent.true)))
 
 pub clear_used-requires : goal.clear_used-requires
 clear_used-requires c =
@@ -59,12 +58,10 @@ clear_used-requires c =
 
 pub open_slot-requires : goal.open_slot-requires
 open_slot-requires c =
-    let k = c in
-    let e = k in
-    let s = entry (goal.at.open_slot-requires e).In-Opens in
-    let d = doable s _ e.in-Opens.is in
-    let n = leb-false _ s.args.state.newest (sym e.is_spent.ensures ∙ e.if-is_spent.false) in
-    rw k.clear_used.ensures record { fits_record = fits s _; state_value = s.requires.state_value; count_lt_window_most = d.1; newest_bound = omega (arith, n); s_lt_slots = d.0 }
+    let s = entry (goal.at.open_slot-requires c).In-Opens in
+    let d = doable s _ c.in-Opens.is in
+    let n = leb-false _ s.args.state.newest (sym c.is_spent.ensures ∙ c.if-is_spent.false) in
+    rw c.clear_used.ensures record { fits_record = fits s _; state_value = s.requires.state_value; count_lt_window_most = d.1; newest_bound = omega (arith, n); s_lt_slots = d.0 }
 
 pub clear_used-requires-in-CopiesOut : goal.clear_used-requires-in-CopiesOut
 clear_used-requires-in-CopiesOut c =
@@ -73,13 +70,12 @@ clear_used-requires-in-CopiesOut c =
 
 pub copy_out-stored-requires : goal.copy_out-stored-requires
 copy_out-stored-requires c =
-    let k = c in
-    let s = entry-2 (goal.at.copy_out-stored-requires k).In-CopiesOut in
-    let d = doable s _ k.in-CopiesOut.is in
-    let g = k.turn-in-CopiesOut-1.given.0 in
+    let s = entry-2 (goal.at.copy_out-stored-requires c).In-CopiesOut in
+    let d = doable s _ c.in-CopiesOut.is in
+    let g = c.turn-in-CopiesOut-1.given.0 in
     let P = passed s g.1.0 in
     let f = P.dirty_is g.0 d.0 ∙ d.1 in
-    rw k.clear_used-in-CopiesOut.ensures record { fits_record = fits s _; hdd_len = s.requires.hdd_len; blocks_bound = (record_limits s.args.state s.requires.state_value).blocks-most; s_lt_slots = d.0; s_bound = dirty-block (label_in s.args.state) (table_after g.1.0 (box s)) P.legal g.0 d.0 f; s_value = f }
+    rw c.clear_used-in-CopiesOut.ensures record { fits_record = fits s _; hdd_len = s.requires.hdd_len; blocks_bound = (record_limits s.args.state s.requires.state_value).blocks-most; s_lt_slots = d.0; s_bound = dirty-block (label_in s.args.state) (table_after g.1.0 (box s)) P.legal g.0 d.0 f; s_value = f }
 
 pub returns-in-Refused : goal.returns-in-Refused
 returns-in-Refused c =
@@ -94,15 +90,13 @@ pub returns-else-is_spent : goal.returns-else-is_spent
 unfolding confirmed perform
 returns-else-is_spent c =
     let z = c.open_slot.ensures in
-    let k = c in
-    let e = k in
+    let e = c in
     let x = box (entry (goal.at.returns-else-is_spent e).In-Opens) in
-    rw (z.0, z.1, z.2, k.clear_used.ensures, e.in-Opens.is)
+    rw (z.0, z.1, z.2, c.clear_used.ensures, e.in-Opens.is)
     (ap (λ (e : Effect). left e x.images) (turn_opens _ _ _ _ (entry (goal.at.returns-else-is_spent e).In-Opens).args.b (entry (goal.at.returns-else-is_spent e).In-Opens).args.caller x (sym e.is_spent.ensures ∙ e.if-is_spent.false)))
 
 pub returns-in-CopiesOut : goal.returns-in-CopiesOut
 unfolding confirmed perform
 returns-in-CopiesOut c =
     let z = c.copy_out-stored.ensures in
-    let k = c in
-    rw (c.stored.ensures, c.with_hand-next.ensures, z.0, z.1, z.2, k.clear_used-in-CopiesOut.ensures, k.in-CopiesOut.is) refl
+    rw (c.stored.ensures, c.with_hand-next.ensures, z.0, z.1, z.2, c.clear_used-in-CopiesOut.ensures, c.in-CopiesOut.is) refl

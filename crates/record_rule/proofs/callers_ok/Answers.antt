@@ -11,6 +11,5 @@ returns-then-not-known c =
 
 pub returns : goal.returns
 returns c =
-    let b = c in
-    let all : length b.args.callers ≡ 63 = search rules in
-    rw (eq-eqb _ _ all, sym b.known.ensures ∙ b.if-not-known.false) c.nobody_from.ensures
+    let all : length c.args.callers ≡ 63 = search rules in
+    rw (eq-eqb _ _ all, sym c.known.ensures ∙ c.if-not-known.false) c.nobody_from.ensures

@@ -14,24 +14,21 @@ loop-i-init c = let w = c.args.w in (search rules, marks_begin w.slots w.count _
 pub listed_again-requires : goal.listed_again-requires
 listed_again-requires c =
     let l = c.loop-i in
-    let s = c in
-    record { count_le_window_most = s.requires; k_le_count = l.invariant.0; w_value = unmarked _ l.marks _ l.invariant.1 }
+    record { count_le_window_most = c.requires; k_le_count = l.invariant.0; w_value = unmarked _ l.marks _ l.invariant.1 }
 
 pub returns-then-listed_again : goal.returns-then-listed_again
 returns-then-listed_again c =
     let l = c.loop-i in
-    let s = c in
-    let all : length s.args.w.slots ≡ 63 = search (rules, length-mapped) in
-    sym (listed_twice s.args.w.slots s.args.w.count l.i _ (omega arith) l.invariant.0 (omega (arith, s.requires))
+    let all : length c.args.w.slots ≡ 63 = search (rules, length-mapped) in
+    sym (listed_twice c.args.w.slots c.args.w.count l.i _ (omega arith) l.invariant.0 (omega (arith, c.requires))
     (sym c.listed_again.ensures ∙ c.if-listed_again.true))
 
 pub loop-i-preserved : goal.loop-i-preserved
 loop-i-preserved c =
     let l = c.loop-i in
-    let s = c in
-    let all : length s.args.w.slots ≡ 63 = search (rules, length-mapped) in (
+    let all : length c.args.w.slots ≡ 63 = search (rules, length-mapped) in (
       omega (arith, l.invariant.0),
-      marks_back s.args.w.slots s.args.w.count l.i _ (omega arith) l.invariant.0 (omega (arith, s.requires)) l.marks
+      marks_back c.args.w.slots c.args.w.count l.i _ (omega arith) l.invariant.0 (omega (arith, c.requires)) l.marks
           l.invariant.1 (sym c.listed_again.ensures ∙ c.if-listed_again.false),
     )
 

@@ -13,19 +13,17 @@ use Rattle.record_rule.proofs.in_range.Goals as goal
 pub returns-then-l-s : goal.returns-then-l-s
 returns-then-l-s c =
     let l = c.loop-i in
-    let s = c in
-    let all : length s.args.w.slots ≡ 63 = search (rules, length-mapped) in
-    stop (ltb (get_or s.args.w.slots l.i _).0 s.args.l.slots) _ l.invariant.1
-    (range_left s.args.w.slots s.args.w.count l.i _ (omega arith) (omega (arith, s.requires)) s.args.l) (le-ltb _ _ c.if-l-s.true)
+    let all : length c.args.w.slots ≡ 63 = search (rules, length-mapped) in
+    stop (ltb (get_or c.args.w.slots l.i _).0 c.args.l.slots) _ l.invariant.1
+    (range_left c.args.w.slots c.args.w.count l.i _ (omega arith) (omega (arith, c.requires)) c.args.l) (le-ltb _ _ c.if-l-s.true)
 
 pub loop-i-preserved : goal.loop-i-preserved
 loop-i-preserved c =
     let l = c.loop-i in
-    let s = c in
-    let all : length s.args.w.slots ≡ 63 = search (rules, length-mapped) in (
+    let all : length c.args.w.slots ≡ 63 = search (rules, length-mapped) in (
       omega arith,
-      go_on (ltb (get_or s.args.w.slots l.i _).0 s.args.l.slots) _ l.invariant.1
-          (range_left s.args.w.slots s.args.w.count l.i _ (omega arith) (omega (arith, s.requires)) s.args.l)
+      go_on (ltb (get_or c.args.w.slots l.i _).0 c.args.l.slots) _ l.invariant.1
+          (range_left c.args.w.slots c.args.w.count l.i _ (omega arith) (omega (arith, c.requires)) c.args.l)
           (lt-ltb _ _ c.if-l-s.false),
     )
 
@@ -33,5 +31,4 @@ pub returns : goal.returns
 unfolding in_range
 returns c =
     let l = c.loop-i in
-    let s = c in
-    sym (ap (in_range s.args.l) (window_end s.args.w.slots s.args.w.count l.i (omega arith))) ∙ l.invariant.1
+    sym (ap (in_range c.args.l) (window_end c.args.w.slots c.args.w.count l.i (omega arith))) ∙ l.invariant.1

@@ -18,24 +18,22 @@ loop-i-init c = (search rules, refl)
 
 pub loop-i-preserved : goal.loop-i-preserved
 loop-i-preserved c =
-    let b = c in
-    let a = b.args in
-    let i = b.loop-i.i in
+    let a = c.args in
+    let i = c.loop-i.i in
     let all : length a.callers ≡ 63 = search rules in
     let z = length-take a.n a.callers in
     let e : get_or (take a.n a.callers) i 0 ≡ get_or a.callers i 0 = get_or-take a.n a.callers i 0 (omega arith) in (
       omega arith,
-      one_further b.loop-i.ok _ (leb (get_or a.callers i 0) 1) _ b.loop-i.invariant.1
+      one_further c.loop-i.ok _ (leb (get_or a.callers i 0) 1) _ c.loop-i.invariant.1
           (rw e at (each_at (λ x. leb x 1) (take a.n a.callers) i 0 (omega arith))) c.both-ok.ensures,
     )
 
 pub returns : goal.returns
 unfolding each_place
 returns c =
-    let b = c in
-    let a = b.args in
+    let a = c.args in
     let all : length a.callers ≡ 63 = search rules in
     let z = length-take a.n a.callers in
-    and_last b.loop-i.ok
-    ∙ ap (λ (l : List ℕ). b.loop-i.ok && each_place (λ x. leb x 1) l) (sym (drop_of_length-le (take a.n a.callers) {i = b.loop-i.i} (omega arith)))
-    ∙ b.loop-i.invariant.1
+    and_last c.loop-i.ok
+    ∙ ap (λ (l : List ℕ). c.loop-i.ok && each_place (λ x. leb x 1) l) (sym (drop_of_length-le (take a.n a.callers) {i = c.loop-i.i} (omega arith)))
+    ∙ c.loop-i.invariant.1

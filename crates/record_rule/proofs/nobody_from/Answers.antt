@@ -17,20 +17,18 @@ loop-at-init c = (search rules, refl)
 
 pub loop-at-preserved : goal.loop-at-preserved
 loop-at-preserved c =
-    let b = c in
-    let cs = b.args.callers in
+    let cs = c.args.callers in
     let all : length cs ≡ 63 = search rules in (
       omega arith,
-      one_further b.loop-at.ok _ (eqb (get_or cs b.loop-at.at 0) 0) _ b.loop-at.invariant.1
-          (each_at (λ x. eqb x 0) cs b.loop-at.at 0 (omega arith)) c.both-ok.ensures,
+      one_further c.loop-at.ok _ (eqb (get_or cs c.loop-at.at 0) 0) _ c.loop-at.invariant.1
+          (each_at (λ x. eqb x 0) cs c.loop-at.at 0 (omega arith)) c.both-ok.ensures,
     )
 
 pub returns : goal.returns
 unfolding each_place
 returns c =
-    let b = c in
-    let cs = b.args.callers in
+    let cs = c.args.callers in
     let all : length cs ≡ 63 = search rules in
-    and_last b.loop-at.ok
-    ∙ ap (λ (l : List ℕ). b.loop-at.ok && each_place (λ x. eqb x 0) l) (sym (drop_of_length-le cs {i = b.loop-at.at} (omega arith)))
-    ∙ b.loop-at.invariant.1
+    and_last c.loop-at.ok
+    ∙ ap (λ (l : List ℕ). c.loop-at.ok && each_place (λ x. eqb x 0) l) (sym (drop_of_length-le cs {i = c.loop-at.at} (omega arith)))
+    ∙ c.loop-at.invariant.1

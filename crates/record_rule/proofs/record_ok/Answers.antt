@@ -89,9 +89,8 @@ returns-then-not-window_ok c = sym (four (goal.at.returns-then-not-window_ok c).
 
 pub callers_ok-requires : goal.callers_ok-requires
 callers_ok-requires c =
-    let e = c in
-    let r = e.args.r in
-    rw c.named_places.ensures (few r.phase e.if-r.false)
+    let r = c.args.r in
+    rw c.named_places.ensures (few r.phase c.if-r.false)
   where
     few : (p : Phase) {n : ℕ} → n ≤ 63 → named_places p n ≤ 63
     few (Formatting d) h = h
@@ -101,7 +100,5 @@ callers_ok-requires c =
 pub returns : goal.returns
 unfolding record_test
 returns c =
-    let n = c in
-    let e = n in
-    let t = rw n.named_places.ensures at c.callers_ok.ensures in
-    sym (four (goal.at.returns e).After-window_ok _ ∙ rw (e.if-not-window_ok.false) (sym t))
+    let t = rw c.named_places.ensures at c.callers_ok.ensures in
+    sym (four (goal.at.returns c).After-window_ok _ ∙ rw (c.if-not-window_ok.false) (sym t))

@@ -12,24 +12,21 @@ returns-then-not-in_range c =
 
 pub returns-then-not-distinct_slots : goal.returns-then-not-distinct_slots
 returns-then-not-distinct_slots c =
-    let b = c in
-    let all : length b.args.w.slots ≡ 63 = search (rules, length-mapped) in
+    let all : length c.args.w.slots ≡ 63 = search (rules, length-mapped) in
     rw (
       eq-eqb _ _ all,
-      sym b.in_range.ensures ∙ b.if-not-in_range.false,
+      sym c.in_range.ensures ∙ c.if-not-in_range.false,
       sym c.distinct_slots.ensures
           ∙ c.if-not-distinct_slots.true,
     )
 
 pub returns : goal.returns
 returns c =
-    let d = c in
-    let b = d in
-    let all : length b.args.w.slots ≡ 63 = search (rules, length-mapped) in
+    let all : length c.args.w.slots ≡ 63 = search (rules, length-mapped) in
     rw (
       eq-eqb _ _ all,
-      sym b.in_range.ensures ∙ b.if-not-in_range.false,
-      sym d.distinct_slots.ensures
-          ∙ d.if-not-distinct_slots.false,
+      sym c.in_range.ensures ∙ c.if-not-in_range.false,
+      sym c.distinct_slots.ensures
+          ∙ c.if-not-distinct_slots.false,
     )
     c.zero_past.ensures

@@ -13,18 +13,16 @@ use Rattle.record_rule.proofs.zero_past.Goals as goal
 pub returns-then-s-ne0 : goal.returns-then-s-ne0
 returns-then-s-ne0 c =
     let l = c.loop-i in
-    let s = c in
-    let all : length s.args.w.slots ≡ 63 = search (rules, length-mapped) in
-    stop (eqb (get_or s.args.w.slots l.i _).0 0) _ l.invariant.1 (zero_left s.args.w.slots l.i _ (omega arith))
+    let all : length c.args.w.slots ≡ 63 = search (rules, length-mapped) in
+    stop (eqb (get_or c.args.w.slots l.i _).0 0) _ l.invariant.1 (zero_left c.args.w.slots l.i _ (omega arith))
     (ne_eqb _ _ c.if-s-ne0.true)
 
 pub loop-i-preserved : goal.loop-i-preserved
 loop-i-preserved c =
     let l = c.loop-i in
-    let s = c in
-    let all : length s.args.w.slots ≡ 63 = search (rules, length-mapped) in (
+    let all : length c.args.w.slots ≡ 63 = search (rules, length-mapped) in (
       omega arith,
-      go_on (eqb (get_or s.args.w.slots l.i _).0 0) _ l.invariant.1 (zero_left s.args.w.slots l.i _ (omega arith))
+      go_on (eqb (get_or c.args.w.slots l.i _).0 0) _ l.invariant.1 (zero_left c.args.w.slots l.i _ (omega arith))
           (eq-eqb _ _ c.if-s-ne0.false),
     )
 
@@ -32,6 +30,5 @@ pub returns : goal.returns
 unfolding zero_slots
 returns c =
     let l = c.loop-i in
-    let s = c in
-    let all : length s.args.w.slots ≡ 63 = search (rules, length-mapped) in
-    sym (ap zero_slots (drop_of_length-le s.args.w.slots {i = l.i} (omega arith))) ∙ l.invariant.1
+    let all : length c.args.w.slots ≡ 63 = search (rules, length-mapped) in
+    sym (ap zero_slots (drop_of_length-le c.args.w.slots {i = l.i} (omega arith))) ∙ l.invariant.1

@@ -12,10 +12,8 @@ returns-then-n-gt-MOST c = scan_long c.args.blocks.now c.if-n-gt-MOST.true
 
 pub returns-then-not-names_once : goal.returns-then-not-names_once
 returns-then-not-names_once c =
-    let e = c in
-    scan_twice e.args.blocks.now (omega (arith, e.if-n-eq0.false)) (omega (arith, e.if-n-gt-MOST.false)) (sym c.names_once.ensures ∙ c.if-not-names_once.true)
+    scan_twice c.args.blocks.now (omega (arith, c.if-n-eq0.false)) (omega (arith, c.if-n-gt-MOST.false)) (sym c.names_once.ensures ∙ c.if-not-names_once.true)
 
 pub returns : goal.returns
 returns c =
-    let e = c in
-    scan_fits e.args.blocks.now (omega (arith, e.if-n-eq0.false)) (omega (arith, e.if-n-gt-MOST.false)) (sym c.names_once.ensures ∙ c.if-not-names_once.false)
+    scan_fits c.args.blocks.now (omega (arith, c.if-n-eq0.false)) (omega (arith, c.if-n-gt-MOST.false)) (sym c.names_once.ensures ∙ c.if-not-names_once.false)

@@ -11,12 +11,11 @@ use Rattle.text.proofs.put_number.Goals as goal
 
 pub returns : goal.returns
 returns c =
-    let d = c in
-    let a = d.args in
+    let a = c.args in
     let n : ℕ = length (decimal a.n) in
-    let e : d.decimal_len.result ≡ n = d.decimal_len.ensures in
-    let k : a.at + d.decimal_len.result - a.at ≡ n = add-sub_cancel_left _ _ ∙ e in (
+    let e : c.decimal_len.result ≡ n = c.decimal_len.ensures in
+    let k : a.at + c.decimal_len.result - a.at ≡ n = add-sub_cancel_left _ _ ∙ e in (
       omega arith,
       (λ i. set (put_mid a.at (k i) a.page.now (c.put_decimal.ensures i)) (a.at + e i) a.last)
-          ∙ line_put a.page.now (decimal a.n) a.at n a.last refl d.requires,
+          ∙ line_put a.page.now (decimal a.n) a.at n a.last refl c.requires,
     )

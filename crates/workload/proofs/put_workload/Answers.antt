@@ -5,15 +5,11 @@ use Rattle.workload.proofs.put_workload.Goals as goal
 
 pub returns-in_default : goal.returns-in_default
 returns-in_default c =
-    let i = c in
     written_as c.put_refusal.ensures
-    (refused-text _ _ i.read_input.ensures i.in_default.is)
+    (refused-text _ _ c.read_input.ensures c.in_default.is)
     (omega arith)
 
 pub returns : goal.returns
 returns c =
-    let r = c in
-    let k = r in
-    let i = k in
     written_as c.put_load.ensures
-    (load_text_is _ _ i.read_input.ensures _ _ _ k.in-Load.is r.run_load-counts.ensures) (omega arith)
+    (load_text_is _ _ c.read_input.ensures _ _ _ c.in-Load.is c.run_load-counts.ensures) (omega arith)

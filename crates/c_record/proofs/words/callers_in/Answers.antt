@@ -12,12 +12,10 @@ loop-i-init c = record { most = omega arith; size = refl; same = refl }
 pub loop-i-preserved : goal.loop-i-preserved
 loop-i-preserved c =
     let l = c.loop-i in
-    let s = c in
-    filled_more _ (callers-length s.args.words.now s.requires) 0 l.callers l.i _ (sym (get_or-drop 71 s.args.words.now l.i 0)) l.invariant
+    filled_more _ (callers-length c.args.words.now c.requires) 0 l.callers l.i _ (sym (get_or-drop 71 c.args.words.now l.i 0)) l.invariant
     (omega arith)
 
 pub returns : goal.returns
 returns c =
     let l = c.loop-i in
-    let s = c in
-    filled-all _ (callers-length s.args.words.now s.requires) 0 l.callers l.i l.invariant (omega arith)
+    filled-all _ (callers-length c.args.words.now c.requires) 0 l.callers l.i l.invariant (omega arith)

@@ -10,11 +10,9 @@ returns-then-words-ne-RECORD_WORDS c = rw (ne_eqb _ _ c.if-words-ne-RECORD_WORDS
 pub returns-then-not-is_phase : goal.returns-then-not-is_phase
 unfolding is_record
 returns-then-not-is_phase c =
-    let p = c in
-    rw (eq-eqb _ _ p.if-words-ne-RECORD_WORDS.false, sym p.is_phase.ensures ∙ c.if-not-is_phase.true)
+    rw (eq-eqb _ _ c.if-words-ne-RECORD_WORDS.false, sym c.is_phase.ensures ∙ c.if-not-is_phase.true)
 
 pub returns : goal.returns
 unfolding is_record
 returns c =
-    let p = c in
-    rw (eq-eqb _ _ p.if-words-ne-RECORD_WORDS.false, sym p.is_phase.ensures ∙ c.if-not-is_phase.false)
+    rw (eq-eqb _ _ c.if-words-ne-RECORD_WORDS.false, sym c.is_phase.ensures ∙ c.if-not-is_phase.false)

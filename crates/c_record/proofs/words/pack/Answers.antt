@@ -22,21 +22,15 @@ pack_window-requires c = simp length-set (omega arith)
 
 pub pack_callers-requires : goal.pack_callers-requires
 pack_callers-requires c =
-    let p = c in
-    p.pack_window.auto.0 ∙ simp length-set (omega arith)
+    c.pack_window.auto.words ∙ simp length-set (omega arith)
 
 pub shape_of-words : goal.shape_of-words
 shape_of-words c =
-    let q = c in
-    q.pack_callers.auto.0 ∙ q.pack_window.auto.0 ∙ simp length-set
+    c.pack_callers.auto.words ∙ c.pack_window.auto.words ∙ simp length-set
 
 pub returns : goal.returns
 unfolding words_of
 returns c =
-    let q = c in
-    let p = q in
-    let f = p in
-    let s = f in
-    all_packed s.args.words.now (numbers_of s.args.r.window) s.args.r.callers _ _ _ _ _ _ _ _ _ _ s.requires p.pack_window.ensures
-    p.pack_window.auto.0 q.pack_callers.ensures
-    ∙ rw (f.flag_word-unconfirmed.ensures, f.steps_word-steps.ensures, f.phase_word-phase_at.ensures)
+    all_packed c.args.words.now (numbers_of c.args.r.window) c.args.r.callers _ _ _ _ _ _ _ _ _ _ c.requires c.pack_window.ensures
+    c.pack_window.auto.words c.pack_callers.ensures
+    ∙ rw (c.flag_word-unconfirmed.ensures, c.steps_word-steps.ensures, c.phase_word-phase_at.ensures)

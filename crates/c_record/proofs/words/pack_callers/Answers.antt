@@ -16,14 +16,12 @@ bounds-words-i c = let k = c.loop-i.invariant.size in search rules
 pub loop-i-preserved : goal.loop-i-preserved
 loop-i-preserved c =
     let l = c.loop-i in
-    let s = c in
-    let all : length s.args.callers ≡ 63 = search rules in
-    packed_more s.args.words.now 71 s.args.callers s.requires all (omega arith) l.words l.i _ refl l.invariant (omega arith)
+    let all : length c.args.callers ≡ 63 = search rules in
+    packed_more c.args.words.now 71 c.args.callers c.requires all (omega arith) l.words l.i _ refl l.invariant (omega arith)
 
 pub returns : goal.returns
 returns c =
     let l = c.loop-i in
-    let s = c in
-    let all : length s.args.callers ≡ 63 = search rules in
-    packed_all s.args.words.now 71 s.args.callers s.requires all (omega arith) l.words l.i l.invariant (omega arith)
-    ∙ rw (drop_of_length-le s.args.words.now {i = 71 + 63} (omega arith)) (append-nil (take 71 s.args.words.now ++ s.args.callers))
+    let all : length c.args.callers ≡ 63 = search rules in
+    packed_all c.args.words.now 71 c.args.callers c.requires all (omega arith) l.words l.i l.invariant (omega arith)
+    ∙ rw (drop_of_length-le c.args.words.now {i = 71 + 63} (omega arith)) (append-nil (take 71 c.args.words.now ++ c.args.callers))

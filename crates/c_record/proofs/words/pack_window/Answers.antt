@@ -16,15 +16,13 @@ bounds-words-i c = let k = c.loop-i.invariant.size in search rules
 pub loop-i-preserved : goal.loop-i-preserved
 loop-i-preserved c =
     let l = c.loop-i in
-    let s = c in
-    let all : length s.args.window ≡ 63 = search rules in
-    packed_more s.args.words.now 8 (numbers_of s.args.window) s.requires (numbers-length s.args.window ∙ all) (omega arith) l.words l.i _
-    (sym (numbers_at s.args.window l.i (record { 0 = 0 }))) l.invariant (omega arith)
+    let all : length c.args.window ≡ 63 = search rules in
+    packed_more c.args.words.now 8 (numbers_of c.args.window) c.requires (numbers-length c.args.window ∙ all) (omega arith) l.words l.i _
+    (sym (numbers_at c.args.window l.i (record { 0 = 0 }))) l.invariant (omega arith)
 
 pub returns : goal.returns
 returns c =
     let l = c.loop-i in
-    let s = c in
-    let all : length s.args.window ≡ 63 = search rules in
-    packed_all s.args.words.now 8 (numbers_of s.args.window) s.requires (numbers-length s.args.window ∙ all) (omega arith) l.words l.i l.invariant
+    let all : length c.args.window ≡ 63 = search rules in
+    packed_all c.args.words.now 8 (numbers_of c.args.window) c.requires (numbers-length c.args.window ∙ all) (omega arith) l.words l.i l.invariant
     (omega arith)

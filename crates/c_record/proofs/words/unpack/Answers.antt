@@ -4,7 +4,4 @@ use Rattle.c_record.proofs.words.unpack.Goals as goal
 pub returns : goal.returns
 unfolding unpacked
 returns c =
-    let l = c in
-    let p = l in
-    let k = p in
-    rw (l.label-l.ensures, p.phase_in-phase.ensures, k.callers_in-callers.ensures, k.window_in-window.ensures)
+    rw (c.label-l.ensures, c.phase_in-phase.ensures, c.callers_in-callers.ensures, c.window_in-window.ensures)

@@ -12,12 +12,10 @@ loop-i-init c = record { most = omega arith; size = refl; same = refl }
 pub loop-i-preserved : goal.loop-i-preserved
 loop-i-preserved c =
     let l = c.loop-i in
-    let s = c in
-    filled_more _ (window-length s.args.words.now s.requires) _ l.window l.i _
-    (window_at s.args.words.now s.requires l.i (omega arith)) l.invariant (omega arith)
+    filled_more _ (window-length c.args.words.now c.requires) _ l.window l.i _
+    (window_at c.args.words.now c.requires l.i (omega arith)) l.invariant (omega arith)
 
 pub returns : goal.returns
 returns c =
     let l = c.loop-i in
-    let s = c in
-    filled-all _ (window-length s.args.words.now s.requires) (record { 0 = 0 }) l.window l.i l.invariant (omega arith)
+    filled-all _ (window-length c.args.words.now c.requires) (record { 0 = 0 }) l.window l.i l.invariant (omega arith)

@@ -23,72 +23,48 @@ as_call s e f = let a = s.args in made a.request _ a.page.now a.blocks.now (leng
 
 pub returns-in-Format : goal.returns-in-Format
 returns-in-Format c =
-    let k = c in
-    let r = k in
-    as_call (goal.at.returns-in-Format r).Start r.in-Format.is k.format.ensures
+    as_call (goal.at.returns-in-Format c).Start c.in-Format.is c.format.ensures
 
 pub returns-in-Step : goal.returns-in-Step
 returns-in-Step c =
-    let k = c in
-    let r = k in
-    as_call (goal.at.returns-in-Step r).Start r.in-Step.is k.step.ensures
+    as_call (goal.at.returns-in-Step c).Start c.in-Step.is c.step.ensures
 
 pub returns-in-Offer : goal.returns-in-Offer
 returns-in-Offer c =
-    let k = c in
-    let r = k in
-    as_call (goal.at.returns-in-Offer r).Start r.in-Offer.is k.offer.ensures
+    as_call (goal.at.returns-in-Offer c).Start c.in-Offer.is c.offer.ensures
 
 pub returns-in-Land : goal.returns-in-Land
 returns-in-Land c =
-    let k = c in
-    let r = k in
-    as_call (goal.at.returns-in-Land r).Start r.in-Land.is k.land.ensures
+    as_call (goal.at.returns-in-Land c).Start c.in-Land.is c.land.ensures
 
 pub returns-in-Fetch : goal.returns-in-Fetch
 returns-in-Fetch c =
-    let k = c in
-    let r = k in
-    as_call (goal.at.returns-in-Fetch r).Start r.in-Fetch.is k.fetch.ensures
+    as_call (goal.at.returns-in-Fetch c).Start c.in-Fetch.is c.fetch.ensures
 
 pub returns-in-LandFetch : goal.returns-in-LandFetch
 returns-in-LandFetch c =
-    let k = c in
-    let r = k in
-    as_call (goal.at.returns-in-LandFetch r).Start r.in-LandFetch.is k.land_fetch.ensures
+    as_call (goal.at.returns-in-LandFetch c).Start c.in-LandFetch.is c.land_fetch.ensures
 
 pub returns-in-LookUp : goal.returns-in-LookUp
 returns-in-LookUp c =
-    let k = c in
-    let r = k in
-    as_call (goal.at.returns-in-LookUp r).Start r.in-LookUp.is k.look_up.ensures
+    as_call (goal.at.returns-in-LookUp c).Start c.in-LookUp.is c.look_up.ensures
 
 pub returns-in-LookUpList : goal.returns-in-LookUpList
 returns-in-LookUpList c =
-    let k = c in
-    let r = k in
-    as_call (goal.at.returns-in-LookUpList r).Start r.in-LookUpList.is k.look_up_list.ensures.0
+    as_call (goal.at.returns-in-LookUpList c).Start c.in-LookUpList.is c.look_up_list.ensures.0
 
 pub returns-in-OfferList : goal.returns-in-OfferList
 returns-in-OfferList c =
-    let k = c in
-    let r = k in
-    as_call (goal.at.returns-in-OfferList r).Start r.in-OfferList.is k.offer_list.ensures
+    as_call (goal.at.returns-in-OfferList c).Start c.in-OfferList.is c.offer_list.ensures
 
 pub returns-in-WriteBack : goal.returns-in-WriteBack
 returns-in-WriteBack c =
-    let k = c in
-    let r = k in
-    as_call (goal.at.returns-in-WriteBack r).Start r.in-WriteBack.is k.write_back.ensures
+    as_call (goal.at.returns-in-WriteBack c).Start c.in-WriteBack.is c.write_back.ensures
 
 pub returns-in-Flush : goal.returns-in-Flush
 returns-in-Flush c =
-    let k = c in
-    let r = k in
-    as_call (goal.at.returns-in-Flush r).Start r.in-Flush.is k.flush.ensures
+    as_call (goal.at.returns-in-Flush c).Start c.in-Flush.is c.flush.ensures
 
 pub returns-in-Reopen : goal.returns-in-Reopen
 returns-in-Reopen c =
-    let k = c in
-    let r = k in
-    as_call (goal.at.returns-in-Reopen r).Start r.in-Reopen.is k.reopen.ensures
+    as_call (goal.at.returns-in-Reopen c).Start c.in-Reopen.is c.reopen.ensures

@@ -11,9 +11,8 @@ use Rattle.ferjulm.proofs.calls.ferjulm_look_up.Goals.{Else-not-is_record}
 
 pub returns-then-not-is_record : goal.returns-then-not-is_record
 returns-then-not-is_record c =
-    let r = c in
-    let a = r.args in
-    let b = barred (lookUp (record { 0 = a.block })) a.ssd.now a.hdd.now a.table.now a.words.now (sym r.is_record.ensures ∙ c.if-not-is_record.true) in
+    let a = c.args in
+    let b = barred (lookUp (record { 0 = a.block })) a.ssd.now a.hdd.now a.table.now a.words.now (sym c.is_record.ensures ∙ c.if-not-is_record.true) in
     (b.left, b.slot a.slot.now)
 
 -- past the first test the words are a record
@@ -25,13 +24,9 @@ unpack-state-requires c = record_length _ (legal c)
 
 pub returns : goal.returns
 returns c =
-    let t = c in
-    let p = t in
-    let o = p.look_up-outcome in
-    let u = p in
-    let e = u in
-    let a = e.args in
-    let x = box_of a.ssd.now a.hdd.now a.table.now u.unpack-state.result in
+    let o = c.look_up-outcome in
+    let a = c.args in
+    let x = box_of a.ssd.now a.hdd.now a.table.now c.unpack-state.result in
     let k = past (lookUp (record { 0 = a.block })) a.ssd.now a.hdd.now a.table.now a.words.now
-    u.unpack-state.result o.result u.unpack-state.ensures o.ensures (legal (goal.at.returns e).Else-not-is_record) in
-    (k.still (look_up_state (record { 0 = a.block }) x) c.code_of.ensures, k.slot _ t.slot_of.ensures)
+    c.unpack-state.result o.result c.unpack-state.ensures o.ensures (legal (goal.at.returns c).Else-not-is_record) in
+    (k.still (look_up_state (record { 0 = a.block }) x) c.code_of.ensures, k.slot _ c.slot_of.ensures)

@@ -10,9 +10,8 @@ use Rattle.ferjulm.proofs.calls.ferjulm_offer.Goals.{Else-not-is_record}
 
 pub returns-then-not-is_record : goal.returns-then-not-is_record
 returns-then-not-is_record c =
-    let r = c in
-    let a = r.args in
-    let b = barred (offer (record { 0 = a.block }) a.caller) a.ssd.now a.hdd.now a.table.now a.words.now (sym r.is_record.ensures ∙ c.if-not-is_record.true) in
+    let a = c.args in
+    let b = barred (offer (record { 0 = a.block }) a.caller) a.ssd.now a.hdd.now a.table.now a.words.now (sym c.is_record.ensures ∙ c.if-not-is_record.true) in
     (b.left, b.slot a.slot.now, b.place (record { image = a.image.now; offset = a.offset.now }))
 
 -- past the first test the words are a record
@@ -24,17 +23,12 @@ unpack-state-requires c = record_length _ (legal c)
 
 pub ended_at-requires : goal.ended_at-requires
 ended_at-requires c =
-    let p = c in
-    record_length _ (legal (goal.at.ended_at-requires p).Else-not-is_record)
+    record_length _ (legal (goal.at.ended_at-requires c).Else-not-is_record)
 
 pub returns : goal.returns
 returns c =
-    let q = c in
-    let p = q in
-    let o = p.offer-outcome in
-    let u = p in
-    let e = u in
-    let a = e.args in
+    let o = c.offer-outcome in
+    let a = c.args in
     let k = past (offer (record { 0 = a.block }) a.caller) a.ssd.now a.hdd.now a.table.now a.words.now
-    u.unpack-state.result o.result u.unpack-state.ensures o.ensures (legal (goal.at.returns e).Else-not-is_record) in
-    (k.left q.ended_at.ensures.0, k.slot _ q.ended_at.ensures.1, k.place _ q.ended_at.ensures.2)
+    c.unpack-state.result o.result c.unpack-state.ensures o.ensures (legal (goal.at.returns c).Else-not-is_record) in
+    (k.left c.ended_at.ensures.0, k.slot _ c.ended_at.ensures.1, k.place _ c.ended_at.ensures.2)

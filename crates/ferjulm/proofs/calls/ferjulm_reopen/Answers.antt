@@ -10,11 +10,7 @@ returns-then-words-ne-RECORD_WORDS c =
 
 pub returns : goal.returns
 returns c =
-    let q = c in
-    let p = q in
-    let o = p.reopen-outcome in
-    let u = p in
-    let e = u in
-    let a = e.args in
+    let o = c.reopen-outcome in
+    let a = c.args in
     on_words reopen a.ssd.now a.hdd.now a.table.now a.words.now
-    u.unpack-state.result o.result u.unpack-state.ensures o.ensures q.closed.ensures _ e.if-words-ne-RECORD_WORDS.false
+    c.unpack-state.result o.result c.unpack-state.ensures o.ensures c.closed.ensures _ c.if-words-ne-RECORD_WORDS.false

@@ -25,18 +25,13 @@ legal c = sym c.is_record.ensures ∙ c.if-not-is_record.false
 
 pub returns-then-not-is_record : goal.returns-then-not-is_record
 returns-then-not-is_record c =
-    let s = c in
-    let a = s.args in
-    no_cost a.ssd.now a.hdd.now a.table.now a.words.now a.blocks.now a.caller a.scratch.now (lent (goal.at.returns-then-not-is_record s).Start) (sym c.is_record.ensures ∙ c.if-not-is_record.true)
+    let a = c.args in
+    no_cost a.ssd.now a.hdd.now a.table.now a.words.now a.blocks.now a.caller a.scratch.now (lent (goal.at.returns-then-not-is_record c).Start) (sym c.is_record.ensures ∙ c.if-not-is_record.true)
 
 pub unpack-state-requires : goal.unpack-state-requires
 unpack-state-requires c = record_length _ (legal c)
 
 pub returns : goal.returns
 returns c =
-    let m = c in
-    let u = m in
-    let e = u in
-    let s = e in
-    let a = s.args in
-    on_cost a.ssd.now a.hdd.now a.table.now a.words.now a.blocks.now a.caller a.scratch.now (lent (goal.at.returns s).Start) u.unpack-state.result m.cost-answer.result _ _ (legal (goal.at.returns e).Else-not-is_record) u.unpack-state.ensures m.cost-answer.ensures c.hand_out.ensures
+    let a = c.args in
+    on_cost a.ssd.now a.hdd.now a.table.now a.words.now a.blocks.now a.caller a.scratch.now (lent (goal.at.returns c).Start) c.unpack-state.result c.cost-answer.result _ _ (legal (goal.at.returns c).Else-not-is_record) c.unpack-state.ensures c.cost-answer.ensures c.hand_out.ensures

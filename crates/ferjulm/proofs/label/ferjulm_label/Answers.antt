@@ -19,12 +19,10 @@ no_label ssd slots blocks e = rw (label_test_is ssd, e)
 
 pub returns-in-Legal : goal.returns-in-Legal
 returns-in-Legal c =
-    let r = c in
-    let a = r.args in
-    read-label a.ssd.now a.slots.now a.blocks.now _ (sym r.label_of.ensures ∙ c.in-Legal.is)
+    let a = c.args in
+    read-label a.ssd.now a.slots.now a.blocks.now _ (sym c.label_of.ensures ∙ c.in-Legal.is)
 
 pub returns-in-Illegal : goal.returns-in-Illegal
 returns-in-Illegal c =
-    let r = c in
-    let a = r.args in
-    no_label a.ssd.now a.slots.now a.blocks.now (sym r.label_of.ensures ∙ c.in-Illegal.is)
+    let a = c.args in
+    no_label a.ssd.now a.slots.now a.blocks.now (sym c.label_of.ensures ∙ c.in-Illegal.is)

@@ -12,9 +12,8 @@ use Rattle.ferjulm.proofs.list.ferjulm_look_up_list.Goals.{Else-not-is_record, S
 
 pub returns-then-not-is_record : goal.returns-then-not-is_record
 returns-then-not-is_record c =
-    let r = c in
-    let a = r.args in
-    let e = sym r.is_record.ensures ∙ c.if-not-is_record.true in (
+    let a = c.args in
+    let e = sym c.is_record.ensures ∙ c.if-not-is_record.true in (
       (barred (look_up_list a.blocks.now (length a.located.now)) a.ssd.now a.hdd.now a.table.now a.words.now e).left,
       located_barred a.blocks.now a.ssd.now a.hdd.now a.table.now a.words.now a.located.now e,
     )
@@ -31,16 +30,13 @@ unpack-state-requires c = record_length _ (legal c)
 
 pub returns : goal.returns
 returns c =
-    let o = c in
-    let u = o in
-    let e = u in
-    let a = (start (goal.at.returns e).Else-not-is_record).args in
+    let a = (start (goal.at.returns c).Else-not-is_record).args in
     let list = look_up_list a.blocks.now (length a.located.now) in
-    let k = past list a.ssd.now a.hdd.now a.table.now a.words.now u.unpack-state.result o.look_up_list-outcome.result
-    u.unpack-state.ensures o.look_up_list-outcome.ensures.0 (legal (goal.at.returns e).Else-not-is_record) in (
-      k.still (list-state a.blocks.now (length a.located.now) (box_of a.ssd.now a.hdd.now a.table.now u.unpack-state.result))
+    let k = past list a.ssd.now a.hdd.now a.table.now a.words.now c.unpack-state.result c.look_up_list-outcome.result
+    c.unpack-state.ensures c.look_up_list-outcome.ensures.0 (legal (goal.at.returns c).Else-not-is_record) in (
+      k.still (list-state a.blocks.now (length a.located.now) (box_of a.ssd.now a.hdd.now a.table.now c.unpack-state.result))
           c.code_of.ensures,
-      o.look_up_list-outcome.ensures.1
-          ∙ located_past a.blocks.now a.ssd.now a.hdd.now a.table.now a.words.now a.located.now u.unpack-state.result
-          u.unpack-state.ensures (legal (goal.at.returns e).Else-not-is_record),
+      c.look_up_list-outcome.ensures.1
+          ∙ located_past a.blocks.now a.ssd.now a.hdd.now a.table.now a.words.now a.located.now c.unpack-state.result
+          c.unpack-state.ensures (legal (goal.at.returns c).Else-not-is_record),
     )

@@ -10,9 +10,8 @@ use Rattle.ferjulm.proofs.list.ferjulm_offer_list.Goals.{Else-not-is_record, Sta
 
 pub returns-then-not-is_record : goal.returns-then-not-is_record
 returns-then-not-is_record c =
-    let r = c in
-    let a = r.args in
-    let e = sym r.is_record.ensures ∙ c.if-not-is_record.true in
+    let a = c.args in
+    let e = sym c.is_record.ensures ∙ c.if-not-is_record.true in
     let b = barred (offer_list a.blocks.now a.caller) a.ssd.now a.hdd.now a.table.now a.words.now e in
     (b.left, b.places a.dealt.now, b.place (record { image = a.image.now; offset = a.offset.now }))
 
@@ -28,17 +27,12 @@ unpack-state-requires c = record_length _ (legal c)
 
 pub ended_list-requires : goal.ended_list-requires
 ended_list-requires c =
-    let p = c in
-    record_length _ (legal (goal.at.ended_list-requires p).Else-not-is_record)
+    record_length _ (legal (goal.at.ended_list-requires c).Else-not-is_record)
 
 pub returns : goal.returns
 returns c =
-    let q = c in
-    let p = q in
-    let o = p.offer_list-outcome in
-    let u = p in
-    let e = u in
-    let a = (start (goal.at.returns e).Else-not-is_record).args in
+    let o = c.offer_list-outcome in
+    let a = (start (goal.at.returns c).Else-not-is_record).args in
     let k = past (offer_list a.blocks.now a.caller) a.ssd.now a.hdd.now a.table.now a.words.now
-    u.unpack-state.result o.result u.unpack-state.ensures o.ensures (legal (goal.at.returns e).Else-not-is_record) in
-    (k.left q.ended_list.ensures.0, k.places _ q.ended_list.ensures.1, k.place _ q.ended_list.ensures.2)
+    c.unpack-state.result o.result c.unpack-state.ensures o.ensures (legal (goal.at.returns c).Else-not-is_record) in
+    (k.left c.ended_list.ensures.0, k.places _ c.ended_list.ensures.1, k.place _ c.ended_list.ensures.2)

@@ -9,10 +9,9 @@ use Rattle.ferjulm.proofs.map.ferjulm_map.Goals.{Else-not-is_record}
 
 pub returns-then-not-is_record : goal.returns-then-not-is_record
 returns-then-not-is_record c =
-    let r = c in
-    let a = r.args in
+    let a = c.args in
     no_map a.ssd.now a.hdd.now a.table.now a.words.now a.sheet.now
-    (sym r.is_record.ensures ∙ c.if-not-is_record.true)
+    (sym c.is_record.ensures ∙ c.if-not-is_record.true)
 
 -- past the first test the words are a record
 legal : (c : Else-not-is_record) → is_record c.args.words.now ≡ true
@@ -23,8 +22,6 @@ unpack-state-requires c = record_length _ (legal c)
 
 pub returns : goal.returns
 returns c =
-    let m = c in
-    let u = m in
-    let a = u.args in
-    on_map a.ssd.now a.hdd.now a.table.now a.words.now a.sheet.now u.unpack-state.result _ (legal (goal.at.returns u).Else-not-is_record)
-    u.unpack-state.ensures m.map.ensures
+    let a = c.args in
+    on_map a.ssd.now a.hdd.now a.table.now a.words.now a.sheet.now c.unpack-state.result _ (legal (goal.at.returns c).Else-not-is_record)
+    c.unpack-state.ensures c.map.ensures

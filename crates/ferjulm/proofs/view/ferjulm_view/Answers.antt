@@ -11,11 +11,10 @@ use Rattle.ferjulm.proofs.view.ferjulm_view.Goals.{Else-not-is_record}
 
 pub returns-then-not-is_record : goal.returns-then-not-is_record
 returns-then-not-is_record c =
-    let r = c in
-    let a = r.args in
+    let a = c.args in
     no_view a.ssd.now a.hdd.now a.table.now a.words.now (record { 0 = a.block })
     (record { image = a.image.now; offset = a.offset.now })
-    (sym r.is_record.ensures ∙ c.if-not-is_record.true)
+    (sym c.is_record.ensures ∙ c.if-not-is_record.true)
 
 -- past the first test the words are a record
 legal : (c : Else-not-is_record) → is_record c.args.words.now ≡ true
@@ -27,21 +26,18 @@ unpack-state-requires c = record_length _ (legal c)
 pub returns-then-number-ne0 : goal.returns-then-number-ne0
 returns-then-number-ne0 c =
     let j = c.judge_block-judged in
-    let u = c in
-    let a = u.args in
+    let a = c.args in
     let b : Block = record { 0 = a.block } in
     let p : Place = record { image = a.image.now; offset = a.offset.now } in
-    on_view a.ssd.now a.hdd.now a.table.now a.words.now b p u.unpack-state.result _ (legal (goal.at.returns-then-number-ne0 u).Else-not-is_record) u.unpack-state.ensures
-    (view_stops a.ssd.now a.hdd.now a.table.now u.unpack-state.result b p j.result j.ensures c.if-number-ne0.true)
+    on_view a.ssd.now a.hdd.now a.table.now a.words.now b p c.unpack-state.result _ (legal (goal.at.returns-then-number-ne0 c).Else-not-is_record) c.unpack-state.ensures
+    (view_stops a.ssd.now a.hdd.now a.table.now c.unpack-state.result b p j.result j.ensures c.if-number-ne0.true)
 
 pub returns : goal.returns
 returns c =
-    let e = c in
-    let j = e.judge_block-judged in
-    let u = e in
-    let a = u.args in
+    let j = c.judge_block-judged in
+    let a = c.args in
     let b : Block = record { 0 = a.block } in
     let p : Place = record { image = a.image.now; offset = a.offset.now } in
-    on_view a.ssd.now a.hdd.now a.table.now a.words.now b p u.unpack-state.result _ (legal (goal.at.returns u).Else-not-is_record) u.unpack-state.ensures
-    (view_passes a.ssd.now a.hdd.now a.table.now u.unpack-state.result b p j.result c.place_for-place.result j.ensures e.if-number-ne0.false
+    on_view a.ssd.now a.hdd.now a.table.now a.words.now b p c.unpack-state.result _ (legal (goal.at.returns c).Else-not-is_record) c.unpack-state.ensures
+    (view_passes a.ssd.now a.hdd.now a.table.now c.unpack-state.result b p j.result c.place_for-place.result j.ensures c.if-number-ne0.false
     c.place_for-place.ensures)

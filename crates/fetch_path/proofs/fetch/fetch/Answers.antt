@@ -23,33 +23,28 @@ known c = let a = (start c).args in
 
 pub returns-then-number-ne0 : goal.returns-then-number-ne0
 returns-then-number-ne0 c =
-    let e = c in
-    let a = e.args in
+    let a = c.args in
     rw c.refused.ensures
-    (refused_by (fetch a.block a.caller) (box_of a.ssd.now a.hdd.now a.table.now a.state) _ _ (fetch_judges a.ssd.now a.hdd.now a.table.now a.state a.block a.caller) e.judge_block-seen.result.number
-    (found _ a.table.now a.block e.judge_block-seen.ensures) c.if-number-ne0.true)
+    (refused_by (fetch a.block a.caller) (box_of a.ssd.now a.hdd.now a.table.now a.state) _ _ (fetch_judges a.ssd.now a.hdd.now a.table.now a.state a.block a.caller) c.judge_block-seen.result.number
+    (found _ a.table.now a.block c.judge_block-seen.ensures) c.if-number-ne0.true)
 
 pub fetch-turn-requires : goal.fetch-turn-requires
 fetch-turn-requires c =
-    let e = c in
-    let a = (start e).args in
-    seen a.ssd.now a.hdd.now 4096 a.table.now a.state a.block a.caller _ (known e)
+    let a = (start c).args in
+    seen a.ssd.now a.hdd.now 4096 a.table.now a.state a.block a.caller _ (known c)
 
 pub perform-requires : goal.perform-requires
 perform-requires c =
-    let e = c in
-    let a = (start (goal.at.perform-requires e).Else-number-ne0).args in
-    let B = (known (goal.at.perform-requires e).Else-number-ne0).box.box in
-    let p = fetch_performs a.ssd.now a.hdd.now a.table.now a.state a.block a.caller (known (goal.at.perform-requires e).Else-number-ne0).none e.judge_block-seen.result.condition in
+    let a = (start (goal.at.perform-requires c).Else-number-ne0).args in
+    let B = (known (goal.at.perform-requires c).Else-number-ne0).box.box in
+    let p = fetch_performs a.ssd.now a.hdd.now a.table.now a.state a.block a.caller (known (goal.at.perform-requires c).Else-number-ne0).none c.judge_block-seen.result.condition in
     record { fits_record = B.fits; hdd_len = B.sound.hdd-size; state_value = B.record_kept; table_value = B.rows; performable = rw c.fetch-turn.ensures p }
 
 pub returns : goal.returns
 returns c =
-    let d = c in
-    let e = d in
-    let a = (start (goal.at.returns e).Else-number-ne0).args in
+    let a = (start (goal.at.returns c).Else-number-ne0).args in
     let x = box_of a.ssd.now a.hdd.now a.table.now a.state in
     c.perform.ensures
     ∙ ap (λ (T : Turn). left (turned T a.block a.caller x) x.images)
-    (d.fetch-turn.ensures ∙ ap (fetch_turn a.table.now a.state a.caller) (sym ((known (goal.at.returns e).Else-number-ne0).is _ refl)))
-    ∙ ap (λ (f : Effect). left f x.images) (sym (fetch_turned a.ssd.now a.hdd.now a.table.now a.state a.block a.caller (known (goal.at.returns e).Else-number-ne0).none))
+    (c.fetch-turn.ensures ∙ ap (fetch_turn a.table.now a.state a.caller) (sym ((known (goal.at.returns c).Else-number-ne0).is _ refl)))
+    ∙ ap (λ (f : Effect). left f x.images) (sym (fetch_turned a.ssd.now a.hdd.now a.table.now a.state a.block a.caller (known (goal.at.returns c).Else-number-ne0).none))

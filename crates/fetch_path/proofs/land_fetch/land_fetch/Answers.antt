@@ -38,23 +38,20 @@ done c k e o = let a = (start c).args in
 
 pub returns-then-number-ne0 : goal.returns-then-number-ne0
 returns-then-number-ne0 c =
-    let e = c in
-    let a = e.args in
+    let a = c.args in
     rw c.refused.ensures
-    (refused_by (landFetch a.block) (box_of a.ssd.now a.hdd.now a.table.now a.state) _ _ (land_fetch_judges a.ssd.now a.hdd.now a.table.now a.state a.block) e.judge_block-seen.result.number
-    (found _ a.table.now a.block e.judge_block-seen.ensures) c.if-number-ne0.true)
+    (refused_by (landFetch a.block) (box_of a.ssd.now a.hdd.now a.table.now a.state) _ _ (land_fetch_judges a.ssd.now a.hdd.now a.table.now a.state a.block) c.judge_block-seen.result.number
+    (found _ a.table.now a.block c.judge_block-seen.ensures) c.if-number-ne0.true)
 
 pub copy_in-stored-requires : goal.copy_in-stored-requires
 copy_in-stored-requires c =
-    let e = c in
-    let R = (known (goal.at.copy_in-stored-requires e).Else-number-ne0).row _ c.in-Fetching.is in
-    record { ssd_len = (known (goal.at.copy_in-stored-requires e).Else-number-ne0).box.box.sound.ssd-size; hdd_len = (known (goal.at.copy_in-stored-requires e).Else-number-ne0).box.box.sound.hdd-size; slots_bound = (known (goal.at.copy_in-stored-requires e).Else-number-ne0).box.box.fits.slots-most; s_lt_slots = R.low; b_lt_blocks = (known (goal.at.copy_in-stored-requires e).Else-number-ne0).low }
+    let R = (known (goal.at.copy_in-stored-requires c).Else-number-ne0).row _ c.in-Fetching.is in
+    record { ssd_len = (known (goal.at.copy_in-stored-requires c).Else-number-ne0).box.box.sound.ssd-size; hdd_len = (known (goal.at.copy_in-stored-requires c).Else-number-ne0).box.box.sound.hdd-size; slots_bound = (known (goal.at.copy_in-stored-requires c).Else-number-ne0).box.box.fits.slots-most; s_lt_slots = R.low; b_lt_blocks = (known (goal.at.copy_in-stored-requires c).Else-number-ne0).low }
 
 pub close_slot-next-requires : goal.close_slot-next-requires
 close_slot-next-requires c =
-    let e = c in
-    let a = (start (goal.at.close_slot-next-requires e).Else-number-ne0).args in
-    let R = (known (goal.at.close_slot-next-requires e).Else-number-ne0).row _ c.in-Fetching.is in record { state_value = (known (goal.at.close_slot-next-requires e).Else-number-ne0).box.box.record_kept; state_value_2 = open_listed _ _ _ _ _ (known (goal.at.close_slot-next-requires e).Else-number-ne0).box _ R.low R.writing_is; s_in_bounds = R.within; s_bound = flags_low a.state a.table.now (known (goal.at.close_slot-next-requires e).Else-number-ne0).box.box.sound.table-size (known (goal.at.close_slot-next-requires e).Else-number-ne0).box.box.rows _ R.low }
+    let a = (start (goal.at.close_slot-next-requires c).Else-number-ne0).args in
+    let R = (known (goal.at.close_slot-next-requires c).Else-number-ne0).row _ c.in-Fetching.is in record { state_value = (known (goal.at.close_slot-next-requires c).Else-number-ne0).box.box.record_kept; state_value_2 = open_listed _ _ _ _ _ (known (goal.at.close_slot-next-requires c).Else-number-ne0).box _ R.low R.writing_is; s_in_bounds = R.within; s_bound = flags_low a.state a.table.now (known (goal.at.close_slot-next-requires c).Else-number-ne0).box.box.sound.table-size (known (goal.at.close_slot-next-requires c).Else-number-ne0).box.box.rows _ R.low }
 
 pub returns-in-NotCached : goal.returns-in-NotCached
 returns-in-NotCached c =
@@ -79,9 +76,8 @@ returns-in-Writing c =
 pub returns-in-Fetching : goal.returns-in-Fetching
 unfolding perform
 returns-in-Fetching c =
-    let e = c in
     let k = c.in-Fetching.is in
     let z = c.close_slot-next.ensures in
     let d = c.copy_in-stored.ensures in
-    rw (c.stored.ensures, d.0, d.1, z.0, z.1, ((known (goal.at.returns-in-Fetching e).Else-number-ne0).row _ k).writing_is)
-    (rw (perform, ((known (goal.at.returns-in-Fetching e).Else-number-ne0).row _ k).writing_is) at (done (goal.at.returns-in-Fetching e).Else-number-ne0 _ k refl))
+    rw (c.stored.ensures, d.0, d.1, z.0, z.1, ((known (goal.at.returns-in-Fetching c).Else-number-ne0).row _ k).writing_is)
+    (rw (perform, ((known (goal.at.returns-in-Fetching c).Else-number-ne0).row _ k).writing_is) at (done (goal.at.returns-in-Fetching c).Else-number-ne0 _ k refl))

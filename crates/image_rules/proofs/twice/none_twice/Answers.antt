@@ -26,7 +26,6 @@ loop-start-preserved c =
 
 pub returns : goal.returns
 returns c =
-    let s = c in
     let l = c.loop-start in
-    once-all s.args.l (metas_of s.args.l s.args.ssd.now) l.start (length_metas _ _) s.requires.ssd_value
+    once-all c.args.l (metas_of c.args.l c.args.ssd.now) l.start (length_metas _ _) c.requires.ssd_value
     (omega (arith, l.invariant.0)) l.invariant.3

@@ -6,7 +6,7 @@ use Rattle.image_rules.proofs.TwiceLaws.{out_of_span, in_span_lem}
 use Rattle.image_rules.proofs.twice.visit.Goals as goal
 
 pub returns-then-block-start : goal.returns-then-block-start
-returns-then-block-start c = let s = c in rw (out_of_span s.args.start s.args.block s.requires.1 c.if-block-start.true, and-false)
+returns-then-block-start c = rw (out_of_span c.args.start c.args.block c.requires.1 c.if-block-start.true, and-false)
 
 pub returns-then-flags-ne1 : goal.returns-then-flags-ne1
 returns-then-flags-ne1 c = rw (ne_eqb _ _ c.if-flags-ne1.true)
@@ -16,34 +16,25 @@ overflow_sub-b c = omega (arith, c.if-block-start.false, c.requires.1)
 
 pub is_marked-requires : goal.is_marked-requires
 is_marked-requires c =
-    let e = c in
-    let s = e in
-    (s.requires.0, omega (arith, e.if-block-start.false, s.requires.1))
+    (c.requires.0, omega (arith, c.if-block-start.false, c.requires.1))
 
 pub returns-then-is_marked : goal.returns-then-is_marked
 returns-then-is_marked c =
-    let k = c in
-    let s = k in
     rw (
-      eq-eqb _ _ k.if-flags-ne1.false,
-      in_span_lem s.args.start s.args.block s.requires.1 k.if-block-start.false,
+      eq-eqb _ _ c.if-flags-ne1.false,
+      in_span_lem c.args.start c.args.block c.requires.1 c.if-block-start.false,
       sym c.is_marked.ensures ∙ c.if-is_marked.true,
     )
 
 pub mark-requires : goal.mark-requires
 mark-requires c =
-    let e = c in
-    let s = e in
-    (s.requires.0, omega (arith, e.if-block-start.false, s.requires.1))
+    (c.requires.0, omega (arith, c.if-block-start.false, c.requires.1))
 
 pub returns : goal.returns
 returns c =
-    let m = c in
-    let k = m in
-    let s = k in
     rw (
-      eq-eqb _ _ k.if-flags-ne1.false,
-      in_span_lem s.args.start s.args.block s.requires.1 k.if-block-start.false,
-      sym m.is_marked.ensures ∙ m.if-is_marked.false,
+      eq-eqb _ _ c.if-flags-ne1.false,
+      in_span_lem c.args.start c.args.block c.requires.1 c.if-block-start.false,
+      sym c.is_marked.ensures ∙ c.if-is_marked.false,
       c.mark.ensures,
     )

@@ -45,19 +45,16 @@ listed c = sym c.judge_call-listed.ensures ∙ c.if-listed-ne0.false
 
 pub returns-then-number-ne0 : goal.returns-then-number-ne0
 returns-then-number-ne0 c =
-    let j = c in
     let a = c.args in
     cost_unready a.ssd.now a.hdd.now a.table.now a.state a.blocks.now a.caller a.scratch.now _
-    c.lent-page.ensures j.judge_ready-seen.result.number
-    (found _ a.table.now _ j.judge_ready-seen.ensures) c.if-number-ne0.true
+    c.lent-page.ensures c.judge_ready-seen.result.number
+    (found _ a.table.now _ c.judge_ready-seen.ensures) c.if-number-ne0.true
 
 pub returns-then-listed-ne0 : goal.returns-then-listed-ne0
 returns-then-listed-ne0 c =
-    let k = c in
-    let e = k in
-    let a = (start (goal.at.returns-then-listed-ne0 e).Else-number-ne0).args in
+    let a = (start (goal.at.returns-then-listed-ne0 c).Else-number-ne0).args in
     cost-refused a.ssd.now a.hdd.now a.table.now a.state a.blocks.now a.caller a.scratch.now _
-    e.lent-page.ensures (seen (goal.at.returns-then-listed-ne0 e).Else-number-ne0).none k.judge_call-listed.result k.judge_call-listed.ensures
+    c.lent-page.ensures (seen (goal.at.returns-then-listed-ne0 c).Else-number-ne0).none c.judge_call-listed.result c.judge_call-listed.ensures
     c.if-listed-ne0.true
 
 pub copy-requires : goal.copy-requires
@@ -68,36 +65,29 @@ held-requires c = (box (goal.at.held-requires c).Else-number-ne0).box.record_kep
 
 pub run_all-requires : goal.run_all-requires
 run_all-requires c =
-    let m = c in
-    let o = m in
-    let e = o in
-    let a = (start (goal.at.run_all-requires e).Else-number-ne0).args in
-    let S = scans a.blocks.now a.caller (listed (goal.at.run_all-requires o).Else-listed-ne0) in
-    rw m.copy.ensures record { steady = record { state = a.state; fair = ready-fair (box (goal.at.run_all-requires e).Else-number-ne0); label_is = refl; hand_is = refl }; blocks_len_bound = S.few; blocks_value = S.once }
+    let a = (start (goal.at.run_all-requires c).Else-number-ne0).args in
+    let S = scans a.blocks.now a.caller (listed (goal.at.run_all-requires c).Else-listed-ne0) in
+    rw c.copy.ensures record { steady = record { state = a.state; fair = ready-fair (box (goal.at.run_all-requires c).Else-number-ne0); label_is = refl; hand_is = refl }; blocks_len_bound = S.few; blocks_value = S.once }
 
 pub returns : goal.returns
 returns c =
-    let d = c in
-    let m = d in
-    let h = d in
-    let o = m in
-    let e = o in
+    let e = c in
     let a = (start (goal.at.returns e).Else-number-ne0).args in
     let G = box e in
-    let S = scans a.blocks.now a.caller (listed (goal.at.returns o).Else-listed-ne0) in
-    let full : d.crowded-full.result ≡ crowd_by a.state.count (held_by a.caller a.state) =
-    d.crowded-full.ensures
-    ∙ ap (λ (n : ℕ). crowd_by e.judge_ready-seen.result.writing n) h.held.ensures
+    let S = scans a.blocks.now a.caller (listed (goal.at.returns c).Else-listed-ne0) in
+    let full : c.crowded-full.result ≡ crowd_by a.state.count (held_by a.caller a.state) =
+    c.crowded-full.ensures
+    ∙ ap (λ (n : ℕ). crowd_by e.judge_ready-seen.result.writing n) c.held.ensures
     ∙ ap (λ (n : ℕ). crowd_by n (held_by a.caller a.state)) ((seen (goal.at.returns e).Else-number-ne0).writing_is
     ∙ sym (open_count a.ssd.now a.hdd.now _ a.table.now a.state G)) in
-    d.run_all.ensures
+    c.run_all.ensures
     ∙ (λ i. run_from a.state.label (full i) 0 a.blocks.now (record {
       run = begun a.state.hand
           a.state.newest;
-      table = m.copy.ensures i;
+      table = c.copy.ensures i;
     }))
     ∙ sym (cost_is_run a.ssd.now a.hdd.now a.state G.box.record_kept G.phase_is G.box.sound.ssd-size
     G.box.sound.hdd-size
     a.caller S.known a.table.now (ready-fair G) a.blocks.now)
     ∙ cost_runs a.ssd.now a.hdd.now a.table.now a.state a.blocks.now a.caller a.scratch.now _
-    e.lent-page.ensures (seen (goal.at.returns e).Else-number-ne0).none (listed (goal.at.returns o).Else-listed-ne0)
+    e.lent-page.ensures (seen (goal.at.returns e).Else-number-ne0).none (listed (goal.at.returns c).Else-listed-ne0)

@@ -5,5 +5,4 @@ use Rattle.import_cost.proofs.cost.run_found.Goals as goal
 
 pub locate-requires : goal.locate-requires
 locate-requires c =
-    let s = c in
-    record { table_len = (steady_sweeps s.requires.steady).size; words_len = s.requires.words_len; slots_bound = steady_slots s.requires.steady }
+    record { table_len = (steady_sweeps c.requires.steady).size; words_len = c.requires.words_len; slots_bound = steady_slots c.requires.steady }

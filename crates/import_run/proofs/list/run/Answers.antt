@@ -21,11 +21,10 @@ whole s = let a = s.args in run_from a.l a.number 0 a.blocks.now (record {
 
 pub loop-j-init : goal.loop-j-init
 loop-j-init c =
-    let s = c in
-    let a = s.args in (
+    let a = c.args in (
       refl,
-      begins a.l a.number a.blocks.now a.words.now a.table.now a.hand a.newest s.requires.steady s.requires.words_value,
-      ap length s.requires.words_value ∙ length-map a.blocks.now _,
+      begins a.l a.number a.blocks.now a.words.now a.table.now a.hand a.newest c.requires.steady c.requires.words_value,
+      ap length c.requires.words_value ∙ length-map a.blocks.now _,
       refl,
       omega arith,
     )
@@ -39,68 +38,60 @@ pub place-run-requires : goal.place-run-requires
 place-run-requires c =
     let m = c.loop-j in
     let I = m.invariant.1 in
-    let s = c in record {
+    record {
       steady = I.steady;
       found = I.found m.j (omega arith) (omega arith);
       early = (
         record {
-          few_metadata = omega (arith, I.few_metadata, m.invariant.4, s.requires.blocks_len_bound);
-          few_landings = omega (arith, I.few_landings, m.invariant.4, s.requires.blocks_len_bound);
+          few_metadata = omega (arith, I.few_metadata, m.invariant.4, c.requires.blocks_len_bound);
+          few_landings = omega (arith, I.few_landings, m.invariant.4, c.requires.blocks_len_bound);
         },
-        omega (arith, I.few_copies, m.invariant.4, s.requires.blocks_len_bound),
+        omega (arith, I.few_copies, m.invariant.4, c.requires.blocks_len_bound),
       );
     }
 
 pub overflow_cast-result : goal.overflow_cast-result
 overflow_cast-result c =
-    let i = c in
-    omega (arith, i.loop-j-test.true, i.requires.blocks_len_bound)
+    omega (arith, c.loop-j-test.true, c.requires.blocks_len_bound)
 
 pub returns-then-run-ne0 : goal.returns-then-run-ne0
 returns-then-run-ne0 c =
-    let t = c in
-    let p = t in
-    let e = p.place-run.ensures in
-    let m = p.loop-j in
-    let s = p in
-    let a = s.args in
+    let e = c.place-run.ensures in
+    let m = c.loop-j in
+    let a = c.args in
     (λ i. record {
       answer = Met (e i).run.met m.j ((c.counts_of.ensures ∙ ap (λ (z : After). counts_in z.run) e) i);
       scratch = (e i).table;
     })
-    ∙ stops a.l a.number a.blocks.now a.words.now (whole (goal.at.returns-then-run-ne0 s).Start) m.table m.run m.j m.invariant.1 (omega arith)
-    (λ z. t.if-run-ne0.true (ap (λ (z : After). z.run.met) e ∙ z))
+    ∙ stops a.l a.number a.blocks.now a.words.now (whole (goal.at.returns-then-run-ne0 c).Start) m.table m.run m.j m.invariant.1 (omega arith)
+    (λ z. c.if-run-ne0.true (ap (λ (z : After). z.run.met) e ∙ z))
 
 pub overflow_add-j : goal.overflow_add-j
 overflow_add-j c =
-    let i = c in
-    omega (arith, i.loop-j-test.true, i.requires.blocks_len_bound)
+    omega (arith, c.loop-j-test.true, c.requires.blocks_len_bound)
 
 pub loop-j-smaller : goal.loop-j-smaller
 loop-j-smaller c = omega arith
 
 pub loop-j-preserved : goal.loop-j-preserved
 loop-j-preserved c =
-    let p = c in
-    let e = p.place-run.ensures in
-    let m = p.loop-j in
-    let s = p in
-    let a = s.args in
-    let I = goes_on a.l a.number a.blocks.now a.words.now (whole (goal.at.loop-j-preserved s).Start) m.table m.run m.j m.invariant.1 (omega arith)
-    s.requires.blocks_value
+    let e = c.place-run.ensures in
+    let m = c.loop-j in
+    let a = c.args in
+    let I = goes_on a.l a.number a.blocks.now a.words.now (whole (goal.at.loop-j-preserved c).Start) m.table m.run m.j m.invariant.1 (omega arith)
+    c.requires.blocks_value
     (ap (λ (z : After). z.run.met) (sym e) ∙ c.if-run-ne0.false) in (
       refl,
-      subst (λ (z : After). Going a.l a.number a.blocks.now a.words.now (whole (goal.at.loop-j-preserved s).Start) z.table z.run (m.j + 1)) (sym e) I,
+      subst (λ (z : After). Going a.l a.number a.blocks.now a.words.now (whole (goal.at.loop-j-preserved c).Start) z.table z.run (m.j + 1)) (sym e) I,
       m.invariant.2,
-      omega (arith, p.place-run.auto, m.invariant.3),
-      omega (arith, m.invariant.0, p.loop-j-test.true),
+      omega (arith, c.place-run.auto, m.invariant.3),
+      omega (arith, m.invariant.0, c.loop-j-test.true),
     )
 
 pub returns : goal.returns
 returns c =
     let m = c.loop-j in
-    let s = c in
-    let a = s.args in
+    let a = c.args in
     (λ i. record { answer = Counted (c.counts_of-2.ensures i); scratch = m.table })
-    ∙ done a.l a.number a.blocks.now a.words.now (whole (goal.at.returns s).Start) m.table m.run m.j m.invariant.1
+    ∙ done a.l a.number a.blocks.now a.words.now (whole (goal.at.returns c).Start) m.table m.run m.j m.invariant.1
     (omega (arith, m.invariant.0, c.loop-j-test.false))

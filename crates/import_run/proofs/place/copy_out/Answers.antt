@@ -12,14 +12,10 @@ use Rattle.import_run.proofs.place.copy_out.Goals as goal
 
 pub overflow_sub-table : goal.overflow_sub-table
 overflow_sub-table c =
-    let k = c in
-    let s = k in
-    let a = s.args in
-    rw k.clear_used.ensures
-    (omega (arith, eqb-true (row_flags (cleared_from a.passed a.l a.table.now a.run.hand) a.s / 2 % 2) 1 s.requires.s_value))
+    let a = c.args in
+    rw c.clear_used.ensures
+    (omega (arith, eqb-true (row_flags (cleared_from a.passed a.l a.table.now a.run.hand) a.s / 2 % 2) 1 c.requires.s_value))
 
 pub returns : goal.returns
 returns c =
-    let k = c in
-    let s = k in
-    rw (k.clear_used.ensures, s.requires.s_value)
+    rw (c.clear_used.ensures, c.requires.s_value)

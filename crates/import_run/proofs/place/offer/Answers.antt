@@ -33,9 +33,8 @@ copied s {u} {n} e = steady_copies s.requires.steady s.args.number s.args.b s.re
 
 pub take-requires : goal.take-requires
 take-requires c =
-    let s = c in
-    let a = s.args in
-    let p = s.requires in
+    let a = c.args in
+    let p = c.requires in
     let W = steady_sweeps p.steady in
     record { table_len = (W.size, W.low); takes = rw (p.turn_value, p.d_value) (steady_takes p.steady a.number a.b p.b_lt_blocks); early = p.early.0 }
 
@@ -47,44 +46,37 @@ returns-in_default c =
 
 pub copy_out-next-requires : goal.copy_out-next-requires
 copy_out-next-requires c =
-    let s = c in
-    let p = s.requires in
+    let p = c.requires in
     let W = steady_sweeps p.steady in
-    let C = copied s c.in-CopiesOut.is in
+    let C = copied c c.in-CopiesOut.is in
     record { table_len = (W.size, W.low); s_lt_slots = C.low; s_value = C.was_dirty; copies_bound = p.early.1 }
 
 pub offer_at-again-requires : goal.offer_at-again-requires
 offer_at-again-requires c =
-    let k = c in
-    let C = copied (goal.at.offer_at-again-requires k).Start k.in-CopiesOut.is in
-    record { sweepable = rw (ap (λ (e : After). e.table) k.copy_out-next.ensures) (steady_sweeps C.steady); within = tt }
+    let C = copied (goal.at.offer_at-again-requires c).Start c.in-CopiesOut.is in
+    record { sweepable = rw (ap (λ (e : After). e.table) c.copy_out-next.ensures) (steady_sweeps C.steady); within = tt }
 
 pub take-requires-2 : goal.take-requires-2
 take-requires-2 c =
-    let k = c in
-    let s = k in
-    let C = copied s k.in-CopiesOut.is in
+    let C = copied c c.in-CopiesOut.is in
     let W = steady_sweeps C.steady in
     rw (
       c.offer_at-again.ensures,
-      ap (λ (e : After). e.table) k.copy_out-next.ensures,
+      ap (λ (e : After). e.table) c.copy_out-next.ensures,
       ap (λ (e : After). e.run)
-          k.copy_out-next.ensures,
+          c.copy_out-next.ensures,
       C.next,
-    ) record { table_len = (W.size, C.low); takes = (C.low, omega arith); early = record { few_metadata = s.requires.early.0.few_metadata; few_landings = s.requires.early.0.few_landings } }
+    ) record { table_len = (W.size, C.low); takes = (C.low, omega arith); early = record { few_metadata = c.requires.early.0.few_metadata; few_landings = c.requires.early.0.few_landings } }
 
 pub returns : goal.returns
 returns c =
-    let d = c in
-    let k = d in
-    let s = k in
-    let a = s.args in
-    d.take-2.ensures
+    let a = c.args in
+    c.take-2.ensures
     ∙ (rw (
-      d.offer_at-again.ensures,
-      ap (λ (e : After). e.table) k.copy_out-next.ensures,
+      c.offer_at-again.ensures,
+      ap (λ (e : After). e.table) c.copy_out-next.ensures,
       ap (λ (e : After). e.run)
-          k.copy_out-next.ensures,
+          c.copy_out-next.ensures,
     ))
     ∙ ap (λ (T : Turn). offered T a.l a.table.now a.run a.number a.b a.d) (sym
-    k.in-CopiesOut.is)
+    c.in-CopiesOut.is)

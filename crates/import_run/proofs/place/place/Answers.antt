@@ -16,40 +16,32 @@ returns-then-l-b c =
 
 pub condition_of-condition-requires : goal.condition_of-condition-requires
 condition_of-condition-requires c =
-    let s = c in
-    record { table_len = (steady_sweeps s.requires.steady).size; found = s.requires.found }
+    record { table_len = (steady_sweeps c.requires.steady).size; found = c.requires.found }
 
 pub offer_at-turn-requires : goal.offer_at-turn-requires
 offer_at-turn-requires c =
-    let s = c in
-    record { sweepable = steady_sweeps s.requires.steady; within = rw c.condition_of-condition.ensures (condition_within s.requires.steady s.args.b) }
+    record { sweepable = steady_sweeps c.requires.steady; within = rw c.condition_of-condition.ensures (condition_within c.requires.steady c.args.b) }
 
 pub offer-requires : goal.offer-requires
 offer-requires c =
-    let k = c in
-    let e = k in
-    let s = e in
-    let a = s.args in record {
-      steady = s.requires.steady;
-      b_lt_blocks = omega (arith, e.if-l-b.false);
+    let a = c.args in record {
+      steady = c.requires.steady;
+      b_lt_blocks = omega (arith, c.if-l-b.false);
       turn_value = c.offer_at-turn.ensures
-          ∙ ap (λ (z : Condition). offer_turn_at a.l a.table.now a.run.hand a.number z) k.condition_of-condition.ensures;
-      d_value = c.dirty_slot.ensures ∙ ap (λ (z : Condition). dirty_slot z) k.condition_of-condition.ensures;
-      early = s.requires.early;
+          ∙ ap (λ (z : Condition). offer_turn_at a.l a.table.now a.run.hand a.number z) c.condition_of-condition.ensures;
+      d_value = c.dirty_slot.ensures ∙ ap (λ (z : Condition). dirty_slot z) c.condition_of-condition.ensures;
+      early = c.requires.early;
     }
 
 pub returns : goal.returns
 unfolding place_after
 returns c =
-    let d = c in
-    let k = d in
-    let e = k in
-    let a = e.args in
-    d.offer.ensures
+    let a = c.args in
+    c.offer.ensures
     ∙ rw (
       place_after,
-      lt-leb a.l.blocks a.b.0 (omega (arith, e.if-l-b.false)),
-      d.offer_at-turn.ensures,
-      d.dirty_slot.ensures,
-      k.condition_of-condition.ensures,
+      lt-leb a.l.blocks a.b.0 (omega (arith, c.if-l-b.false)),
+      c.offer_at-turn.ensures,
+      c.dirty_slot.ensures,
+      c.condition_of-condition.ensures,
     )

@@ -19,13 +19,11 @@ doable s e = rw e at s.requires.takes
 
 pub land-requires : goal.land-requires
 land-requires c =
-    let s = c in
-    record { lands = doable (goal.at.land-requires s).Start c.in-Passes.is; landings_bound = s.requires.early.few_landings }
+    record { lands = doable (goal.at.land-requires c).Start c.in-Passes.is; landings_bound = c.requires.early.few_landings }
 
 pub open-requires : goal.open-requires
 open-requires c =
-    let s = c in
-    record { table_len = s.requires.table_len; s_lt_slots = doable (goal.at.open-requires s).Start c.in-Opens.is; early = s.requires.early }
+    record { table_len = c.requires.table_len; s_lt_slots = doable (goal.at.open-requires c).Start c.in-Opens.is; early = c.requires.early }
 
 pub returns-in-Refused : goal.returns-in-Refused
 returns-in-Refused c = after (goal.at.returns-in-Refused c).Start c.in-Refused.is
@@ -33,13 +31,11 @@ returns-in-Refused c = after (goal.at.returns-in-Refused c).Start c.in-Refused.i
 
 pub returns-in-Passes : goal.returns-in-Passes
 returns-in-Passes c =
-    let d = c in
-    after (goal.at.returns-in-Passes d).Start d.in-Passes.is d.land.ensures
+    after (goal.at.returns-in-Passes c).Start c.in-Passes.is c.land.ensures
 
 pub returns-in-Opens : goal.returns-in-Opens
 returns-in-Opens c =
-    let d = c in
-    after (goal.at.returns-in-Opens d).Start d.in-Opens.is d.open.ensures
+    after (goal.at.returns-in-Opens c).Start c.in-Opens.is c.open.ensures
 
 pub returns-in-CopiesOut : goal.returns-in-CopiesOut
 returns-in-CopiesOut c = after (goal.at.returns-in-CopiesOut c).Start c.in-CopiesOut.is refl

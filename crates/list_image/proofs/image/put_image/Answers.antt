@@ -10,27 +10,24 @@ use Rattle.list_image.proofs.image.put_image.Goals as goal
 
 pub pending-pending-requires : goal.pending-pending-requires
 pending-pending-requires c =
-    let s = c in
-    let k = passed s.args.l (metas_of s.args.l s.args.ssd.now) s.requires.ssd_value in
-    record { ssd_len = s.requires.ssd_len.0; ssd_value = k.legal; at_bound = rw (← length_metas s.args.l s.args.ssd.now) (found _ _ c.newest-found.ensures).on_page_is }
+    let k = passed c.args.l (metas_of c.args.l c.args.ssd.now) c.requires.ssd_value in
+    record { ssd_len = c.requires.ssd_len.0; ssd_value = k.legal; at_bound = rw (← length_metas c.args.l c.args.ssd.now) (found _ _ c.newest-found.ensures).on_page_is }
 
 pub put_lines-requires : goal.put_lines-requires
 put_lines-requires c =
-    let s = c in
-    let k = passed s.args.l (metas_of s.args.l s.args.ssd.now) s.requires.ssd_value in
-    let w = newest_bounded s.args.l (metas_of s.args.l s.args.ssd.now) _ k.legal (found _ _ c.newest-found.ensures).on_page_is in
-    let z = pending_bounded s.args.l _ _ c.pending-pending.ensures w in
-    let f = few_slots s.args.l _ s.requires.ssd_len.0 s.requires.ssd_len.1 in
-    record { slots_in_bounds = omega (arith, c.put_head-at.ensures.end_is, c.put_head-at.ensures.short, s.requires.page_len); ssd_len = s.requires.ssd_len.0; count_le_window_most = z.0 }
+    let k = passed c.args.l (metas_of c.args.l c.args.ssd.now) c.requires.ssd_value in
+    let w = newest_bounded c.args.l (metas_of c.args.l c.args.ssd.now) _ k.legal (found _ _ c.newest-found.ensures).on_page_is in
+    let z = pending_bounded c.args.l _ _ c.pending-pending.ensures w in
+    let f = few_slots c.args.l _ c.requires.ssd_len.0 c.requires.ssd_len.1 in
+    record { slots_in_bounds = omega (arith, c.put_head-at.ensures.end_is, c.put_head-at.ensures.short, c.requires.page_len); ssd_len = c.requires.ssd_len.0; count_le_window_most = z.0 }
 
 pub returns : goal.returns
 returns c =
-    let s = c in
-    let pages = metas_of s.args.l s.args.ssd.now in
+    let pages = metas_of c.args.l c.args.ssd.now in
     let n = c.newest-found in
     let g = found pages n.result n.ensures in
     let p = c.pending-pending in
-    let f = few_slots s.args.l _ s.requires.ssd_len.0 s.requires.ssd_len.1 in
-    written_as (written_more c.put_head-at.ensures c.put_lines.ensures (omega (arith, s.requires.page_len)))
-    (image_is s.args.l pages (newest_at pages n.result.at) _ p.result g.newest_is g.stamp_is p.ensures)
+    let f = few_slots c.args.l _ c.requires.ssd_len.0 c.requires.ssd_len.1 in
+    written_as (written_more c.put_head-at.ensures c.put_lines.ensures (omega (arith, c.requires.page_len)))
+    (image_is c.args.l pages (newest_at pages n.result.at) _ p.result g.newest_is g.stamp_is p.ensures)
     (omega arith)

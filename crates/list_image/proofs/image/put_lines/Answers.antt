@@ -21,13 +21,12 @@ put_line-end-requires c =
 
 pub loop-s-preserved : goal.loop-s-preserved
 loop-s-preserved c =
-    let s = c in
     let l = c.loop-s in
-    let w = slots_in s.args.w in
+    let w = slots_in c.args.w in
     let v = written_as {n = 63} c.put_line-end.ensures (ap (line_of w (record { 0 = l.s })) c.entry_of-entry.ensures) (omega arith) in (
       omega arith,
-      written-length v (omega (arith, l.invariant.2.end_is, l.invariant.2.short, s.requires.slots_in_bounds)) ∙ l.invariant.1,
-      written_as (written_more l.invariant.2 v (omega (arith, s.requires.slots_in_bounds))) (lines_more w (metas_of s.args.l s.args.ssd.now) l.s) (omega arith),
+      written-length v (omega (arith, l.invariant.2.end_is, l.invariant.2.short, c.requires.slots_in_bounds)) ∙ l.invariant.1,
+      written_as (written_more l.invariant.2 v (omega (arith, c.requires.slots_in_bounds))) (lines_more w (metas_of c.args.l c.args.ssd.now) l.s) (omega arith),
     )
 
 pub shape_of-page : goal.shape_of-page
@@ -35,7 +34,6 @@ shape_of-page c = c.loop-s.invariant.1
 
 pub returns : goal.returns
 returns c =
-    let s = c in
     let l = c.loop-s in
-    let q : l.s ≡ s.args.l.slots = omega arith in
-    written_as l.invariant.2 (ap (lines_of (slots_in s.args.w) (metas_of s.args.l s.args.ssd.now)) q) (omega arith)
+    let q : l.s ≡ c.args.l.slots = omega arith in
+    written_as l.invariant.2 (ap (lines_of (slots_in c.args.w) (metas_of c.args.l c.args.ssd.now)) q) (omega arith)

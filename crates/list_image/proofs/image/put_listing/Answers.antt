@@ -8,48 +8,39 @@ use Rattle.list_image.proofs.image.put_listing.Goals as goal
 
 pub returns-in_default : goal.returns-in_default
 returns-in_default c =
-    let i = c in
-    written_as c.put_refusal.ensures (unlabelled _ (sym i.label_of.ensures ∙ i.in_default.is)) (omega arith)
+    written_as c.put_refusal.ensures (unlabelled _ (sym c.label_of.ensures ∙ c.in_default.is)) (omega arith)
 
 pub returns-then-ssd-ssd_length : goal.returns-then-ssd-ssd_length
 returns-then-ssd-ssd_length c =
-    let i = c in
-    let l = sym i.label_of.ensures ∙ i.in-Legal.is in
-    written_as c.put_refusal-then-ssd-ssd_length.ensures (wrong_length _ _ l (ne_eqb _ _ (λ q. i.if-ssd-ssd_length.true (q ∙ sym i.ssd_length.ensures))))
+    let l = sym c.label_of.ensures ∙ c.in-Legal.is in
+    written_as c.put_refusal-then-ssd-ssd_length.ensures (wrong_length _ _ l (ne_eqb _ _ (λ q. c.if-ssd-ssd_length.true (q ∙ sym c.ssd_length.ensures))))
     (omega arith)
 
 pub returns-then-ssd-gt65536 : goal.returns-then-ssd-gt65536
 returns-then-ssd-gt65536 c =
-    let i = c in
-    let l = sym i.label_of.ensures ∙ i.in-Legal.is in
-    let m = eq-eqb _ _ (i.if-ssd-ssd_length.false ∙ i.ssd_length.ensures) in
-    written_as c.put_refusal-then-ssd-gt65536.ensures (too_long _ _ l m (lt-leb _ _ i.if-ssd-gt65536.true)) (omega arith)
+    let l = sym c.label_of.ensures ∙ c.in-Legal.is in
+    let m = eq-eqb _ _ (c.if-ssd-ssd_length.false ∙ c.ssd_length.ensures) in
+    written_as c.put_refusal-then-ssd-gt65536.ensures (too_long _ _ l m (lt-leb _ _ c.if-ssd-gt65536.true)) (omega arith)
 
 pub pages_ok-requires : goal.pages_ok-requires
 pages_ok-requires c =
-    let i = c in
-    let s = i in
-    let l = sym i.label_of.ensures ∙ i.in-Legal.is in
-    record { ssd_len = c.if-ssd-ssd_length.false ∙ c.ssd_length.ensures; limits = limits s.args.ssd.now _ l }
+    let l = sym c.label_of.ensures ∙ c.in-Legal.is in
+    record { ssd_len = c.if-ssd-ssd_length.false ∙ c.ssd_length.ensures; limits = limits c.args.ssd.now _ l }
 
 pub returns-then-not-pages_ok : goal.returns-then-not-pages_ok
 returns-then-not-pages_ok c =
-    let i = c in
-    let l = sym i.label_of.ensures ∙ i.in-Legal.is in
-    let m = eq-eqb _ _ (i.if-ssd-ssd_length.false ∙ i.ssd_length.ensures) in
-    let k = le-leb _ _ i.if-ssd-gt65536.false in
-    written_as c.put_refusal-then-not-pages_ok.ensures (bad_pages _ _ l m k (sym i.pages_ok.ensures ∙ i.if-not-pages_ok.true)) (omega arith)
+    let l = sym c.label_of.ensures ∙ c.in-Legal.is in
+    let m = eq-eqb _ _ (c.if-ssd-ssd_length.false ∙ c.ssd_length.ensures) in
+    let k = le-leb _ _ c.if-ssd-gt65536.false in
+    written_as c.put_refusal-then-not-pages_ok.ensures (bad_pages _ _ l m k (sym c.pages_ok.ensures ∙ c.if-not-pages_ok.true)) (omega arith)
 
 pub put_image-requires : goal.put_image-requires
 put_image-requires c =
-    let i = c in
-    let s = i in
-    let l = sym i.label_of.ensures ∙ i.in-Legal.is in record { page_len = s.requires; ssd_len = (i.if-ssd-ssd_length.false ∙ i.ssd_length.ensures, c.if-ssd-gt65536.false); limits = limits s.args.ssd.now _ l; ssd_value = sym c.pages_ok.ensures ∙ c.if-not-pages_ok.false }
+    let l = sym c.label_of.ensures ∙ c.in-Legal.is in record { page_len = c.requires; ssd_len = (c.if-ssd-ssd_length.false ∙ c.ssd_length.ensures, c.if-ssd-gt65536.false); limits = limits c.args.ssd.now _ l; ssd_value = sym c.pages_ok.ensures ∙ c.if-not-pages_ok.false }
 
 pub returns : goal.returns
 returns c =
-    let i = c in
-    let l = sym i.label_of.ensures ∙ i.in-Legal.is in
-    let m = eq-eqb _ _ (i.if-ssd-ssd_length.false ∙ i.ssd_length.ensures) in
-    let k = le-leb _ _ i.if-ssd-gt65536.false in
-    written_as c.put_image.ensures (listed_as _ _ l m k (sym i.pages_ok.ensures ∙ i.if-not-pages_ok.false)) (omega arith)
+    let l = sym c.label_of.ensures ∙ c.in-Legal.is in
+    let m = eq-eqb _ _ (c.if-ssd-ssd_length.false ∙ c.ssd_length.ensures) in
+    let k = le-leb _ _ c.if-ssd-gt65536.false in
+    written_as c.put_image.ensures (listed_as _ _ l m k (sym c.pages_ok.ensures ∙ c.if-not-pages_ok.false)) (omega arith)

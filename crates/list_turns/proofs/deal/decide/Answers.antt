@@ -15,16 +15,14 @@ condition_of-condition-requires c = let p = c.requires in record { table_len = p
 
 pub offer_at-requires : goal.offer_at-requires
 offer_at-requires c =
-    let s = c in
-    let a = s.args in record {
-      sweepable = s.requires.sweepable;
+    let a = c.args in record {
+      sweepable = c.requires.sweepable;
       within = subst (λ (k : Condition). Within a.l.slots k) (sym c.condition_of-condition.ensures)
-          (stands_within (stands a.l a.table.now s.requires.sweepable.size a.b));
+          (stands_within (stands a.l a.table.now c.requires.sweepable.size a.b));
     }
 
 pub returns : goal.returns
 returns c =
-    let k = c in
-    let a = k.args in
-    c.offer_at.ensures ∙ ap (offer_turn_at a.l a.table.now a.hand a.number) k.condition_of-condition.ensures
-    ∙ turn_low a.l a.table.now a.hand a.number a.b k.if-l-b.false
+    let a = c.args in
+    c.offer_at.ensures ∙ ap (offer_turn_at a.l a.table.now a.hand a.number) c.condition_of-condition.ensures
+    ∙ turn_low a.l a.table.now a.hand a.number a.b c.if-l-b.false

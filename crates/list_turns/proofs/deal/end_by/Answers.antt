@@ -4,7 +4,5 @@ use Rattle.list_turns.proofs.deal.end_by.Goals as goal
 
 pub returns-in-Opens : goal.returns-in-Opens
 returns-in-Opens c =
-    let m = c in
-    let t = m in
-    let a = t.args in
-    rw t.in-Opens.is (c.end_of.ensures ∙ ap (end_of a.l a.page a.newest) m.meta_of.ensures)
+    let a = c.args in
+    rw c.in-Opens.is (c.end_of.ensures ∙ ap (end_of a.l a.page a.newest) c.meta_of.ensures)

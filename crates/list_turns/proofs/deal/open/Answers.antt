@@ -6,7 +6,5 @@ use Rattle.list_turns.proofs.deal.open.Goals as goal
 
 pub returns : goal.returns
 returns c =
-    let w = c in
-    let k = w in
-    let a = k.args in
-    w.set_row.ensures ∙ ap (λ (t : List ℕ). set_row t a.s a.b a.flags) k.clear_used.ensures
+    let a = c.args in
+    c.set_row.ensures ∙ ap (λ (t : List ℕ). set_row t a.s a.b a.flags) c.clear_used.ensures

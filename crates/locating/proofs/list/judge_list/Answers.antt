@@ -17,9 +17,8 @@ returns-then-n-gt64 c = let a = c.args in many_listed a.blocks.now a.room a.limi
 
 pub returns-then-n-room : goal.returns-then-n-room
 returns-then-n-room c =
-    let e = c in
-    let a = e.args in
-    other-room a.blocks.now a.room a.limit e.if-n-eq0.false (omega (arith, e.if-n-gt64.false)) c.if-n-room.true
+    let a = c.args in
+    other-room a.blocks.now a.room a.limit c.if-n-eq0.false (omega (arith, c.if-n-gt64.false)) c.if-n-room.true
 
 -- where it is not 16
 abbrev start : Else-n-room → Start
@@ -33,10 +32,8 @@ well e =
 
 pub returns-then-limit-highest : goal.returns-then-limit-highest
 returns-then-limit-highest c =
-    let h = c in
-    sym (well (goal.at.returns-then-limit-highest h).Else-n-room ∙ rw (le-leb _ _ (subst (λ (n : ℕ). (start (goal.at.returns-then-limit-highest h).Else-n-room).args.limit ≤ n) h.highest.ensures c.if-limit-highest.true)))
+    sym (well (goal.at.returns-then-limit-highest c).Else-n-room ∙ rw (le-leb _ _ (subst (λ (n : ℕ). (start (goal.at.returns-then-limit-highest c).Else-n-room).args.limit ≤ n) c.highest.ensures c.if-limit-highest.true)))
 
 pub returns : goal.returns
 returns c =
-    let h = c in
-    sym (well (goal.at.returns h).Else-n-room ∙ rw (lt-leb _ _ (subst (λ (n : ℕ). n < (start (goal.at.returns h).Else-n-room).args.limit) h.highest.ensures c.if-limit-highest.false)))
+    sym (well (goal.at.returns c).Else-n-room ∙ rw (lt-leb _ _ (subst (λ (n : ℕ). n < (start (goal.at.returns c).Else-n-room).args.limit) c.highest.ensures c.if-limit-highest.false)))

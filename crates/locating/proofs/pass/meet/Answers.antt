@@ -5,9 +5,8 @@ use Rattle.locating.proofs.pass.meet.Goals as goal
 
 pub returns-then-mark-ne1 : goal.returns-then-mark-ne1
 returns-then-mark-ne1 c = λ j h.
-    let s = c in
-    let a = s.args in
-    met-other (get_or a.words.now j 0) (get_or a.blocks.now j 0) a.block a.flags a.here (λ e. c.if-mark-ne1.true (s.requires.by_index j h e))
+    let a = c.args in
+    met-other (get_or a.words.now j 0) (get_or a.blocks.now j 0) a.block a.flags a.here (λ e. c.if-mark-ne1.true (c.requires.by_index j h e))
 
 pub returns-then-flags-ne1 : goal.returns-then-flags-ne1
 returns-then-flags-ne1 c = λ j h.
@@ -16,7 +15,6 @@ returns-then-flags-ne1 c = λ j h.
 
 pub returns : goal.returns
 returns c = λ j h.
-    let e = c in
-    let a = e.args in
+    let a = c.args in
     c.note.ensures j h
-    ∙ met-valid (get_or a.words.now j 0) (get_or a.blocks.now j 0) a.block a.flags a.here e.if-flags-ne1.false
+    ∙ met-valid (get_or a.words.now j 0) (get_or a.blocks.now j 0) a.block a.flags a.here c.if-flags-ne1.false

@@ -11,26 +11,23 @@ use Rattle.locating.proofs.pass.pass.Goals as goal
 
 pub loop-i-init : goal.loop-i-init
 loop-i-init c =
-    let s = c in
-    (s.requires.words_len, s.requires.table_len, omega arith, λ j h. rw (s.requires.by_index_2 j (omega (arith, h, s.requires.words_len))))
+    (c.requires.words_len, c.requires.table_len, omega arith, λ j h. rw (c.requires.by_index_2 j (omega (arith, h, c.requires.words_len))))
 
 pub meet-requires : goal.meet-requires
 meet-requires c =
     let l = c.loop-i in
-    let s = c in
-    record { words_len = l.invariant.0; by_index = λ j h e. ap (λ (n : ℕ). get_or s.args.marks.now (n % 4096) 0) (sym e) ∙ s.requires.by_index j h }
+    record { words_len = l.invariant.0; by_index = λ j h e. ap (λ (n : ℕ). get_or c.args.marks.now (n % 4096) 0) (sym e) ∙ c.requires.by_index j h }
 
 pub loop-i-preserved : goal.loop-i-preserved
 loop-i-preserved c =
-    let v = c in
-    let l = v.loop-i in
-    let a = v.args in (
-      omega (arith, v.meet.auto, l.invariant.0),
+    let l = c.loop-i in
+    let a = c.args in (
+      omega (arith, c.meet.auto, l.invariant.0),
       l.invariant.1,
       omega arith,
       λ j h.
           let b : Block = record { 0 = get_or a.blocks.now j 0 } in
-          ap (λ (w : ℕ). or_found w (place_word (slot_from (l.i + 1) (drop (2 * (l.i + 1)) a.table.now) b))) (v.meet.ensures j h)
+          ap (λ (w : ℕ). or_found w (place_word (slot_from (l.i + 1) (drop (2 * (l.i + 1)) a.table.now) b))) (c.meet.ensures j h)
           ∙ row_more a.table.now b l.i (get_or l.words j 0) (omega (arith, l.invariant.1))
           ∙ l.invariant.3 j h,
     )

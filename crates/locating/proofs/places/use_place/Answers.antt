@@ -14,13 +14,11 @@ returns-then-table-k-eq1 c =
 
 pub use_slot-requires : goal.use_slot-requires
 use_slot-requires c =
-    let e = c in
-    record { s_in_bounds = omega (arith, e.requires.word_in_bounds, c.if-word-eq0.false); s_bound = e.requires.by_index (e.args.word - 1) }
+    record { s_in_bounds = omega (arith, c.requires.word_in_bounds, c.if-word-eq0.false); s_bound = c.requires.by_index (c.args.word - 1) }
 
 pub returns : goal.returns
 returns c =
-    let e = c in
-    let a = e.args in
+    let a = c.args in
     let o = shut_word a.table.now a.word c.if-word-eq0.false
     c.if-table-k-eq1.false in
     (o.0, c.use_slot.ensures ∙ o.1)

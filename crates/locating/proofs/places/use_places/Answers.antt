@@ -12,34 +12,30 @@ use Rattle.locating.proofs.places.use_places.Goals as goal
 
 pub loop-j-init : goal.loop-j-init
 loop-j-init c =
-    let s = c in
-    (renew_begin _ _, refl, still_begin _ s.requires.by_index_2, refl)
+    (renew_begin _ _, refl, still_begin _ c.requires.by_index_2, refl)
 
 pub use_place-requires : goal.use_place-requires
 use_place-requires c =
     let l = c.loop-j in
-    let s = c in
     let o = l.invariant.0.old l.j (omega arith) in
-    let p = s.requires.by_index l.j (omega (arith, l.invariant.1, c.loop-j-test.true)) in
+    let p = c.requires.by_index l.j (omega (arith, l.invariant.1, c.loop-j-test.true)) in
     record { word_in_bounds = omega (arith, o, p, l.invariant.2.size); by_index = l.invariant.2.low }
 
 pub loop-j-preserved : goal.loop-j-preserved
 loop-j-preserved c =
-    let u = c in
-    let l = u.loop-j in
-    let s = u in
-    let t = s.args.table.now in
+    let l = c.loop-j in
+    let t = c.args.table.now in
     let w = get_or l.words l.j 0 in
-    let e = u.use_place.ensures in
+    let e = c.use_place.ensures in
     let o = l.invariant.0.old l.j (omega arith) in
-    let h : l.j < length s.args.words.now = omega (arith, l.invariant.1) in
-    let p = s.requires.by_index l.j h in
-    let rest : List ℕ → List ℕ = used_all (slots_there t (drop (l.j + 1) s.args.words.now)) in (
+    let h : l.j < length c.args.words.now = omega (arith, l.invariant.1) in
+    let p = c.requires.by_index l.j h in
+    let rest : List ℕ → List ℕ = used_all (slots_there t (drop (l.j + 1) c.args.words.now)) in (
       renew_more _ _ _ l.j _ l.invariant.0 (omega (arith, l.invariant.0.size)) (e.0 ∙ ap word_of (l.invariant.2.there (place_of w))),
       l.invariant.1,
       rw e.1 (still_more t l.table l.invariant.2 w (omega (arith, o, p, l.invariant.2.size))),
       ap rest e.1 ∙ ap (λ (n : ℕ). rest (used_all (closed_slot (condition_there l.table n)) l.table)) o
-          ∙ use_more t l.table s.args.words.now l.invariant.2 l.j h ∙ l.invariant.3,
+          ∙ use_more t l.table c.args.words.now l.invariant.2 l.j h ∙ l.invariant.3,
     )
 
 pub shape_of-table : goal.shape_of-table
@@ -48,9 +44,8 @@ shape_of-table c = c.loop-j.invariant.2.size
 pub returns : goal.returns
 returns c =
     let l = c.loop-j in
-    let s = c in
-    let ws = s.args.words.now in
+    let ws = c.args.words.now in
     let h : length ws ≤ l.j = omega (arith, l.invariant.1, c.loop-j-test.false) in (
       as_map _ ws l.words l.invariant.0.size (λ i k. l.invariant.0.new i (omega (arith, h, k))),
-      use_end s.args.table.now l.table ws l.j h ∙ l.invariant.3,
+      use_end c.args.table.now l.table ws l.j h ∙ l.invariant.3,
     )

@@ -27,43 +27,34 @@ passed c = let a = (start c).args in
 
 pub returns-then-number-ne0 : goal.returns-then-number-ne0
 returns-then-number-ne0 c =
-    let e = c in
-    let a = e.args in
+    let a = c.args in
     rw c.refused.ensures
-    (refused_by flush (box_of a.ssd.now a.hdd.now a.table.now a.state) _ _ (flush_judges a.ssd.now a.hdd.now a.table.now a.state) e.judge_ready-seen.result.number
-    (found _ a.table.now (record { 0 = 0 }) e.judge_ready-seen.ensures) c.if-number-ne0.true)
+    (refused_by flush (box_of a.ssd.now a.hdd.now a.table.now a.state) _ _ (flush_judges a.ssd.now a.hdd.now a.table.now a.state) c.judge_ready-seen.result.number
+    (found _ a.table.now (record { 0 = 0 }) c.judge_ready-seen.ensures) c.if-number-ne0.true)
 
 pub returns-then-not-state : goal.returns-then-not-state
 unfolding confirmed perform
 returns-then-not-state c =
-    let e = c in
-    let a = (start (goal.at.returns-then-not-state e).Else-number-ne0).args in
-    rw c.answered.ensures (flush_idle a.ssd.now a.hdd.now a.table.now a.state (passed (goal.at.returns-then-not-state e).Else-number-ne0) c.if-not-state.true)
+    let a = (start (goal.at.returns-then-not-state c).Else-number-ne0).args in
+    rw c.answered.ensures (flush_idle a.ssd.now a.hdd.now a.table.now a.state (passed (goal.at.returns-then-not-state c).Else-number-ne0) c.if-not-state.true)
 
 pub returns-then-top-state : goal.returns-then-top-state
 returns-then-top-state c =
-    let n = c in
-    let e = n in
-    let a = (start (goal.at.returns-then-top-state e).Else-number-ne0).args in
+    let a = (start (goal.at.returns-then-top-state c).Else-number-ne0).args in
     rw c.refused-then-top-state.ensures
-    (flush_spent a.ssd.now a.hdd.now a.table.now a.state (passed (goal.at.returns-then-top-state e).Else-number-ne0) n.if-not-state.false
-    (le-leb (largest_stamp (label_in a.state)) _ (omega (arith, n.largest_stamp-top.ensures, c.if-top-state.true))))
+    (flush_spent a.ssd.now a.hdd.now a.table.now a.state (passed (goal.at.returns-then-top-state c).Else-number-ne0) c.if-not-state.false
+    (le-leb (largest_stamp (label_in a.state)) _ (omega (arith, c.largest_stamp-top.ensures, c.if-top-state.true))))
 
 pub confirm-requires : goal.confirm-requires
 confirm-requires c =
-    let n = c in
-    let e = n in
-    let a = (start (goal.at.confirm-requires e).Else-number-ne0).args in
-    let B = ready a.ssd.now a.hdd.now 4096 a.table.now a.state (passed (goal.at.confirm-requires e).Else-number-ne0) in record { fits_record = B.box.fits; p_bound = meta_of-low (label_in a.state) (record { 0 = 0 }) B.box.sound.limits.some_slot; newest_bound = omega (arith, n.largest_stamp-top.ensures, c.if-top-state.false) }
+    let a = (start (goal.at.confirm-requires c).Else-number-ne0).args in
+    let B = ready a.ssd.now a.hdd.now 4096 a.table.now a.state (passed (goal.at.confirm-requires c).Else-number-ne0) in record { fits_record = B.box.fits; p_bound = meta_of-low (label_in a.state) (record { 0 = 0 }) B.box.sound.limits.some_slot; newest_bound = omega (arith, c.largest_stamp-top.ensures, c.if-top-state.false) }
 
 pub returns : goal.returns
 unfolding confirmed perform
 returns c =
-    let k = c in
-    let n = k in
-    let e = n in
-    let a = (start (goal.at.returns e).Else-number-ne0).args in
+    let a = (start (goal.at.returns c).Else-number-ne0).args in
     let z = c.confirm.ensures in
     rw (z.0, z.1)
-    (flush_done a.ssd.now a.hdd.now a.table.now a.state (passed (goal.at.returns e).Else-number-ne0) n.if-not-state.false
-    (lt-leb (largest_stamp (label_in a.state)) _ (omega (arith, n.largest_stamp-top.ensures, k.if-top-state.false))))
+    (flush_done a.ssd.now a.hdd.now a.table.now a.state (passed (goal.at.returns c).Else-number-ne0) c.if-not-state.false
+    (lt-leb (largest_stamp (label_in a.state)) _ (omega (arith, c.largest_stamp-top.ensures, c.if-top-state.false))))

@@ -17,6 +17,4 @@ returns-then-not-lengths_ok c = (rw (limits (goal.at.returns-then-not-lengths_ok
 
 pub returns : goal.returns
 returns c =
-    let t = c in
-    let k = t in
-    (rw (limits (goal.at.returns k).Else-not-within_limits, sym k.lengths_ok.ensures ∙ k.if-not-lengths_ok.false), t.clear_table.ensures)
+    (rw (limits (goal.at.returns c).Else-not-within_limits, sym c.lengths_ok.ensures ∙ c.if-not-lengths_ok.false), c.clear_table.ensures)

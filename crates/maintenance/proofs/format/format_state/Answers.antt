@@ -11,9 +11,8 @@ overflow_add-meta_span c = omega (arith, c.meta_span.ensures, span_few c.args.st
 
 pub returns-then-meta_span-done : goal.returns-then-meta_span-done
 returns-then-meta_span-done c =
-    let m = c in
-    let a = m.args in
-    let h : meta_span a.state.label + 1 ≤ a.done = rw (← m.meta_span.ensures) c.if-meta_span-done.true in
+    let a = c.args in
+    let h : meta_span a.state.label + 1 ≤ a.done = rw (← c.meta_span.ensures) c.if-meta_span-done.true in
     rw (c.with_phase.ensures, c.with_hand.ensures, c.with_stamp-next.ensures, format_state, le-leb _ _ h)
 
 pub overflow_add-done : goal.overflow_add-done
@@ -21,7 +20,6 @@ overflow_add-done c = omega (arith, c.meta_span.ensures, span_few c.args.state.l
 
 pub returns : goal.returns
 returns c =
-    let m = c in
-    let a = m.args in
-    let h : a.done < meta_span a.state.label + 1 = rw (← m.meta_span.ensures) c.if-meta_span-done.false in
+    let a = c.args in
+    let h : a.done < meta_span a.state.label + 1 = rw (← c.meta_span.ensures) c.if-meta_span-done.false in
     rw (c.with_phase-2.ensures, format_state, lt-leb _ _ h)

@@ -5,7 +5,7 @@ use Rattle.maintenance.proofs.FormatLaws.{label-stored, place-page, meta_step_st
 use Rattle.maintenance.proofs.format.format_store.Goals as goal
 
 pub clear_page-requires : goal.clear_page-requires
-clear_page-requires c = let s = c in rw s.requires.fits_record.ssd-size (label_within s.args.state.label)
+clear_page-requires c = rw c.requires.fits_record.ssd-size (label_within c.args.state.label)
 
 pub returns-then-done-eq0 : goal.returns-then-done-eq0
 returns-then-done-eq0 c =
@@ -17,27 +17,20 @@ encode_label-page-requires c = c.requires.state_value
 
 pub store-requires : goal.store-requires
 store-requires c =
-    let s = c in
-    record { holds = rw s.requires.fits_record.ssd-size (label_within s.args.state.label); page_len = search rules }
+    record { holds = rw c.requires.fits_record.ssd-size (label_within c.args.state.label); page_len = search rules }
 
 pub returns-then-meta_span-p : goal.returns-then-meta_span-p
 returns-then-meta_span-p c =
-    let m = c in
-    let s = m in
-    label-stored s.args.ssd.now s.args.table.now _ _ s.args.state _ s.args.done m.if-done-eq0.false
-    m.meta_span.ensures c.if-meta_span-p.true
+    label-stored c.args.ssd.now c.args.table.now _ _ c.args.state _ c.args.done c.if-done-eq0.false
+    c.meta_span.ensures c.if-meta_span-p.true
     c.encode_label-page.ensures c.store.ensures
 
 pub store_meta-requires : goal.store_meta-requires
 store_meta-requires c =
-    let m = c in
-    let s = m in
-    record { fits_record = s.requires.fits_record; p_bound = place-page s.args.state.label _ (rw (← m.meta_span.ensures) c.if-meta_span-p.false) }
+    record { fits_record = c.requires.fits_record; p_bound = place-page c.args.state.label _ (rw (← c.meta_span.ensures) c.if-meta_span-p.false) }
 
 pub returns : goal.returns
 returns c =
-    let m = c in
-    let s = m in
     let t = c.store_meta.ensures in
-    meta_step_stored s.args.ssd.now s.args.table.now _ _ s.args.state s.args.done m.if-done-eq0.false
-    (rw (← m.meta_span.ensures) c.if-meta_span-p.false) t.0 t.1
+    meta_step_stored c.args.ssd.now c.args.table.now _ _ c.args.state c.args.done c.if-done-eq0.false
+    (rw (← c.meta_span.ensures) c.if-meta_span-p.false) t.0 t.1

@@ -36,18 +36,16 @@ done c k e o = let a = (start c).args in
 
 pub returns-then-number-ne0 : goal.returns-then-number-ne0
 returns-then-number-ne0 c =
-    let e = c in
-    let a = e.args in
+    let a = c.args in
     rw c.refused.ensures
-    (refused_by (writeBack a.block) (box_of a.ssd.now a.hdd.now a.table.now a.state) _ _ (write_back_judges a.ssd.now a.hdd.now a.table.now a.state a.block) e.judge_block-seen.result.number
-    (found _ a.table.now a.block e.judge_block-seen.ensures) c.if-number-ne0.true)
+    (refused_by (writeBack a.block) (box_of a.ssd.now a.hdd.now a.table.now a.state) _ _ (write_back_judges a.ssd.now a.hdd.now a.table.now a.state a.block) c.judge_block-seen.result.number
+    (found _ a.table.now a.block c.judge_block-seen.ensures) c.if-number-ne0.true)
 
 pub copy_out-stored-requires : goal.copy_out-stored-requires
 copy_out-stored-requires c =
-    let e = c in
-    let R = (known (goal.at.copy_out-stored-requires e).Else-number-ne0).row _ c.in-Dirty.is in
-    let L = (known (goal.at.copy_out-stored-requires e).Else-number-ne0).box.box.sound in
-    record { fits_record = (known (goal.at.copy_out-stored-requires e).Else-number-ne0).box.box.fits; hdd_len = L.hdd-size; blocks_bound = L.limits.blocks-most; s_lt_slots = R.low; s_bound = rw R.block_is (known (goal.at.copy_out-stored-requires e).Else-number-ne0).low; s_value = R.dirty_is }
+    let R = (known (goal.at.copy_out-stored-requires c).Else-number-ne0).row _ c.in-Dirty.is in
+    let L = (known (goal.at.copy_out-stored-requires c).Else-number-ne0).box.box.sound in
+    record { fits_record = (known (goal.at.copy_out-stored-requires c).Else-number-ne0).box.box.fits; hdd_len = L.hdd-size; blocks_bound = L.limits.blocks-most; s_lt_slots = R.low; s_bound = rw R.block_is (known (goal.at.copy_out-stored-requires c).Else-number-ne0).low; s_value = R.dirty_is }
 
 pub returns-in-NotCached : goal.returns-in-NotCached
 unfolding perform

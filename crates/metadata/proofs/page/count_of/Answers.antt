@@ -4,5 +4,4 @@ use Rattle.metadata.proofs.page.count_of.Goals as goal
 
 pub returns : goal.returns
 returns c =
-    let s = c in
-    omega (arith, count-bytes s.args.page.now s.requires)
+    omega (arith, count-bytes c.args.page.now c.requires)

@@ -21,13 +21,12 @@ flags_word f =
 pub returns : goal.returns
 unfolding entry_bytes
 returns c =
-    let s = c in
-    let part : List ℕ = s.args.part.now in
-    let a : List ℕ = le_bytes 4 s.args.block in
-    let f : List ℕ = le_bytes 4 (s.args.flags % 8) in
+    let part : List ℕ = c.args.part.now in
+    let a : List ℕ = le_bytes 4 c.args.block in
+    let f : List ℕ = le_bytes 4 (c.args.flags % 8) in
     c.put_word-2.ensures
     ∙ ap (λ (l : List ℕ). put_mid 4 4 l f) c.put_word.ensures
-    ∙ chunk_more part a f 0 4 4 (length-le_bytes 4 _) (omega (arith, s.requires))
-    ∙ ap (λ (l : List ℕ). (a ++ f) ++ l) (drop_of_length-le part {i = 8} (omega (arith, s.requires)))
+    ∙ chunk_more part a f 0 4 4 (length-le_bytes 4 _) (omega (arith, c.requires))
+    ∙ ap (λ (l : List ℕ). (a ++ f) ++ l) (drop_of_length-le part {i = 8} (omega (arith, c.requires)))
     ∙ append-nil (a ++ f)
-    ∙ ap (λ (l : List ℕ). a ++ l) (flags_word s.args.flags)
+    ∙ ap (λ (l : List ℕ). a ++ l) (flags_word c.args.flags)

@@ -18,23 +18,21 @@ loop-i-init c = (omega arith, omega arith, search rules, sym (take-append-drop 5
 pub loop-i-preserved : goal.loop-i-preserved
 loop-i-preserved c =
     let l = c.loop-i in
-    let s = c in
-    let rows : List ℕ = s.args.rows.now in
-    let lt : l.i + 1 < length rows = omega (arith, s.requires.rows_len) in
+    let rows : List ℕ = c.args.rows.now in
+    let lt : l.i + 1 < length rows = omega (arith, c.requires.rows_len) in
     let w = c.write_entry.ensures in (
       omega arith,
       omega arith,
       search rules,
       (λ i. put_mid (512 + 4 * l.i) (add-sub_cancel_left (512 + 4 * l.i) 8 i) l.page (w i))
-          ∙ row_turn s.args.page.now l.page rows l.i s.requires.page_len s.requires.rows_len_bound l.invariant.1 lt l.invariant.3,
+          ∙ row_turn c.args.page.now l.page rows l.i c.requires.page_len c.requires.rows_len_bound l.invariant.1 lt l.invariant.3,
     )
 
 pub returns : goal.returns
 returns c =
     let l = c.loop-i in
-    let s = c in
-    let rows : List ℕ = s.args.rows.now in
+    let rows : List ℕ = c.args.rows.now in
     let e : l.i ≡ length rows = omega arith in
     l.invariant.3
-    ∙ ap (λ (k : ℕ). put_mid 512 (4 * k) s.args.page.now (rows_bytes (take k rows))) e
-    ∙ ap (λ (r : List ℕ). put_mid 512 (4 * length rows) s.args.page.now (rows_bytes r)) (take-length rows)
+    ∙ ap (λ (k : ℕ). put_mid 512 (4 * k) c.args.page.now (rows_bytes (take k rows))) e
+    ∙ ap (λ (r : List ℕ). put_mid 512 (4 * length rows) c.args.page.now (rows_bytes r)) (take-length rows)

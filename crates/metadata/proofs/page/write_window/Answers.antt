@@ -16,17 +16,15 @@ loop-i-init c = (omega arith, search rules, sym (take-append-drop 16 c.args.page
 pub loop-i-preserved : goal.loop-i-preserved
 loop-i-preserved c =
     let l = c.loop-i in
-    let s = c in
     let w = c.put_word.ensures in
-    let all : length s.args.w.slots ≡ 63 = search (rules, length-mapped) in (
+    let all : length c.args.w.slots ≡ 63 = search (rules, length-mapped) in (
       omega arith,
       search rules,
-      w ∙ slot_turn s.args.page.now l.page s.args.w.slots l.i _ s.requires.page_len (omega arith) (omega (arith, s.requires.count_le_window_most)) l.invariant.2,
+      w ∙ slot_turn c.args.page.now l.page c.args.w.slots l.i _ c.requires.page_len (omega arith) (omega (arith, c.requires.count_le_window_most)) l.invariant.2,
     )
 
 pub returns : goal.returns
 returns c =
     let l = c.loop-i in
-    let s = c in
-    let e : l.i ≡ s.args.w.count = omega arith in
-    l.invariant.2 ∙ ap (λ (k : ℕ). put_mid 16 (4 * k) s.args.page.now (slots_bytes (take k s.args.w.slots))) e
+    let e : l.i ≡ c.args.w.count = omega arith in
+    l.invariant.2 ∙ ap (λ (k : ℕ). put_mid 16 (4 * k) c.args.page.now (slots_bytes (take k c.args.w.slots))) e

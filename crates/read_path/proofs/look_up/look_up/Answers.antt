@@ -14,12 +14,11 @@ use Rattle.read_path.proofs.look_up.look_up.Goals.{Else-number-ne0, Start}
 
 pub returns-then-number-ne0 : goal.returns-then-number-ne0
 returns-then-number-ne0 c =
-    let e = c in
-    let a = e.args in
+    let a = c.args in
     rw c.refused.ensures
     (refused_by (lookUp a.block) (box_of a.ssd.now a.hdd.now a.table.now a.state) _ _
     (look_up_judges a.ssd.now a.hdd.now a.table.now a.state a.block)
-    e.judge_block-seen.result.number (found _ a.table.now a.block e.judge_block-seen.ensures) c.if-number-ne0.true)
+    c.judge_block-seen.result.number (found _ a.table.now a.block c.judge_block-seen.ensures) c.if-number-ne0.true)
 
 -- 3 to 7 are passed
 abbrev start : Else-number-ne0 → Start
@@ -39,17 +38,15 @@ done c k e = let a = (start c).args in
 
 pub use_slot-requires : goal.use_slot-requires
 use_slot-requires c =
-    let e = c in
-    let a = (start (goal.at.use_slot-requires e).Else-number-ne0).args in
-    let R = (known (goal.at.use_slot-requires e).Else-number-ne0).row _ c.in-Clean.is in
-    record { s_in_bounds = R.within; s_bound = flags_low a.state a.table.now (known (goal.at.use_slot-requires e).Else-number-ne0).box.box.sound.table-size (known (goal.at.use_slot-requires e).Else-number-ne0).box.box.rows _ R.low }
+    let a = (start (goal.at.use_slot-requires c).Else-number-ne0).args in
+    let R = (known (goal.at.use_slot-requires c).Else-number-ne0).row _ c.in-Clean.is in
+    record { s_in_bounds = R.within; s_bound = flags_low a.state a.table.now (known (goal.at.use_slot-requires c).Else-number-ne0).box.box.sound.table-size (known (goal.at.use_slot-requires c).Else-number-ne0).box.box.rows _ R.low }
 
 pub use_slot-requires-in-Dirty : goal.use_slot-requires-in-Dirty
 use_slot-requires-in-Dirty c =
-    let e = c in
-    let a = (start (goal.at.use_slot-requires-in-Dirty e).Else-number-ne0).args in
-    let R = (known (goal.at.use_slot-requires-in-Dirty e).Else-number-ne0).row _ c.in-Dirty.is in
-    record { s_in_bounds = R.within; s_bound = flags_low a.state a.table.now (known (goal.at.use_slot-requires-in-Dirty e).Else-number-ne0).box.box.sound.table-size (known (goal.at.use_slot-requires-in-Dirty e).Else-number-ne0).box.box.rows _ R.low }
+    let a = (start (goal.at.use_slot-requires-in-Dirty c).Else-number-ne0).args in
+    let R = (known (goal.at.use_slot-requires-in-Dirty c).Else-number-ne0).row _ c.in-Dirty.is in
+    record { s_in_bounds = R.within; s_bound = flags_low a.state a.table.now (known (goal.at.use_slot-requires-in-Dirty c).Else-number-ne0).box.box.sound.table-size (known (goal.at.use_slot-requires-in-Dirty c).Else-number-ne0).box.box.rows _ R.low }
 
 pub returns-in-NotCached : goal.returns-in-NotCached
 unfolding perform
@@ -60,16 +57,12 @@ returns-in-NotCached c =
 pub returns-in-Clean : goal.returns-in-Clean
 unfolding perform
 returns-in-Clean c =
-    let u = c in
-    let k = u in
-    rw (c.answered-in-Clean.ensures, u.use_slot.ensures) (done (goal.at.returns-in-Clean k).Else-number-ne0 _ k.in-Clean.is)
+    rw (c.answered-in-Clean.ensures, c.use_slot.ensures) (done (goal.at.returns-in-Clean c).Else-number-ne0 _ c.in-Clean.is)
 
 pub returns-in-Dirty : goal.returns-in-Dirty
 unfolding perform
 returns-in-Dirty c =
-    let u = c in
-    let k = u in
-    rw (c.answered-in-Dirty.ensures, u.use_slot-in-Dirty.ensures) (done (goal.at.returns-in-Dirty k).Else-number-ne0 _ k.in-Dirty.is)
+    rw (c.answered-in-Dirty.ensures, c.use_slot-in-Dirty.ensures) (done (goal.at.returns-in-Dirty c).Else-number-ne0 _ c.in-Dirty.is)
 
 pub returns-in-Writing : goal.returns-in-Writing
 unfolding perform

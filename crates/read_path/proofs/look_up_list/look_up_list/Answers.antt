@@ -16,10 +16,9 @@ use Rattle.read_path.proofs.look_up_list.look_up_list.Goals.{After-judge_list-li
 
 pub returns-then-number-ne0 : goal.returns-then-number-ne0
 returns-then-number-ne0 c =
-    let e = c in
-    let a = e.args in
-    let r = list_unready a.ssd.now a.hdd.now a.table.now a.state a.blocks.now a.words.now e.judge_ready-seen.result.number
-    (found _ a.table.now (record { 0 = 0 }) e.judge_ready-seen.ensures) c.if-number-ne0.true in
+    let a = c.args in
+    let r = list_unready a.ssd.now a.hdd.now a.table.now a.state a.blocks.now a.words.now c.judge_ready-seen.result.number
+    (found _ a.table.now (record { 0 = 0 }) c.judge_ready-seen.ensures) c.if-number-ne0.true in
     (rw c.refused.ensures r.0, r.1)
 
 -- what is found where 3 to 6 are passed
@@ -36,11 +35,9 @@ box e = let a = (start e).args in ready a.ssd.now a.hdd.now 4096 a.table.now a.s
 
 pub returns-then-listed-ne0 : goal.returns-then-listed-ne0
 returns-then-listed-ne0 c =
-    let j = c in
-    let e = j in
-    let a = (start (goal.at.returns-then-listed-ne0 e).Else-number-ne0).args in
-    let r = list-refused a.ssd.now a.hdd.now a.table.now a.state a.blocks.now a.words.now (passed (goal.at.returns-then-listed-ne0 e).Else-number-ne0)
-    j.judge_list-listed.result j.judge_list-listed.ensures c.if-listed-ne0.true in
+    let a = (start (goal.at.returns-then-listed-ne0 c).Else-number-ne0).args in
+    let r = list-refused a.ssd.now a.hdd.now a.table.now a.state a.blocks.now a.words.now (passed (goal.at.returns-then-listed-ne0 c).Else-number-ne0)
+    c.judge_list-listed.result c.judge_list-listed.ensures c.if-listed-ne0.true in
     (rw c.refused-then-listed-ne0.ensures r.0, r.1)
 
 -- and where the list is not refused
@@ -51,30 +48,22 @@ fits j z = let a = (start (goal.at.After-judge_list-listed j).Else-number-ne0).a
 
 pub locate-requires : goal.locate-requires
 locate-requires c =
-    let j = c in
-    let e = j in
-    let a = (start (goal.at.locate-requires e).Else-number-ne0).args in
-    record { table_len = (box (goal.at.locate-requires e).Else-number-ne0).box.sound.table-size; words_len = sym (fits (goal.at.locate-requires j).After-judge_list-listed c.if-listed-ne0.false); slots_bound = (box (goal.at.locate-requires e).Else-number-ne0).box.ranges.slots-most }
+    let a = (start (goal.at.locate-requires c).Else-number-ne0).args in
+    record { table_len = (box (goal.at.locate-requires c).Else-number-ne0).box.sound.table-size; words_len = sym (fits (goal.at.locate-requires c).After-judge_list-listed c.if-listed-ne0.false); slots_bound = (box (goal.at.locate-requires c).Else-number-ne0).box.ranges.slots-most }
 
 pub use_places-requires : goal.use_places-requires
 use_places-requires c =
-    let k = c in
-    let e = k in
-    let a = (start (goal.at.use_places-requires e).Else-number-ne0).args in record { by_index = λ j h. subst (λ (ws : List ℕ). 2 * get_or ws j 0 ≤ length a.table.now) (sym k.locate.ensures) (places_in_is a.table.now a.blocks.now j); by_index_2 = rows-low a.state a.table.now (box (goal.at.use_places-requires e).Else-number-ne0).box.sound.table-size (box (goal.at.use_places-requires e).Else-number-ne0).box.rows }
+    let a = (start (goal.at.use_places-requires c).Else-number-ne0).args in record { by_index = λ j h. subst (λ (ws : List ℕ). 2 * get_or ws j 0 ≤ length a.table.now) (sym c.locate.ensures) (places_in_is a.table.now a.blocks.now j); by_index_2 = rows-low a.state a.table.now (box (goal.at.use_places-requires c).Else-number-ne0).box.sound.table-size (box (goal.at.use_places-requires c).Else-number-ne0).box.rows }
 
 pub returns : goal.returns
 unfolding perform
 returns c =
-    let u = c in
-    let k = u in
-    let f = k in
-    let j = f in
-    let e = j in
+    let e = c in
     let a = (start (goal.at.returns e).Else-number-ne0).args in
     let t = a.table.now in
-    let ws = k.locate.ensures in
-    let r = list_is a.ssd.now a.hdd.now t a.state a.blocks.now a.words.now (passed (goal.at.returns e).Else-number-ne0) (sym j.judge_list-listed.ensures ∙ f.if-listed-ne0.false) in
-    let rows = u.use_places.ensures.1 ∙ ap (λ (w : List ℕ). used_all (slots_there t w) t) ws
+    let ws = c.locate.ensures in
+    let r = list_is a.ssd.now a.hdd.now t a.state a.blocks.now a.words.now (passed (goal.at.returns e).Else-number-ne0) (sym c.judge_list-listed.ensures ∙ c.if-listed-ne0.false) in
+    let rows = c.use_places.ensures.1 ∙ ap (λ (w : List ℕ). used_all (slots_there t w) t) ws
     ∙ ap (λ (ss : List Slot). used_all ss t) (slots_are t a.blocks.now) in
-    let words = u.use_places.ensures.0 ∙ ap (closed_words t) ws ∙ words_are t a.blocks.now in
+    let words = c.use_places.ensures.0 ∙ ap (closed_words t) ws ∙ words_are t a.blocks.now in
     (rw (c.answered.ensures, rows) r.0, words ∙ r.1)

@@ -29,70 +29,59 @@ seen c k e = let a = (start c).args in
 
 pub returns-then-number-ne0 : goal.returns-then-number-ne0
 returns-then-number-ne0 c =
-    let e = c in
-    let a = e.args in
+    let a = c.args in
     rw (zero-add)
-    (view_refused (part a.ssd) (part a.hdd) a.table.now a.state a.block e.judge_block-seen.result.number
-    (found _ a.table.now a.block e.judge_block-seen.ensures) c.if-number-ne0.true)
+    (view_refused (part a.ssd) (part a.hdd) a.table.now a.state a.block c.judge_block-seen.result.number
+    (found _ a.table.now a.block c.judge_block-seen.ensures) c.if-number-ne0.true)
 
 pub page_at-requires : goal.page_at-requires
 page_at-requires c =
-    let e = c in
-    let a = (start (goal.at.page_at-requires e).Else-number-ne0).args in
-    block_holds a.hdd.now a.state.label a.block _ (known (goal.at.page_at-requires e).Else-number-ne0).box.box.sound.hdd-size (known (goal.at.page_at-requires e).Else-number-ne0).low c.block_place.ensures
+    let a = (start (goal.at.page_at-requires c).Else-number-ne0).args in
+    block_holds a.hdd.now a.state.label a.block _ (known (goal.at.page_at-requires c).Else-number-ne0).box.box.sound.hdd-size (known (goal.at.page_at-requires c).Else-number-ne0).low c.block_place.ensures
 
 pub page_at-requires-in-Clean : goal.page_at-requires-in-Clean
 page_at-requires-in-Clean c =
-    let e = c in
-    let a = (start (goal.at.page_at-requires-in-Clean e).Else-number-ne0).args in
-    let R = (known (goal.at.page_at-requires-in-Clean e).Else-number-ne0).row _ c.in-Clean.is in
-    data_holds a.ssd.now a.state.label _ _ (known (goal.at.page_at-requires-in-Clean e).Else-number-ne0).box.box.sound.ssd-size R.low c.data_place.ensures
+    let a = (start (goal.at.page_at-requires-in-Clean c).Else-number-ne0).args in
+    let R = (known (goal.at.page_at-requires-in-Clean c).Else-number-ne0).row _ c.in-Clean.is in
+    data_holds a.ssd.now a.state.label _ _ (known (goal.at.page_at-requires-in-Clean c).Else-number-ne0).box.box.sound.ssd-size R.low c.data_place.ensures
 
 pub page_at-requires-in-Dirty : goal.page_at-requires-in-Dirty
 page_at-requires-in-Dirty c =
-    let e = c in
-    let a = (start (goal.at.page_at-requires-in-Dirty e).Else-number-ne0).args in
-    let R = (known (goal.at.page_at-requires-in-Dirty e).Else-number-ne0).row _ c.in-Dirty.is in
-    data_holds a.ssd.now a.state.label _ _ (known (goal.at.page_at-requires-in-Dirty e).Else-number-ne0).box.box.sound.ssd-size R.low c.data_place-in-Dirty.ensures
+    let a = (start (goal.at.page_at-requires-in-Dirty c).Else-number-ne0).args in
+    let R = (known (goal.at.page_at-requires-in-Dirty c).Else-number-ne0).row _ c.in-Dirty.is in
+    data_holds a.ssd.now a.state.label _ _ (known (goal.at.page_at-requires-in-Dirty c).Else-number-ne0).box.box.sound.ssd-size R.low c.data_place-in-Dirty.ensures
 
 pub page_at-requires-in-Writing : goal.page_at-requires-in-Writing
 page_at-requires-in-Writing c =
-    let e = c in
-    let a = (start (goal.at.page_at-requires-in-Writing e).Else-number-ne0).args in
-    block_holds a.hdd.now a.state.label a.block _ (known (goal.at.page_at-requires-in-Writing e).Else-number-ne0).box.box.sound.hdd-size (known (goal.at.page_at-requires-in-Writing e).Else-number-ne0).low c.block_place-in-Writing.ensures
+    let a = (start (goal.at.page_at-requires-in-Writing c).Else-number-ne0).args in
+    block_holds a.hdd.now a.state.label a.block _ (known (goal.at.page_at-requires-in-Writing c).Else-number-ne0).box.box.sound.hdd-size (known (goal.at.page_at-requires-in-Writing c).Else-number-ne0).low c.block_place-in-Writing.ensures
 
 pub page_at-requires-in-Fetching : goal.page_at-requires-in-Fetching
 page_at-requires-in-Fetching c =
-    let e = c in
-    let a = (start (goal.at.page_at-requires-in-Fetching e).Else-number-ne0).args in
-    block_holds a.hdd.now a.state.label a.block _ (known (goal.at.page_at-requires-in-Fetching e).Else-number-ne0).box.box.sound.hdd-size (known (goal.at.page_at-requires-in-Fetching e).Else-number-ne0).low c.block_place-in-Fetching.ensures
+    let a = (start (goal.at.page_at-requires-in-Fetching c).Else-number-ne0).args in
+    block_holds a.hdd.now a.state.label a.block _ (known (goal.at.page_at-requires-in-Fetching c).Else-number-ne0).box.box.sound.hdd-size (known (goal.at.page_at-requires-in-Fetching c).Else-number-ne0).low c.block_place-in-Fetching.ensures
 
 pub returns-in-NotCached : goal.returns-in-NotCached
 returns-in-NotCached c =
-    let e = c in
-    rw (e.if-number-ne0.false, c.page_at.ensures, c.block_place.ensures)
-    (seen (goal.at.returns-in-NotCached e).Else-number-ne0 _ c.in-NotCached.is)
+    rw (c.if-number-ne0.false, c.page_at.ensures, c.block_place.ensures)
+    (seen (goal.at.returns-in-NotCached c).Else-number-ne0 _ c.in-NotCached.is)
 
 pub returns-in-Clean : goal.returns-in-Clean
 returns-in-Clean c =
-    let e = c in
-    rw (e.if-number-ne0.false, c.page_at-in-Clean.ensures, c.data_place.ensures)
-    (seen (goal.at.returns-in-Clean e).Else-number-ne0 _ c.in-Clean.is)
+    rw (c.if-number-ne0.false, c.page_at-in-Clean.ensures, c.data_place.ensures)
+    (seen (goal.at.returns-in-Clean c).Else-number-ne0 _ c.in-Clean.is)
 
 pub returns-in-Dirty : goal.returns-in-Dirty
 returns-in-Dirty c =
-    let e = c in
-    rw (e.if-number-ne0.false, c.page_at-in-Dirty.ensures, c.data_place-in-Dirty.ensures)
-    (seen (goal.at.returns-in-Dirty e).Else-number-ne0 _ c.in-Dirty.is)
+    rw (c.if-number-ne0.false, c.page_at-in-Dirty.ensures, c.data_place-in-Dirty.ensures)
+    (seen (goal.at.returns-in-Dirty c).Else-number-ne0 _ c.in-Dirty.is)
 
 pub returns-in-Writing : goal.returns-in-Writing
 returns-in-Writing c =
-    let e = c in
-    rw (e.if-number-ne0.false, c.page_at-in-Writing.ensures, c.block_place-in-Writing.ensures)
-    (seen (goal.at.returns-in-Writing e).Else-number-ne0 _ c.in-Writing.is)
+    rw (c.if-number-ne0.false, c.page_at-in-Writing.ensures, c.block_place-in-Writing.ensures)
+    (seen (goal.at.returns-in-Writing c).Else-number-ne0 _ c.in-Writing.is)
 
 pub returns-in-Fetching : goal.returns-in-Fetching
 returns-in-Fetching c =
-    let e = c in
-    rw (e.if-number-ne0.false, c.page_at-in-Fetching.ensures, c.block_place-in-Fetching.ensures)
-    (seen (goal.at.returns-in-Fetching e).Else-number-ne0 _ c.in-Fetching.is)
+    rw (c.if-number-ne0.false, c.page_at-in-Fetching.ensures, c.block_place-in-Fetching.ensures)
+    (seen (goal.at.returns-in-Fetching c).Else-number-ne0 _ c.in-Fetching.is)

@@ -3,6 +3,5 @@ use Rattle.record.proofs.state.joined.Goals as goal
 
 pub returns : goal.returns
 returns c =
-    let s = c in
-    let a = s.args in
-    joined_is a.r (parts a.r s.requires.r_value) a.s a.caller a.hand s.requires.count_lt_window_most
+    let a = c.args in
+    joined_is a.r (parts a.r c.requires.r_value) a.s a.caller a.hand c.requires.count_lt_window_most

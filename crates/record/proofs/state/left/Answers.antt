@@ -13,23 +13,19 @@ use Rattle.record.proofs.state.left.Goals as goal
 
 pub leave-left-requires : goal.leave-left-requires
 leave-left-requires c =
-    let s = c in
-    rw (c.window_of.ensures, window_is s.args.r) record { count_le_window_most = (parts s.args.r s.requires.r_value).most; w_value = s.requires.r_value_2 }
+    rw (c.window_of.ensures, window_is c.args.r) record { count_le_window_most = (parts c.args.r c.requires.r_value).most; w_value = c.requires.r_value_2 }
 
 pub overflow_sub-next : goal.overflow_sub-next
 overflow_sub-next c =
-    let s = c in
-    some_slot s.args.s s.args.r.window s.args.r.count (rw (window_is s.args.r) s.requires.r_value_2)
+    some_slot c.args.s c.args.r.window c.args.r.count (rw (window_is c.args.r) c.requires.r_value_2)
 
 pub returns : goal.returns
 returns c =
-    let l = c in
-    let s = l in
-    let r = s.args.r in
-    let e = rw (l.window_of.ensures, window_is r, callers_is r) at l.leave-left.ensures in
-    let w : l.leave-left.result.slots ≡ array_of (without s.args.s (window_in r)) = ap (λ (p : Places). p.slots) e in
-    let n : r.count - 1 ≡ length (without s.args.s (window_in r)) = one_less r s.args.s (parts r s.requires.r_value) s.requires.r_value_2 in
-    let k : l.leave-left.result.callers ≡ caller_array (beside s.args.s (window_in r) (callers_in r)) = ap (λ (p : Places). p.callers) e in
+    let r = c.args.r in
+    let e = rw (c.window_of.ensures, window_is r, callers_is r) at c.leave-left.ensures in
+    let w : c.leave-left.result.slots ≡ array_of (without c.args.s (window_in r)) = ap (λ (p : Places). p.slots) e in
+    let n : r.count - 1 ≡ length (without c.args.s (window_in r)) = one_less r c.args.s (parts r c.requires.r_value) c.requires.r_value_2 in
+    let k : c.leave-left.result.callers ≡ caller_array (beside c.args.s (window_in r) (callers_in r)) = ap (λ (p : Places). p.callers) e in
     λ i.
     record {
       label = r.label;

@@ -43,70 +43,62 @@ overflow_sub-last c = some (goal.at.overflow_sub-last c).Start
 
 pub loop-i-init : goal.loop-i-init
 loop-i-init c =
-    let s = c in
-    let z = length-take (s.args.w.count - 1 + 1) s.args.w.slots in (
-      leaving_begin s.args.s (take (s.args.w.count - 1 + 1) s.args.w.slots) (here (goal.at.loop-i-init s).Start) (omega (arith, last_place (goal.at.loop-i-init s).Start, s.requires.count_le_window_most)),
-      moved_begin _ s.args.s _ _ (omega arith),
-      moved_begin 0 s.args.s _ _ (same_size (goal.at.loop-i-init s).Start),
+    let z = length-take (c.args.w.count - 1 + 1) c.args.w.slots in (
+      leaving_begin c.args.s (take (c.args.w.count - 1 + 1) c.args.w.slots) (here (goal.at.loop-i-init c).Start) (omega (arith, last_place (goal.at.loop-i-init c).Start, c.requires.count_le_window_most)),
+      moved_begin _ c.args.s _ _ (omega arith),
+      moved_begin 0 c.args.s _ _ (same_size (goal.at.loop-i-init c).Start),
     )
 
 -- the place that is read is at most one on
 one_on : (c : After-met-gone) → c.met-gone.result ≤ 1
 one_on c =
     let l = c.loop-i in
-    let s = c in
-    next_most s.args.s s.args.w.slots (s.args.w.count - 1 + 1) l.gone l.i _ _ l.invariant.0 c.met-gone.ensures
+    next_most c.args.s c.args.w.slots (c.args.w.count - 1 + 1) l.gone l.i _ _ l.invariant.0 c.met-gone.ensures
 
 pub overflow_add-k : goal.overflow_add-k
 overflow_add-k c = omega (arith, one_on c)
 
 pub offset_bounds-slots-k : goal.offset_bounds-slots-k
 offset_bounds-slots-k c =
-    let s = c in
-    omega (arith, one_on c, some (goal.at.offset_bounds-slots-k s).Start, s.requires.count_le_window_most)
+    omega (arith, one_on c, some (goal.at.offset_bounds-slots-k c).Start, c.requires.count_le_window_most)
 
 pub bounds-slots-k : goal.bounds-slots-k
 bounds-slots-k c =
-    let s = c in
-    omega (arith, one_on c, some (goal.at.bounds-slots-k s).Start, s.requires.count_le_window_most)
+    omega (arith, one_on c, some (goal.at.bounds-slots-k c).Start, c.requires.count_le_window_most)
 
 pub offset_bounds-callers-k : goal.offset_bounds-callers-k
 offset_bounds-callers-k c =
-    let s = c in
-    omega (arith, one_on (goal.at.offset_bounds-callers-k c).After-met-gone, some (goal.at.offset_bounds-callers-k s).Start, s.requires.count_le_window_most)
+    omega (arith, one_on (goal.at.offset_bounds-callers-k c).After-met-gone, some (goal.at.offset_bounds-callers-k c).Start, c.requires.count_le_window_most)
 
 pub bounds-callers-k : goal.bounds-callers-k
 bounds-callers-k c =
-    let s = c in
-    omega (arith, one_on (goal.at.bounds-callers-k c).After-met-gone, some (goal.at.bounds-callers-k s).Start, s.requires.count_le_window_most)
+    omega (arith, one_on (goal.at.bounds-callers-k c).After-met-gone, some (goal.at.bounds-callers-k c).Start, c.requires.count_le_window_most)
 
 pub loop-i-preserved : goal.loop-i-preserved
 loop-i-preserved c =
     let l = c.loop-i in
-    let s = c in
-    let n = s.args.w.count - 1 + 1 in
+    let n = c.args.w.count - 1 + 1 in
     let g = c.met-gone.result in
     let e = c.met-gone.ensures in
     let h : l.i + 1 < n = omega arith in
-    let m : n ≤ length s.args.w.slots = omega (arith, size (goal.at.loop-i-preserved s).Start, last_place (goal.at.loop-i-preserved s).Start, s.requires.count_le_window_most) in
-    let k : n ≤ length s.args.callers = omega (arith, callers-size (goal.at.loop-i-preserved s).Start, last_place (goal.at.loop-i-preserved s).Start, s.requires.count_le_window_most) in (
-      one_place s.args.s s.args.w.slots n l.gone l.i g _ l.invariant.0 e h m,
-      moved_on s.args.s s.args.w.slots n l.gone l.i g _ l.invariant.0 e h m _ s.args.w.slots l.left (here (goal.at.loop-i-preserved s).Start) m l.invariant.1,
-      moved_on s.args.s s.args.w.slots n l.gone l.i g _ l.invariant.0 e h m 0 s.args.callers l.named (here (goal.at.loop-i-preserved s).Start) k l.invariant.2,
+    let m : n ≤ length c.args.w.slots = omega (arith, size (goal.at.loop-i-preserved c).Start, last_place (goal.at.loop-i-preserved c).Start, c.requires.count_le_window_most) in
+    let k : n ≤ length c.args.callers = omega (arith, callers-size (goal.at.loop-i-preserved c).Start, last_place (goal.at.loop-i-preserved c).Start, c.requires.count_le_window_most) in (
+      one_place c.args.s c.args.w.slots n l.gone l.i g _ l.invariant.0 e h m,
+      moved_on c.args.s c.args.w.slots n l.gone l.i g _ l.invariant.0 e h m _ c.args.w.slots l.left (here (goal.at.loop-i-preserved c).Start) m l.invariant.1,
+      moved_on c.args.s c.args.w.slots n l.gone l.i g _ l.invariant.0 e h m 0 c.args.callers l.named (here (goal.at.loop-i-preserved c).Start) k l.invariant.2,
     )
 
 pub returns : goal.returns
 returns c =
     let l = c.loop-i in
-    let s = c in
-    let n = s.args.w.count - 1 + 1 in
-    let w = take n s.args.w.slots in
-    let z = length-take n s.args.w.slots in
-    let a : l.left ≡ array_of (without s.args.s w) =
-    all_moved _ s.args.s w w l.left l.i l.invariant.1 (omega arith) (here (goal.at.returns s).Start) ∙ padded-slots _
-    ∙ ap array_of (sym (without-beside s.args.s w))
+    let n = c.args.w.count - 1 + 1 in
+    let w = take n c.args.w.slots in
+    let z = length-take n c.args.w.slots in
+    let a : l.left ≡ array_of (without c.args.s w) =
+    all_moved _ c.args.s w w l.left l.i l.invariant.1 (omega arith) (here (goal.at.returns c).Start) ∙ padded-slots _
+    ∙ ap array_of (sym (without-beside c.args.s w))
     in
-    let b : l.named ≡ caller_array (beside s.args.s w (take n s.args.callers)) =
-    all_moved 0 s.args.s w _ l.named l.i l.invariant.2 (omega arith) (here (goal.at.returns s).Start) ∙ padded-callers _
+    let b : l.named ≡ caller_array (beside c.args.s w (take n c.args.callers)) =
+    all_moved 0 c.args.s w _ l.named l.i l.invariant.2 (omega arith) (here (goal.at.returns c).Start) ∙ padded-callers _
     in
-    (λ i. record { slots = (rw (last_place (goal.at.returns s).Start) at a) i; callers = (rw (last_place (goal.at.returns s).Start) at b) i })
+    (λ i. record { slots = (rw (last_place (goal.at.returns c).Start) at a) i; callers = (rw (last_place (goal.at.returns c).Start) at b) i })

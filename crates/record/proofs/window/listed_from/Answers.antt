@@ -13,20 +13,18 @@ use Rattle.record.proofs.window.listed_from.Goals as goal
 pub returns-then-s-t : goal.returns-then-s-t
 returns-then-s-t c =
     let l = c.loop-i in
-    let s = c in
-    let all : length s.args.w.slots ≡ 63 = search (rules, length-mapped) in
-    hit (eqb s.args.s.0 (get_or s.args.w.slots l.i _).0) _ l.invariant.1
-    (listed-left s.args.w.slots s.args.w.count l.i _ (omega arith) (omega (arith, s.requires)) s.args.s)
+    let all : length c.args.w.slots ≡ 63 = search (rules, length-mapped) in
+    hit (eqb c.args.s.0 (get_or c.args.w.slots l.i _).0) _ l.invariant.1
+    (listed-left c.args.w.slots c.args.w.count l.i _ (omega arith) (omega (arith, c.requires)) c.args.s)
     (eq-eqb _ _ c.if-s-t.true)
 
 pub loop-i-preserved : goal.loop-i-preserved
 loop-i-preserved c =
     let l = c.loop-i in
-    let s = c in
-    let all : length s.args.w.slots ≡ 63 = search (rules, length-mapped) in (
+    let all : length c.args.w.slots ≡ 63 = search (rules, length-mapped) in (
       omega arith,
-      miss (eqb s.args.s.0 (get_or s.args.w.slots l.i _).0) _ l.invariant.1
-          (listed-left s.args.w.slots s.args.w.count l.i _ (omega arith) (omega (arith, s.requires)) s.args.s)
+      miss (eqb c.args.s.0 (get_or c.args.w.slots l.i _).0) _ l.invariant.1
+          (listed-left c.args.w.slots c.args.w.count l.i _ (omega arith) (omega (arith, c.requires)) c.args.s)
           (ne_eqb _ _ c.if-s-t.false),
     )
 
@@ -34,5 +32,4 @@ pub returns : goal.returns
 unfolding listed
 returns c =
     let l = c.loop-i in
-    let s = c in
-    sym (ap (listed s.args.s) (window_end s.args.w.slots s.args.w.count l.i (omega arith))) ∙ l.invariant.1
+    sym (ap (listed c.args.s) (window_end c.args.w.slots c.args.w.count l.i (omega arith))) ∙ l.invariant.1

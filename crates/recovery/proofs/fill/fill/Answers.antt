@@ -20,19 +20,17 @@ bounds-table-k-in-loop-s c =
 
 pub loop-s-preserved : goal.loop-s-preserved
 loop-s-preserved c =
-    let s = c in
     let l = c.loop-s in
     let e = c.kept-entry.ensures ∙ ap kept_entry c.entry_of.ensures in (
       l.invariant.0,
       omega arith,
       simp length-set l.invariant.2,
       row-filled l.table
-          (λ k. kept_entry (entry_in (metas_of s.args.l s.args.ssd.now) (record { 0 = k }))) _ l.s
+          (λ k. kept_entry (entry_in (metas_of c.args.l c.args.ssd.now) (record { 0 = k }))) _ l.s
           (omega (arith, l.invariant.0, l.invariant.2)) e l.invariant.3,
     )
 
 pub returns : goal.returns
 returns c =
-    let s = c in
     let l = c.loop-s in
-    rows-filled l.table _ l.s s.args.l.slots (omega (arith, l.invariant.0)) (omega (arith, l.invariant.0)) l.invariant.2 l.invariant.3
+    rows-filled l.table _ l.s c.args.l.slots (omega (arith, l.invariant.0)) (omega (arith, l.invariant.0)) l.invariant.2 l.invariant.3

@@ -11,33 +11,29 @@ use Rattle.recovery.proofs.fill.free_rows.Goals as goal
 
 pub bounds-table-k : goal.bounds-table-k
 bounds-table-k c =
-    let s = c in
     let l = c.loop-i in
-    let all : length s.args.w.slots ≡ 63 = search (rules, length-mapped) in
-    block_in_lem s.args.l l.table s.args.w.slots s.args.w.count l.i _ (l.invariant.1 ∙ s.requires.table_len) s.requires.w_value (omega arith)
-    (omega (arith, s.requires))
+    let all : length c.args.w.slots ≡ 63 = search (rules, length-mapped) in
+    block_in_lem c.args.l l.table c.args.w.slots c.args.w.count l.i _ (l.invariant.1 ∙ c.requires.table_len) c.requires.w_value (omega arith)
+    (omega (arith, c.requires))
 
 pub bounds-table-k-in-loop-i : goal.bounds-table-k-in-loop-i
 bounds-table-k-in-loop-i c =
-    let s = c in
     let l = c.loop-i in
-    let all : length s.args.w.slots ≡ 63 = search (rules, length-mapped) in
-    simp length-set (row_in s.args.l l.table s.args.w.slots s.args.w.count l.i _ (l.invariant.1 ∙ s.requires.table_len) s.requires.w_value
-    (omega arith) (omega (arith, s.requires)))
+    let all : length c.args.w.slots ≡ 63 = search (rules, length-mapped) in
+    simp length-set (row_in c.args.l l.table c.args.w.slots c.args.w.count l.i _ (l.invariant.1 ∙ c.requires.table_len) c.requires.w_value
+    (omega arith) (omega (arith, c.requires)))
 
 pub loop-i-preserved : goal.loop-i-preserved
 loop-i-preserved c =
-    let s = c in
     let l = c.loop-i in
-    let all : length s.args.w.slots ≡ 63 = search (rules, length-mapped) in (
+    let all : length c.args.w.slots ≡ 63 = search (rules, length-mapped) in (
       omega arith,
       simp length-set l.invariant.1,
       sym
-          (freed-left s.args.w.slots s.args.w.count l.i _ l.table (omega arith) (omega (arith, s.requires))) ∙ l.invariant.2,
+          (freed-left c.args.w.slots c.args.w.count l.i _ l.table (omega arith) (omega (arith, c.requires))) ∙ l.invariant.2,
     )
 
 pub returns : goal.returns
 returns c =
-    let s = c in
     let l = c.loop-i in
-    sym (freed_end s.args.w.slots s.args.w.count l.i l.table (omega arith)) ∙ l.invariant.2
+    sym (freed_end c.args.w.slots c.args.w.count l.i l.table (omega arith)) ∙ l.invariant.2

@@ -54,8 +54,7 @@ recover-next-requires c =
 
 pub returns : goal.returns
 returns c =
-    let mid = c in
-    let a = mid.args in
+    let a = c.args in
     rw c.answered.ensures
     (taken a.ssd.now a.hdd.now a.table.now a.state _
     (sym c.label_of.ensures

@@ -32,15 +32,14 @@ bounds-part-i c =
 pub loop-i-preserved : goal.loop-i-preserved
 loop-i-preserved c =
     let L = c.loop-i in
-    let e = c in
-    let a = (start (goal.at.loop-i-preserved e).After-least-n).args in
+    let a = (start (goal.at.loop-i-preserved c).After-least-n).args in
     let i : ℕ = L.i in
-    let low : i < e.least-n.result = omega arith in
-    let f = few e in (
+    let low : i < c.least-n.result = omega arith in
+    let f = few (goal.at.loop-i-preserved c).After-least-n in (
       search rules,
       search rules,
-      filled_more L.part i _ (byte_at e.least-n.result a.table.now a.first)
-          (omega (arith, f.1, L.invariant.1)) (c.letter.ensures ∙ row_byte e.least-n.result a.table.now a.first i low) L.invariant.2,
+      filled_more L.part i _ (byte_at c.least-n.result a.table.now a.first)
+          (omega (arith, f.1, L.invariant.1)) (c.letter.ensures ∙ row_byte c.least-n.result a.table.now a.first i low) L.invariant.2,
     )
 
 pub loop-i-2-init : goal.loop-i-2-init
@@ -52,20 +51,18 @@ loop-i-2-init c =
 pub loop-i-2-preserved : goal.loop-i-2-preserved
 loop-i-2-preserved c =
     let L = c.loop-i-2 in
-    let e = c in
-    let a = (start (goal.at.loop-i-2-preserved e).After-least-n).args in (
+    let a = (start (goal.at.loop-i-2-preserved c).After-least-n).args in (
       search rules,
       search rules,
       search rules,
-      filled_more L.part L.i 32 (byte_at e.least-n.result a.table.now a.first) (omega (arith, L.invariant.2))
-          (space_byte e.least-n.result a.table.now a.first L.i L.invariant.0) L.invariant.3,
+      filled_more L.part L.i 32 (byte_at c.least-n.result a.table.now a.first) (omega (arith, L.invariant.2))
+          (space_byte c.least-n.result a.table.now a.first L.i L.invariant.0) L.invariant.3,
     )
 
 pub returns : goal.returns
 returns c =
     let L = c.loop-i-2 in
-    let e = c in
-    let a = (start (goal.at.returns e).After-least-n).args in
+    let a = (start (goal.at.returns c).After-least-n).args in
     let n : L.i ≡ 60 = omega arith in
-    letters_are a.l a.table.now L.part a.first e.least-n.result (start (goal.at.returns e).After-least-n).requires.first_lt_slots e.least-n.ensures L.invariant.2
+    letters_are a.l a.table.now L.part a.first c.least-n.result (start (goal.at.returns c).After-least-n).requires.first_lt_slots c.least-n.ensures L.invariant.2
     (λ j h. L.invariant.3 j (omega arith))

@@ -35,16 +35,11 @@ bounds-line-66 c = omega (arith, lettered (goal.at.bounds-line-66 c).After-put_l
 
 pub shape_of-line : goal.shape_of-line
 shape_of-line c =
-    let p = c in
-    let n = p in
-    let s = n in
-    let line : List ℕ = put_mid 6 60 (set (put_mid 0 5 s.args.line.now n.put_number.new.part) 5 32) p.put_letters.new.part in
-    length-set line 66 10 ∙ lettered p ∙ sym s.requires.line_len
+    let line : List ℕ = put_mid 6 60 (set (put_mid 0 5 c.args.line.now c.put_number.new.part) 5 32) c.put_letters.new.part in
+    length-set line 66 10 ∙ lettered (goal.at.shape_of-line c).After-put_letters ∙ sym c.requires.line_len
 
 pub returns : goal.returns
 returns c =
-    let n = c in
-    let s = n in
-    let a = s.args in
-    let low : 60 * a.k < 100000 = omega (arith, s.requires.slots_bound, s.requires.k_bound) in
-    rw (n.put_number.ensures, c.put_letters.ensures) (line_is a.l a.table.now a.line.now a.k s.requires.line_len low)
+    let a = c.args in
+    let low : 60 * a.k < 100000 = omega (arith, c.requires.slots_bound, c.requires.k_bound) in
+    rw (c.put_number.ensures, c.put_letters.ensures) (line_is a.l a.table.now a.line.now a.k c.requires.line_len low)

@@ -17,17 +17,15 @@ loop-k-init c = (omega arith, refl, refl)
 pub loop-k-preserved : goal.loop-k-preserved
 loop-k-preserved c =
     let L = c.loop-k in
-    let s = c in
-    let few : L.k < 960 = omega (arith, s.requires.slots_bound) in (
+    let few : L.k < 960 = omega (arith, c.requires.slots_bound) in (
       search rules,
       search rules,
       (λ i. put_mid (67 * L.k) (add-sub_cancel_left (67 * L.k) 67 i) (L.invariant.2 i) (c.put_line.ensures i))
-          ∙ lines_more s.args.l s.args.table.now s.args.sheet.now L.k few,
+          ∙ lines_more c.args.l c.args.table.now c.args.sheet.now L.k few,
     )
 
 pub returns : goal.returns
 returns c =
     let L = c.loop-k in
-    let s = c in
-    let e : L.k ≡ map_lines s.args.l = omega arith in
-    L.invariant.2 ∙ ap (λ (k : ℕ). lines_of s.args.l s.args.table.now k ++ drop (67 * k) s.args.sheet.now) e
+    let e : L.k ≡ map_lines c.args.l = omega arith in
+    L.invariant.2 ∙ ap (λ (k : ℕ). lines_of c.args.l c.args.table.now k ++ drop (67 * k) c.args.sheet.now) e

@@ -6,7 +6,5 @@ off_page-left-requires c = rw c.window_of.ensures c.requires
 
 pub returns : goal.returns
 returns c =
-    let w = c in
-    let o = w in
-    mended_is _ _ _ _ _ _ _ o.window_of.ensures o.off_page-left.ensures w.with_window-next.ensures c.phase_of.ensures
+    mended_is _ _ _ _ _ _ _ c.window_of.ensures c.off_page-left.ensures c.with_window-next.ensures c.phase_of.ensures
     c.with_phase.ensures

@@ -30,58 +30,47 @@ box c = let a = (start c).args in sound a.ssd.now a.hdd.now 4096 a.table.now a.s
 
 pub returns-then-number-ne0 : goal.returns-then-number-ne0
 returns-then-number-ne0 c =
-    let e = c in
-    let a = e.args in
+    let a = c.args in
     rw c.refused.ensures
     (refused_by step (box_of a.ssd.now a.hdd.now a.table.now a.state) _ _
-    (step_judges a.ssd.now a.hdd.now a.table.now a.state) e.judge_box-judged.result.number
-    (found _ a.table.now (record { 0 = 0 }) e.judge_box-judged.ensures) c.if-number-ne0.true)
+    (step_judges a.ssd.now a.hdd.now a.table.now a.state) c.judge_box-judged.result.number
+    (found _ a.table.now (record { 0 = 0 }) c.judge_box-judged.ensures) c.if-number-ne0.true)
 
 pub format_step-requires : goal.format_step-requires
 format_step-requires c =
-    let e = c in
-    let S = box e in
+    let S = box (goal.at.format_step-requires c).Else-number-ne0 in
     record { fits_record = S.fits; state_value = (within _).1 S.sound.limits; done_bound = steps_low _ _ _ _ S _ c.in-Formatting.is }
 
 pub returns-then-top-state : goal.returns-then-top-state
 returns-then-top-state c =
-    let n = c in
-    let e = n in
-    let a = (start (goal.at.returns-then-top-state e).Else-number-ne0).args in
+    let a = (start (goal.at.returns-then-top-state c).Else-number-ne0).args in
     rw c.refused-then-top-state.ensures
-    (step_spent a.ssd.now a.hdd.now a.table.now a.state (passed (goal.at.returns-then-top-state e).Else-number-ne0) n.in-Recovering.is
-    (le-leb (largest_stamp (label_in a.state)) _ (omega (arith, n.largest_stamp-top.ensures, c.if-top-state.true))))
+    (step_spent a.ssd.now a.hdd.now a.table.now a.state (passed (goal.at.returns-then-top-state c).Else-number-ne0) c.in-Recovering.is
+    (le-leb (largest_stamp (label_in a.state)) _ (omega (arith, c.largest_stamp-top.ensures, c.if-top-state.true))))
 
 pub mend-requires : goal.mend-requires
 mend-requires c =
-    let n = c in
-    let e = n in
-    let S = box e in record { fits_record = S.fits; state_value = S.record_kept; le_count = some_pending _ _ _ _ S n.in-Recovering.is; newest_bound = omega (arith, n.largest_stamp-top.ensures, c.if-top-state.false) }
+    let S = box (goal.at.mend-requires c).Else-number-ne0 in record { fits_record = S.fits; state_value = S.record_kept; le_count = some_pending _ _ _ _ S c.in-Recovering.is; newest_bound = omega (arith, c.largest_stamp-top.ensures, c.if-top-state.false) }
 
 pub returns-in-Ready : goal.returns-in-Ready
 returns-in-Ready c =
-    let e = c in
-    let a = (start (goal.at.returns-in-Ready e).Else-number-ne0).args in
+    let a = (start (goal.at.returns-in-Ready c).Else-number-ne0).args in
     rw c.refused-in-Ready.ensures
-    (step_ready a.ssd.now a.hdd.now a.table.now a.state (passed (goal.at.returns-in-Ready e).Else-number-ne0) c.in-Ready.is)
+    (step_ready a.ssd.now a.hdd.now a.table.now a.state (passed (goal.at.returns-in-Ready c).Else-number-ne0) c.in-Ready.is)
 
 pub returns-in-Formatting : goal.returns-in-Formatting
 returns-in-Formatting c =
-    let e = c in
-    let a = (start (goal.at.returns-in-Formatting e).Else-number-ne0).args in
+    let a = (start (goal.at.returns-in-Formatting c).Else-number-ne0).args in
     let z = c.format_step.ensures in
     rw (z.0, z.1)
-    (step_formats a.ssd.now a.hdd.now a.table.now a.state (passed (goal.at.returns-in-Formatting e).Else-number-ne0) _
+    (step_formats a.ssd.now a.hdd.now a.table.now a.state (passed (goal.at.returns-in-Formatting c).Else-number-ne0) _
     c.in-Formatting.is)
 
 pub returns-else-top-state : goal.returns-else-top-state
 unfolding confirmed perform
 returns-else-top-state c =
-    let k = c in
-    let n = k in
-    let e = n in
-    let a = (start (goal.at.returns-else-top-state e).Else-number-ne0).args in
+    let a = (start (goal.at.returns-else-top-state c).Else-number-ne0).args in
     let z = c.mend.ensures in
     rw (z.0, z.1)
-    (step_mends a.ssd.now a.hdd.now a.table.now a.state (passed (goal.at.returns-else-top-state e).Else-number-ne0) n.in-Recovering.is
-    (lt-leb (largest_stamp (label_in a.state)) _ (omega (arith, n.largest_stamp-top.ensures, k.if-top-state.false))))
+    (step_mends a.ssd.now a.hdd.now a.table.now a.state (passed (goal.at.returns-else-top-state c).Else-number-ne0) c.in-Recovering.is
+    (lt-leb (largest_stamp (label_in a.state)) _ (omega (arith, c.largest_stamp-top.ensures, c.if-top-state.false))))

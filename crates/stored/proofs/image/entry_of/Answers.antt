@@ -9,20 +9,16 @@ use Rattle.stored.proofs.image.entry_of.Goals.{After-meta_of}
 
 -- the slot's page is one of the label's
 low : (c : After-meta_of) → c.meta_of.result < meta_pages c.args.l
-low c = let s = c in rw c.meta_of.ensures (meta_of-low s.args.l s.args.s s.requires.s_lt_slots)
+low c = rw c.meta_of.ensures (meta_of-low c.args.l c.args.s c.requires.s_lt_slots)
 
 pub meta_page-requires : goal.meta_page-requires
 meta_page-requires c = record { ssd_len = c.requires.ssd_len; p_bound = low c }
 
 pub entry_at-requires : goal.entry_at-requires
 entry_at-requires c =
-    let p = c in
-    let s = p in
-    record { page_len = (page-read s.args.l _ _ _ s.requires.ssd_len (low (goal.at.entry_at-requires p).After-meta_of) p.meta_page.ensures).1; i_bound = omega arith }
+    record { page_len = (page-read c.args.l _ _ _ c.requires.ssd_len (low (goal.at.entry_at-requires c).After-meta_of) c.meta_page.ensures).1; i_bound = omega arith }
 
 pub returns : goal.returns
 unfolding entry_in
 returns c =
-    let p = c in
-    let s = p in
-    rw (c.entry_at.ensures, (page-read s.args.l _ _ _ s.requires.ssd_len (low (goal.at.returns p).After-meta_of) p.meta_page.ensures).0, p.meta_of.ensures)
+    rw (c.entry_at.ensures, (page-read c.args.l _ _ _ c.requires.ssd_len (low (goal.at.returns c).After-meta_of) c.meta_page.ensures).0, c.meta_of.ensures)

@@ -12,6 +12,5 @@ returns-then-ssd-lt4096 c = short-read c.args.ssd.now (lt-leb _ _ c.if-ssd-lt409
 pub returns : goal.returns
 unfolding page_part
 returns c =
-    let s = c in
-    let e : c.page_at.result.now ≡ page_at s.args.ssd.now 0 = ap (λ (x : Part). x.bytes) c.page_at.ensures in
-    c.decode_label.ensures ∙ ap decode_label e ∙ page-read s.args.ssd.now (le-leb _ _ c.if-ssd-lt4096.false)
+    let e : c.page_at.result.now ≡ page_at c.args.ssd.now 0 = ap (λ (x : Part). x.bytes) c.page_at.ensures in
+    c.decode_label.ensures ∙ ap decode_label e ∙ page-read c.args.ssd.now (le-leb _ _ c.if-ssd-lt4096.false)

@@ -14,23 +14,20 @@ loop-p-init c = (c.meta_pages-m.ensures, omega arith, refl)
 
 pub newer-n-requires : goal.newer-n-requires
 newer-n-requires c =
-    let s = c in
-    omega (arith, pages-most s.args.l s.requires.limits, c.loop-p.invariant.0)
+    omega (arith, pages-most c.args.l c.requires.limits, c.loop-p.invariant.0)
 
 pub loop-p-preserved : goal.loop-p-preserved
 loop-p-preserved c =
-    let s = c in
     let l = c.loop-p in
-    let p : l.p < meta_pages s.args.l = omega (arith, l.invariant.0) in (
+    let p : l.p < meta_pages c.args.l = omega (arith, l.invariant.0) in (
       l.invariant.0,
       omega arith,
-      numbered_more (metas_of s.args.l s.args.ssd.now) l.n _ l.p _
-          (rw (length_metas s.args.l s.args.ssd.now) p) c.stamp_at.ensures c.newer-n.ensures l.invariant.2,
+      numbered_more (metas_of c.args.l c.args.ssd.now) l.n _ l.p _
+          (rw (length_metas c.args.l c.args.ssd.now) p) c.stamp_at.ensures c.newer-n.ensures l.invariant.2,
     )
 
 pub returns : goal.returns
 returns c =
-    let s = c in
     let l = c.loop-p in
-    let z = length_metas s.args.l s.args.ssd.now in
-    numbered_all (metas_of s.args.l s.args.ssd.now) l.n l.p (omega (arith, z, l.invariant.0)) l.invariant.2
+    let z = length_metas c.args.l c.args.ssd.now in
+    numbered_all (metas_of c.args.l c.args.ssd.now) l.n l.p (omega (arith, z, l.invariant.0)) l.invariant.2

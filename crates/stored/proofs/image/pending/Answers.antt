@@ -12,15 +12,13 @@ returns-then-at-eq0 c = c.empty.ensures ∙ no_window _ _ c.if-at-eq0.true
 
 pub window_of-requires : goal.window_of-requires
 window_of-requires c =
-    let s = c in
-    let z = length_metas s.args.l s.args.ssd.now in
-    let e = page-read s.args.l _ _ _ s.requires.ssd_len (omega arith) c.meta_page.ensures in record {
+    let z = length_metas c.args.l c.args.ssd.now in
+    let e = page-read c.args.l _ _ _ c.requires.ssd_len (omega arith) c.meta_page.ensures in record {
       page_len = e.1;
-      page_bound = rw e.0 (count_low s.args.l (s.args.at - 1) _
-          (legal_at s.args.l (metas_of s.args.l s.args.ssd.now) s.requires.ssd_value (s.args.at - 1) (omega arith)));
+      page_bound = rw e.0 (count_low c.args.l (c.args.at - 1) _
+          (legal_at c.args.l (metas_of c.args.l c.args.ssd.now) c.requires.ssd_value (c.args.at - 1) (omega arith)));
     }
 
 pub returns : goal.returns
 returns c =
-    let s = c in
-    rw (c.window_of.ensures, (page-read s.args.l _ _ _ s.requires.ssd_len (omega arith) c.meta_page.ensures).0) (ap window_from (some_window _ _ c.if-at-eq0.false))
+    rw (c.window_of.ensures, (page-read c.args.l _ _ _ c.requires.ssd_len (omega arith) c.meta_page.ensures).0) (ap window_from (some_window _ _ c.if-at-eq0.false))

@@ -4,5 +4,4 @@ use Rattle.stored.proofs.image.spent_stamp.Goals as goal
 
 pub returns : goal.returns
 returns c =
-    let s = c in
-    (found (metas_of s.args.l s.args.ssd.now) c.newest-found.result c.newest-found.ensures).stamp_is
+    (found (metas_of c.args.l c.args.ssd.now) c.newest-found.result c.newest-found.ensures).stamp_is

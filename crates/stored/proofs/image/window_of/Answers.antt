@@ -11,16 +11,14 @@ loop-k-init c = (c.count_of-count.ensures, omega arith, window_none _)
 
 pub loop-k-preserved : goal.loop-k-preserved
 loop-k-preserved c =
-    let l = c.loop-k in
-    let s = c in (
+    let l = c.loop-k in (
       l.invariant.0,
       omega arith,
       rw c.slot_at-s.ensures
-          (window-one s.args.page.now l.slots l.k (omega (arith, s.requires.page_bound)) l.invariant.2),
+          (window-one c.args.page.now l.slots l.k (omega (arith, c.requires.page_bound)) l.invariant.2),
     )
 
 pub returns : goal.returns
 returns c =
     let l = c.loop-k in
-    let s = c in
-    window-all s.args.page.now l.slots _ l.k l.invariant.0 l.invariant.1 (omega arith) l.invariant.2
+    window-all c.args.page.now l.slots _ l.k l.invariant.0 l.invariant.1 (omega arith) l.invariant.2

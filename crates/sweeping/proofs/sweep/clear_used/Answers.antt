@@ -17,13 +17,12 @@ loop-k-init c =
 
 pub loop-k-preserved : goal.loop-k-preserved
 loop-k-preserved c =
-    let b = c in
-    let l = b.loop-k in
-    let a = b.args in
+    let l = c.loop-k in
+    let a = c.args in
     let n = c.next_slot-s.ensures in (
       length-set l.table (2 * l.s.0 + 1) c.flags_passed.result ∙ l.invariant.0,
       n.1,
-      rw (n.0, c.flags_passed.ensures) (sym (clear_on a.n l.k a.l l.table l.s b.loop-k-test.true) ∙ l.invariant.2),
+      rw (n.0, c.flags_passed.ensures) (sym (clear_on a.n l.k a.l l.table l.s c.loop-k-test.true) ∙ l.invariant.2),
     )
 
 pub returns : goal.returns

@@ -28,26 +28,23 @@ bounds-table-s c =
 
 pub returns-then-is_unused : goal.returns-then-is_unused
 returns-then-is_unused c =
-    let b = c in
-    let l = b.loop-k in
-    let a = b.args in
-    let p = b.slot_past-s.ensures.0 in
+    let l = c.loop-k in
+    let a = c.args in
+    let p = c.slot_past-s.ensures.0 in
     let e = sym c.is_unused.ensures ∙ c.if-is_unused.true in
-    let t = lap_took a.l.slots l.k a.l a.table.now b.slot_past-s.result l.first b.loop-k-test.true e in
+    let t = lap_took a.l.slots l.k a.l a.table.now c.slot_past-s.result l.first c.loop-k-test.true e in
     sym t ∙ ap (λ (s : Slot). lap_from (a.l.slots - l.k) l.k a.l a.table.now s l.first) p ∙ l.invariant.2
 
 pub loop-k-preserved : goal.loop-k-preserved
 loop-k-preserved c =
-    let i = c in
-    let b = i in
-    let l = b.loop-k in
-    let a = b.args in
-    let p = b.slot_past-s.ensures.0 in
-    let t = b.loop-k-test.true in
-    let e = sym i.is_unused.ensures ∙ i.if-is_unused.false in
-    let n : slot_past (l.k + 1) a.l a.hand ≡ next_slot a.l b.slot_past-s.result =
-    sym (past_next a.l a.hand l.k b.requires.1 t) ∙ ap (next_slot a.l) (sym p) in
-    let o = lap_on a.l.slots l.k a.l a.table.now b.slot_past-s.result l.first t e in (
+    let l = c.loop-k in
+    let a = c.args in
+    let p = c.slot_past-s.ensures.0 in
+    let t = c.loop-k-test.true in
+    let e = sym c.is_unused.ensures ∙ c.if-is_unused.false in
+    let n : slot_past (l.k + 1) a.l a.hand ≡ next_slot a.l c.slot_past-s.result =
+    sym (past_next a.l a.hand l.k c.requires.1 t) ∙ ap (next_slot a.l) (sym p) in
+    let o = lap_on a.l.slots l.k a.l a.table.now c.slot_past-s.result l.first t e in (
       refl,
       omega (arith, t),
       rw (n, c.lowest-first.ensures, c.is_closed.ensures)

@@ -7,11 +7,10 @@ loop-i-init c = let a = c.args in search_begin a.table.now (record { 0 = a.b.0 }
 
 pub loop-i-preserved : goal.loop-i-preserved
 loop-i-preserved c =
-    let t = c in
-    let l = t.loop-i in
-    let a = t.args in
+    let l = c.loop-i in
+    let a = c.args in
     rw (c.least-at.ensures, c.choose-here.ensures, c.holds.ensures)
-    (search_more a.table.now (record { 0 = a.b.0 }) a.l.slots l.at l.i l.invariant t.loop-i-test.true)
+    (search_more a.table.now (record { 0 = a.b.0 }) a.l.slots l.at l.i l.invariant c.loop-i-test.true)
 
 pub returns : goal.returns
 returns c =

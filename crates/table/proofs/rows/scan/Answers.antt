@@ -5,17 +5,16 @@ use Rattle.table.proofs.ScanLaws.{Passed, begin, one_more, broken, whole}
 use Rattle.table.proofs.rows.scan.Goals as goal
 
 pub loop-i-init : goal.loop-i-init
-loop-i-init c = let s = c in begin s.args.l s.args.table.now (record { 0 = s.args.b.0 }) s.args.l.slots s.requires
+loop-i-init c = begin c.args.l c.args.table.now (record { 0 = c.args.b.0 }) c.args.l.slots c.requires
 
 pub loop-i-preserved : goal.loop-i-preserved
 loop-i-preserved c =
-    let r = c in
-    let l = r.loop-i in
-    let a = r.args in
+    let l = c.loop-i in
+    let a = c.args in
     let u = c.is_busy-busy.ensures.0 in
-    rw (c.least-at.ensures, c.choose.ensures, c.holds.ensures, u, r.both-legal.ensures, r.row_ok.ensures)
+    rw (c.least-at.ensures, c.choose.ensures, c.holds.ensures, u, c.both-legal.ensures, c.row_ok.ensures)
     (one_more a.l a.table.now (record { 0 = a.b.0 }) a.l.slots l.legal l.writing l.busy l.at l.i l.invariant
-    r.loop-i-test.true)
+    c.loop-i-test.true)
 
 pub returns-then-not-legal : goal.returns-then-not-legal
 returns-then-not-legal c =

@@ -5,14 +5,11 @@ use Rattle.turns.proofs.TurnLaws.{crowd_seen, seen_sweeps}
 use Rattle.turns.proofs.turn.fetch.Goals as goal
 
 pub fetch_at-requires : goal.fetch_at-requires
-fetch_at-requires c = let s = c in seen_sweeps s.requires
+fetch_at-requires c = seen_sweeps c.requires
 
 pub returns : goal.returns
 returns c =
-    let k = c in
-    let h = k in
-    let s = h in
-    let a = s.args in
+    let a = c.args in
     c.fetch_at.ensures
     ∙ ap (λ (n : ℕ). fetch_turn_at a.state.label a.table.now a.state.hand n a.condition)
-    (crowd_seen a.table.now a.state a.caller s.requires k.crowded-number.ensures h.held.ensures)
+    (crowd_seen a.table.now a.state a.caller c.requires c.crowded-number.ensures c.held.ensures)

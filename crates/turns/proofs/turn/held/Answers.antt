@@ -8,10 +8,9 @@ pub returns-then-caller-ne-IMPORT : goal.returns-then-caller-ne-IMPORT
 returns-then-caller-ne-IMPORT c = rw (ne_eqb c.args.caller 1 c.if-caller-ne-IMPORT.true, held_by)
 
 pub open_by_import-requires : goal.open_by_import-requires
-open_by_import-requires c = let s = c in (parts s.args.state s.requires).most
+open_by_import-requires c = (parts c.args.state c.requires).most
 
 pub returns : goal.returns
 unfolding callers_in
 returns c =
-    let e = c in
-    rw (eq-eqb e.args.caller 1 e.if-caller-ne-IMPORT.false, c.open_by_import.ensures, held_by)
+    rw (eq-eqb c.args.caller 1 c.if-caller-ne-IMPORT.false, c.open_by_import.ensures, held_by)

@@ -11,10 +11,9 @@ returns-then-number-ne0 c = turn_full _ _ c.if-number-ne0.true
 
 pub overflow_add-flags-2 : goal.overflow_add-flags-2
 overflow_add-flags-2 c =
-    let s = c in
-    let a = s.args in
-    let R = rows_of a.l a.table.now s.requires.sweepable.size s.requires.sweepable.rows in
-    let f : row_flags a.table.now a.s < 16 = ltb-true _ _ (flags_legal (R a.s.0 s.requires.s_lt_slots).flags).1 in
+    let a = c.args in
+    let R = rows_of a.l a.table.now c.requires.sweepable.size c.requires.sweepable.rows in
+    let f : row_flags a.table.now a.s < 16 = ltb-true _ _ (flags_legal (R a.s.0 c.requires.s_lt_slots).flags).1 in
     omega (arith, f)
 
 pub returns : goal.returns

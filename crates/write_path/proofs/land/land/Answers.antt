@@ -47,35 +47,30 @@ low-flags c = let a = (start c).args in
 
 pub returns-then-number-ne0 : goal.returns-then-number-ne0
 returns-then-number-ne0 c =
-    let e = c in
-    let a = e.args in
+    let a = c.args in
     rw c.refused.ensures
-    (refused_by (land a.block a.page.now) (box_of a.ssd.now a.hdd.now a.table.now a.state) _ _ (land_judges a.ssd.now a.hdd.now a.table.now a.state a.block a.page.now) e.judge_block-seen.result.number
-    (found _ a.table.now a.block e.judge_block-seen.ensures) c.if-number-ne0.true)
+    (refused_by (land a.block a.page.now) (box_of a.ssd.now a.hdd.now a.table.now a.state) _ _ (land_judges a.ssd.now a.hdd.now a.table.now a.state a.block a.page.now) c.judge_block-seen.result.number
+    (found _ a.table.now a.block c.judge_block-seen.ensures) c.if-number-ne0.true)
 
 pub store_page-stored-requires : goal.store_page-stored-requires
 store_page-stored-requires c =
-    let e = c in
-    let R = (known (goal.at.store_page-stored-requires e).Else-number-ne0).row _ c.in-Dirty.is in
-    record { ssd_len = (known (goal.at.store_page-stored-requires e).Else-number-ne0).box.box.sound.ssd-size; page_len = (known (goal.at.store_page-stored-requires e).Else-number-ne0).box.box.page-size; slots_bound = (known (goal.at.store_page-stored-requires e).Else-number-ne0).box.box.fits.slots-most; s_lt_slots = R.low }
+    let R = (known (goal.at.store_page-stored-requires c).Else-number-ne0).row _ c.in-Dirty.is in
+    record { ssd_len = (known (goal.at.store_page-stored-requires c).Else-number-ne0).box.box.sound.ssd-size; page_len = (known (goal.at.store_page-stored-requires c).Else-number-ne0).box.box.page-size; slots_bound = (known (goal.at.store_page-stored-requires c).Else-number-ne0).box.box.fits.slots-most; s_lt_slots = R.low }
 
 pub land_row-requires : goal.land_row-requires
 land_row-requires c =
-    let e = c in
-    let R = (known (goal.at.land_row-requires e).Else-number-ne0).row _ c.in-Dirty.is in
-    record { s_in_bounds = R.within; s_bound = low-flags (goal.at.land_row-requires e).Else-number-ne0 _ R.low }
+    let R = (known (goal.at.land_row-requires c).Else-number-ne0).row _ c.in-Dirty.is in
+    record { s_in_bounds = R.within; s_bound = low-flags (goal.at.land_row-requires c).Else-number-ne0 _ R.low }
 
 pub store_page-stored-requires-in-Writing : goal.store_page-stored-requires-in-Writing
 store_page-stored-requires-in-Writing c =
-    let e = c in
-    let R = (known (goal.at.store_page-stored-requires-in-Writing e).Else-number-ne0).row _ c.in-Writing.is in
-    record { ssd_len = (known (goal.at.store_page-stored-requires-in-Writing e).Else-number-ne0).box.box.sound.ssd-size; page_len = (known (goal.at.store_page-stored-requires-in-Writing e).Else-number-ne0).box.box.page-size; slots_bound = (known (goal.at.store_page-stored-requires-in-Writing e).Else-number-ne0).box.box.fits.slots-most; s_lt_slots = R.low }
+    let R = (known (goal.at.store_page-stored-requires-in-Writing c).Else-number-ne0).row _ c.in-Writing.is in
+    record { ssd_len = (known (goal.at.store_page-stored-requires-in-Writing c).Else-number-ne0).box.box.sound.ssd-size; page_len = (known (goal.at.store_page-stored-requires-in-Writing c).Else-number-ne0).box.box.page-size; slots_bound = (known (goal.at.store_page-stored-requires-in-Writing c).Else-number-ne0).box.box.fits.slots-most; s_lt_slots = R.low }
 
 pub close_slot-next-requires : goal.close_slot-next-requires
 close_slot-next-requires c =
-    let e = c in
-    let R = (known (goal.at.close_slot-next-requires e).Else-number-ne0).row _ c.in-Writing.is in
-    record { state_value = (known (goal.at.close_slot-next-requires e).Else-number-ne0).box.box.record_kept; state_value_2 = open_listed _ _ _ _ _ (known (goal.at.close_slot-next-requires e).Else-number-ne0).box _ R.low R.writing_is; s_in_bounds = R.within; s_bound = low-flags (goal.at.close_slot-next-requires e).Else-number-ne0 _ R.low }
+    let R = (known (goal.at.close_slot-next-requires c).Else-number-ne0).row _ c.in-Writing.is in
+    record { state_value = (known (goal.at.close_slot-next-requires c).Else-number-ne0).box.box.record_kept; state_value_2 = open_listed _ _ _ _ _ (known (goal.at.close_slot-next-requires c).Else-number-ne0).box _ R.low R.writing_is; s_in_bounds = R.within; s_bound = low-flags (goal.at.close_slot-next-requires c).Else-number-ne0 _ R.low }
 
 pub returns-in-NotCached : goal.returns-in-NotCached
 returns-in-NotCached c =
@@ -90,22 +85,20 @@ returns-in-Clean c =
 pub returns-in-Dirty : goal.returns-in-Dirty
 unfolding perform
 returns-in-Dirty c =
-    let e = c in
     let k = c.in-Dirty.is in
     let z = c.land_row.ensures in
     let d = c.store_page-stored.ensures in
-    rw (c.stored.ensures, d.0, d.1, z, ((known (goal.at.returns-in-Dirty e).Else-number-ne0).row _ k).writing_is)
-    (rw (perform, ((known (goal.at.returns-in-Dirty e).Else-number-ne0).row _ k).writing_is) at (done (goal.at.returns-in-Dirty e).Else-number-ne0 _ k refl))
+    rw (c.stored.ensures, d.0, d.1, z, ((known (goal.at.returns-in-Dirty c).Else-number-ne0).row _ k).writing_is)
+    (rw (perform, ((known (goal.at.returns-in-Dirty c).Else-number-ne0).row _ k).writing_is) at (done (goal.at.returns-in-Dirty c).Else-number-ne0 _ k refl))
 
 pub returns-in-Writing : goal.returns-in-Writing
 unfolding perform
 returns-in-Writing c =
-    let e = c in
     let k = c.in-Writing.is in
     let z = c.close_slot-next.ensures in
     let d = c.store_page-stored-in-Writing.ensures in
-    rw (c.stored-in-Writing.ensures, d.0, d.1, z.0, z.1, ((known (goal.at.returns-in-Writing e).Else-number-ne0).row _ k).writing_is)
-    (rw (perform, ((known (goal.at.returns-in-Writing e).Else-number-ne0).row _ k).writing_is) at (done (goal.at.returns-in-Writing e).Else-number-ne0 _ k refl))
+    rw (c.stored-in-Writing.ensures, d.0, d.1, z.0, z.1, ((known (goal.at.returns-in-Writing c).Else-number-ne0).row _ k).writing_is)
+    (rw (perform, ((known (goal.at.returns-in-Writing c).Else-number-ne0).row _ k).writing_is) at (done (goal.at.returns-in-Writing c).Else-number-ne0 _ k refl))
 
 pub returns-in-Fetching : goal.returns-in-Fetching
 returns-in-Fetching c =

@@ -31,16 +31,14 @@ within c =
 
 pub returns-then-number-ne0 : goal.returns-then-number-ne0
 returns-then-number-ne0 c =
-    let e = c in
-    let a = e.args in
+    let a = c.args in
     rw c.refused.ensures
-    (refused_by (offer a.block a.caller) (box_of a.ssd.now a.hdd.now a.table.now a.state) _ _ (offer_judges a.ssd.now a.hdd.now a.table.now a.state a.block a.caller) e.judge_block-seen.result.number
-    (found _ a.table.now a.block e.judge_block-seen.ensures) c.if-number-ne0.true)
+    (refused_by (offer a.block a.caller) (box_of a.ssd.now a.hdd.now a.table.now a.state) _ _ (offer_judges a.ssd.now a.hdd.now a.table.now a.state a.block a.caller) c.judge_block-seen.result.number
+    (found _ a.table.now a.block c.judge_block-seen.ensures) c.if-number-ne0.true)
 
 pub offer-turn-requires : goal.offer-turn-requires
 offer-turn-requires c =
-    let e = c in
-    let a = (start e).args in record { seen = seen a.ssd.now a.hdd.now 4096 a.table.now a.state a.block a.caller _ (known e); within = within e }
+    let a = (start c).args in record { seen = seen a.ssd.now a.hdd.now 4096 a.table.now a.state a.block a.caller _ (known c); within = within c }
 
 -- what its turn leaves is what the call does
 offered : (d : After-offer-turn) → let a = (start (goal.at.After-offer-turn d).Else-number-ne0).args in let x = box_of a.ssd.now a.hdd.now a.table.now a.state in
@@ -56,23 +54,18 @@ offered d =
 pub returns-then-passes : goal.returns-then-passes
 unfolding confirmed perform
 returns-then-passes c =
-    let p = c in
-    let d = p in
-    let a = (start (goal.at.returns-then-passes d).Else-number-ne0).args in
+    let a = (start (goal.at.returns-then-passes c).Else-number-ne0).args in
     let x = box_of a.ssd.now a.hdd.now a.table.now a.state in
     rw c.answered.ensures
-    (ap (λ (T : Turn). left (turned T a.block a.caller x) x.images) (sym (pass_is d.offer-turn.result (sym p.passes.ensures ∙ c.if-passes.true))) ∙ offered d)
+    (ap (λ (T : Turn). left (turned T a.block a.caller x) x.images) (sym (pass_is c.offer-turn.result (sym c.passes.ensures ∙ c.if-passes.true))) ∙ offered (goal.at.returns-then-passes c).After-offer-turn)
 
 pub perform-requires : goal.perform-requires
 perform-requires c =
-    let d = c in
-    let e = d in
-    let a = (start (goal.at.perform-requires e).Else-number-ne0).args in
-    let B = (known (goal.at.perform-requires e).Else-number-ne0).box.box in
-    let p = offer_performs a.ssd.now a.hdd.now a.table.now a.state a.block a.caller (known (goal.at.perform-requires e).Else-number-ne0).none e.judge_block-seen.result.condition (within (goal.at.perform-requires e).Else-number-ne0) in
-    record { fits_record = B.fits; hdd_len = B.sound.hdd-size; state_value = B.record_kept; table_value = B.rows; performable = rw d.offer-turn.ensures p }
+    let a = (start (goal.at.perform-requires c).Else-number-ne0).args in
+    let B = (known (goal.at.perform-requires c).Else-number-ne0).box.box in
+    let p = offer_performs a.ssd.now a.hdd.now a.table.now a.state a.block a.caller (known (goal.at.perform-requires c).Else-number-ne0).none c.judge_block-seen.result.condition (within (goal.at.perform-requires c).Else-number-ne0) in
+    record { fits_record = B.fits; hdd_len = B.sound.hdd-size; state_value = B.record_kept; table_value = B.rows; performable = rw c.offer-turn.ensures p }
 
 pub returns : goal.returns
 returns c =
-    let f = c in
-    f.perform.ensures ∙ offered (goal.at.returns f).After-offer-turn
+    c.perform.ensures ∙ offered (goal.at.returns c).After-offer-turn
