@@ -95,13 +95,14 @@ def table(root):
 
 def turned(text, rows, fields, code):
     out, end = [], 0
+    modules = set(re.findall(r"(?m)^(?:pub )?use (?:\S+ as |[^\s{]*\.)([^\s{};.]+);?$", text)) - {"goal", "tie"}
     for m in WORD.finditer(text):
         word = m.group(0)
         new = rows.get(word)
         if new is None or code.endswith(".rt") and word == word.lower() and "-" not in word:
             continue
-        behind = text[m.start() - 1 : m.start()] == "."
-        if behind and word not in fields and not re.search(r"(?:^|[\s({,])(?!c\.|s\.)[A-Z][\w']*\.$", text[max(0, m.start() - 60) : m.start()]):
+        behind = re.search(r"(?:^|[\s({,])([^\s(){}.;,@\"«»]+)\.$", text[max(0, m.start() - 60) : m.start()])
+        if text[m.start() - 1 : m.start()] == "." and word not in fields and not (behind and behind.group(1) in modules) and not re.search(r"Rattle(?:\.[\w'+-]+)+\.$", text[max(0, m.start() - 99) : m.start()]):
             continue
         out.append(text[end : m.start()])
         out.append(new)

@@ -1,16 +1,13 @@
 -- A turn by which a run ends leaves all as it is; one by which it goes on opens a slot, or passes.
 use Prim.Native.Nat.{ℕ, zero, suc}
 use mathlib.Core.Path.{◌≡◌, refl, sym}
-use mathlib.Core.Logic.{◌≢◌, ⊎_elim}
+use mathlib.Core.Logic.{◌≢◌}
 use mathlib.Core.List.{List, [], ◌∷◌}
 use native.Mathlib.Omega.{arith}
-use denote.Enum.Declared.{tag_of}
-use types.Run.{OneOf}
 use Rattle.layout.specs.declared.Slot.{Slot}
 use Rattle.layout.specs.declared.Block.{Block}
 use Rattle.layout.specs.declared.Label.{Label}
 use Rattle.record.specs.Record.{label_in}
-use Rattle.turns.specs.contracts.turn.Turn.{the_type}
 use Rattle.turns.specs.declared.turn.Turn.{Turn}
 use Rattle.turns.specs.declared.turn.Turn.TheVariants.{Refused, Passes, Opens, CopiesOut}
 use Rattle.list_turns.specs.PlaceTurns.{end_by}
@@ -49,10 +46,9 @@ module _ (r : Run) (caller : ℕ) (b : Block) (t : List ℕ) where
   table-ends (CopiesOut s n) e = refl
 
 -- a turn that opens no slot, by which the run goes on: it passes
-pub goes_passes : (l : Label) (T : Turn) (page newest : ℕ) → OneOf (0 ∷ 1 ∷ 3 ∷ []) (tag_of the_type T) → end_by l T page newest ≡ 0 → T
-    ≡ Passes
+pub goes_passes : (l : Label) (T : Turn) (page newest : ℕ) → ((s : Slot) (flags n : ℕ) (hand : Slot) → T ≡ Opens s flags n hand → ⊥)
+    → end_by l T page newest ≡ 0 → T ≡ Passes
 goes_passes l (Refused n) page newest k e = absurd (omega arith)
 goes_passes l Passes page newest k e = refl
-goes_passes l (Opens s flags n hand) page newest k e = absurd
-    (⊎_elim (λ w. omega arith) (λ v. ⊎_elim (λ w. omega arith) (λ w. omega arith) v) k)
+goes_passes l (Opens s flags n hand) page newest k e = absurd (k s flags n hand refl)
 goes_passes l (CopiesOut s n) page newest k e = absurd (omega arith)

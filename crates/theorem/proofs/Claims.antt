@@ -71,7 +71,7 @@ module _ (l : Label) (w : World) (I : Inv l w) where
       at_core (λ v. is_ready v.box.state.phase ≡ true → read_of v.box b ≡ w.disk.page b) I
       (λ q. let R = ready_of l I.core I.plain I.phased q in
       read_view l I.core I.shape (ready_legible l I.core I.shape I.plain R) b.0 h
-      ∙ seen.view-page (abs l I.core) I.plain R b.0
+      ∙ seen.view_page (abs l I.core) I.plain R b.0
       ∙ sym (I.agrees.page b.0 h)) r
 
   pub looks_of : is_ready w.box.state.phase ≡ true → (b : Block) → b.0 < l.blocks → (s : Slot)
@@ -81,7 +81,7 @@ module _ (l : Label) (w : World) (I : Inv l w) where
       → page_at v.box.images.ssd (data_place l s) ≡ w.disk.page b) I
       (λ q e. let R = ready_of l I.core I.plain I.phased q in
       sym (look_page l I.core I.shape (ready_legible l I.core I.shape I.plain R) b.0 h s e)
-      ∙ seen.view-page (abs l I.core) I.plain R b.0
+      ∙ seen.view_page (abs l I.core) I.plain R b.0
       ∙ sym (I.agrees.page b.0 h)) r
 
   -- flushes

@@ -175,8 +175,8 @@ module _ (l : Label) (x y : Box) (F : Formatted l x y) where
     stored_window-rule = rw stored_window_nil (nil_window l.slots);
     same-valid = λ s. rw (free-row l s, entry_free s);
     same_block = λ s. rw (free-row l s, entry_free s);
-    dirty-below = λ s v. no_row model.dirtyRow refl s v;
-    open_row_is = λ s. ap model.openRow (free-row l s) ∙ sym (has_nil s);
+    dirty-below = λ s v. no_row model.dirty_row refl s v;
+    open_row_is = λ s. ap model.open_row (free-row l s) ∙ sym (has_nil s);
     window-stored = λ s h. clash h (has_nil s);
     stored_open = λ s h. clash (rw stored_window_nil at h) (has_nil s);
     settled = λ _ s h. clash (rw stored_window_nil at h) (has_nil s);

@@ -8,26 +8,22 @@ use Rattle.table.proofs.ScanLaws.{Scanned, scanned, scan_judges}
 use Rattle.table.proofs.ConditionLaws.{condition_is}
 use Rattle.judging.proofs.JudgingLaws.{rows_bad, rows_agree}
 use Rattle.judging.proofs.look.Goals as goal
-use Rattle.judging.proofs.look.Goals.{After-scan-scan, Else-not-scan}
+use Rattle.judging.proofs.look.Goals.{After-scan-scan, Else-not-scan, Start}
 
 pub scan-scan-requires : goal.scan-scan-requires
 scan-scan-requires c = c.requires.table_len
 
 -- what the scan found, by the record's own label
-scan-is : (c : After-scan-scan) → let s = (goal.at.After-scan-scan c).Start in
-    c.scan-scan.result ≡ scan_of (label_in s.args.state) s.args.table.now s.args.b
-scan-is c =
-    let s = c in
-    c.scan-scan.ensures
+scan-is : (c : After-scan-scan) → c.scan-scan.result ≡ scan_of (label_in c.args.state) c.args.table.now c.args.b
+scan-is c = c.scan-scan.ensures
 
-seen : (c : Else-not-scan) → let s = (goal.at.Else-not-scan c).Start in
-    Scanned (label_in s.args.state) s.args.table.now s.args.b c.scan-scan.result
-seen c = scanned _ _ _ _ (scan-is (goal.at.Else-not-scan c).After-scan-scan) c.if-not-scan.false
+seen : (c : Else-not-scan) → Scanned (label_in c.args.state) c.args.table.now c.args.b c.scan-scan.result
+seen c = scanned _ _ _ _ (scan-is (goal.at.Else-not-scan c).After-scan-scan) (not-false _ c.if-not-scan.false)
 
 pub returns-then-not-scan : goal.returns-then-not-scan
 returns-then-not-scan c =
     let q : legal_rows (label_in c.args.state) c.args.table.now ≡ false =
-    sym (scan_judges _ _ _ _ (scan-is (goal.at.returns-then-not-scan c).After-scan-scan)) ∙ c.if-not-scan.true in
+    sym (scan_judges _ _ _ _ (scan-is (goal.at.returns-then-not-scan c).After-scan-scan)) ∙ not-true _ c.if-not-scan.true in
     rw (rows_bad c.args.state c.args.table.now q) c.refused.ensures
 
 pub agrees-requires : goal.agrees-requires

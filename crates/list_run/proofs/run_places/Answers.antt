@@ -21,19 +21,16 @@ use Rattle.list_run.proofs.RunEndLaws.{goes_passes, run_ends, table-ends}
 use Rattle.list_run.proofs.FairLaws.{fair_seen}
 use Rattle.list_run.proofs.PlacedLaws.{place_turn_is, placing_performs}
 use Rattle.list_run.proofs.RunLaws.{held_more, held_most, Going, going_begin, going_done, Stepped, step, goes_further, ends_there}
+use Rattle.list_run.proofs.run_places.Invariants.{run_of}
 use Rattle.list_run.proofs.run_places.Goals as goal
 use Rattle.list_run.proofs.run_places.Goals.{After-decide-turn, After-open, At-loop-j, In-Opens, Start}
 
--- the run so far, as one
-abbrev run_of : Record → ℕ → ℕ → Run
-run_of state page j = record { state = state; page = page; places = j; end = 0 }
-
 -- the place at hand: where it starts, and what the call was given
 abbrev at : After-decide-turn → At-loop-j
-at d = (goal.at.After-decide-turn d).After-held-mine
+at d = (goal.at.After-decide-turn d).At-loop-j
 
 abbrev start : After-decide-turn → Start
-start d = (at d)
+start d = (goal.at.After-decide-turn d).Start
 
 abbrev block : After-decide-turn → Block
 block d = record { 0 = get_or (start d).args.blocks.now (at d).loop-j.j 0 }
@@ -61,7 +58,7 @@ dealt : (d : After-decide-turn) → Step d d.decide-turn.result
 dealt d = let l = (at d).loop-j in let a = (start d).args in let p = (start d).requires in
     subst (Step d) (sym (decided d))
     (step a.table.now a.state a.blocks.now a.words.now a.caller l.table (before d) l.j l.invariant.1 (omega arith)
-    p.1.1.1.0 p.1.1.1.1)
+    p.blocks_value p.caller_le_import_caller)
 
 -- and it can be performed
 performs : (d : After-decide-turn) {T : Turn} → d.decide-turn.result ≡ T → Performable T (at d).loop-j.table (at d).loop-j.running
@@ -74,8 +71,8 @@ performs d e = let l = (at d).loop-j in let F = l.invariant.1.kept.fair in
 abbrev chosen : In-Opens → After-decide-turn
 chosen t = (goal.at.In-Opens t).After-decide-turn
 
-opens : (t : In-Opens) → let d = chosen t in let g = t.turn-1.given.0 in
-    Performable (Opens g.0 g.1.0 g.1.1.0 g.1.1.1.0) (at d).loop-j.table (at d).loop-j.running
+opens : (t : In-Opens) → let d = chosen t in let g = t.in-Opens in
+    Performable (Opens g.s g.flags g.passed g.to) (at d).loop-j.table (at d).loop-j.running
 opens t = performs (chosen t) t.in-Opens.is
 
 abbrev turned : After-open → In-Opens
@@ -125,7 +122,7 @@ loop-j-smaller-in_default c = omega arith
 pub loop-j-preserved-in_default : goal.loop-j-preserved-in_default
 loop-j-preserved-in_default c =
     let l = (at (goal.at.loop-j-preserved-in_default c).After-decide-turn).loop-j in
-    let e = goes_passes (label_in l.running) c.decide-turn.result l.page l.running.newest c.in_default.keys2
+    let e = goes_passes (label_in l.running) c.decide-turn.result l.page l.running.newest c.in_default.not-Opens
     (sym c.end_by-end.ensures ∙ c.if-end-ne0.false) in (
       refl,
       goes_further refl (subst (Step (goal.at.loop-j-preserved-in_default c).After-decide-turn) e (dealt (goal.at.loop-j-preserved-in_default c).After-decide-turn)),
@@ -137,7 +134,7 @@ loop-j-preserved-in_default c =
 
 pub open-requires : goal.open-requires
 open-requires c =
-    let F = (at (chosen (goal.at.open-requires c).In-Opens)).loop.invariant.1.kept.fair in
+    let F = (at (chosen (goal.at.open-requires c).In-Opens)).loop-j.invariant.1.kept.fair in
     record { table_len = (F.size, (seen_sweeps (fair_seen F)).low); s_lt_slots = (opens (goal.at.open-requires c).In-Opens).0 }
 
 pub overflow_cast-at : goal.overflow_cast-at
@@ -171,28 +168,27 @@ pub loop-j-preserved : goal.loop-j-preserved
 loop-j-preserved c =
     let t = turned (goal.at.loop-j-preserved c).After-open in
     let d = chosen t in
-    let o = t in
     let l = (at d).loop-j in
     let a = (start d).args in
-    let g = t.turn-1.given.0 in
-    let s : Slot = g.0 in
-    let to : Slot = g.1.1.1.0 in
+    let g = t.in-Opens in
+    let s : Slot = g.s in
+    let to : Slot = g.to in
     let F = l.invariant.1.kept.fair in
     let z : end_of (label_in l.running) l.page l.running.newest (meta_of s) ≡ 0 =
     subst (λ (T : Turn). end_by (label_in l.running) T l.page l.running.newest ≡ 0) t.in-Opens.is
-    (sym o.end_by-end.ensures ∙ o.if-end-ne0.false) in
+    (sym t.end_by-end.ensures ∙ t.if-end-ne0.false) in
     let r = joined_is l.running (parts l.running F.record_kept) s a.caller to (opens t).1 in
     let q = ap (λ (m : ℕ). opened_if m (before d) s a.caller to) z
     ∙ (λ i. record { state = sym r i; page = sym c.meta_of-page.ensures i + 1; places = l.j + 1; end = 0 }) in
-    let v = ap (λ (m : ℕ). row_if m (before d) (block d) s g.1.0 g.1.1.0 l.table) z ∙ sym c.open.ensures in (
+    let v = ap (λ (m : ℕ). row_if m (before d) (block d) s g.flags g.passed l.table) z ∙ sym c.open.ensures in (
       refl,
       goes_further refl
-          (subst (λ (u : Run). Stepped a.table.now a.state a.blocks.now a.words.now a.caller l.j u c.open.new.table.0) q
+          (subst (λ (u : Run). Stepped a.table.now a.state a.blocks.now a.words.now a.caller l.j u c.open.new.table) q
           (subst (λ (v : List ℕ). Stepped a.table.now a.state a.blocks.now a.words.now a.caller l.j
-          (run_after (Opens s g.1.0 g.1.1.0 to) (before d) a.caller) v) v
+          (run_after (Opens s g.flags g.passed to) (before d) a.caller) v) v
           (subst (Step d) t.in-Opens.is (dealt d)))),
       l.invariant.2,
-      omega (arith, c.open.auto, l.invariant.3),
+      omega (arith, c.open.auto.table, l.invariant.3),
       omega (arith, l.invariant.0, d.loop-j-test.true),
       ap (λ (m : ℕ). m + a.caller) l.invariant.5 ∙ sym (held_more l.running F.record_kept s a.caller to (start d).requires.caller_le_import_caller)
           ∙ ap (held_by a.caller) (sym r),

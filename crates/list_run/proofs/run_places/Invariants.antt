@@ -23,6 +23,10 @@ use Rattle.list_run.proofs.PlacedLaws.{place_turn_is, placing_performs}
 use Rattle.list_run.proofs.RunLaws.{held_more, held_most, Going, going_begin, going_done, Stepped, step, goes_further, ends_there}
 use Rattle.list_run.proofs.run_places.Given as goal
 
+-- the run so far, as one
+abbrev pub run_of : Record → ℕ → ℕ → Run
+run_of state page j = record { state = state; page = page; places = j; end = 0 }
+
 abbrev pub invariant-loop-j : goal.invariant-loop-j
 invariant-loop-j l = (l.n ≡ length l.blocks) × Going l.initial.table l.initial.running l.blocks l.words l.caller l.table (run_of l.running l.page l.j) l.j × (length l.words ≡ length l.blocks)
     × (length l.table ≡ length l.initial.table) × (l.j ≤ length l.blocks) × (l.mine ≡ held_by l.caller l.running)

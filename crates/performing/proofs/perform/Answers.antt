@@ -72,10 +72,10 @@ pub copy_out-stored-requires : goal.copy_out-stored-requires
 copy_out-stored-requires c =
     let s = entry-2 (goal.at.copy_out-stored-requires c).In-CopiesOut in
     let d = doable s _ c.in-CopiesOut.is in
-    let g = c.turn-in-CopiesOut-1.given.0 in
-    let P = passed s g.1.0 in
-    let f = P.dirty_is g.0 d.0 ∙ d.1 in
-    rw c.clear_used-in-CopiesOut.ensures record { fits_record = fits s _; hdd_len = s.requires.hdd_len; blocks_bound = (record_limits s.args.state s.requires.state_value).blocks-most; s_lt_slots = d.0; s_bound = dirty-block (label_in s.args.state) (table_after g.1.0 (box s)) P.legal g.0 d.0 f; s_value = f }
+    let g = c.in-CopiesOut in
+    let P = passed s g.passed in
+    let f = P.dirty_is g.s d.0 ∙ d.1 in
+    rw c.clear_used-in-CopiesOut.ensures record { fits_record = fits s _; hdd_len = s.requires.hdd_len; blocks_bound = (record_limits s.args.state s.requires.state_value).blocks-most; s_lt_slots = d.0; s_bound = dirty-block (label_in s.args.state) (table_after g.passed (box s)) P.legal g.s d.0 f; s_value = f }
 
 pub returns-in-Refused : goal.returns-in-Refused
 returns-in-Refused c =

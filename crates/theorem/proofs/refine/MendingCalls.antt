@@ -162,7 +162,7 @@ module _ (l : Label) (k : Core) (S : Shape l k) (p : Plain) (M : Mending (abs l 
 
   rest-rule : Rattle.laws.proofs.model.Base.Window l.slots (nums (off_page (lowest_page k.window) k.window))
   rest-rule = rw (nums_off (lowest_page k.window) k.window)
-      (Rattle.laws.proofs.model.Base.keep-window _ l.slots (nums k.window) (pending_rule l k S p M on))
+      (Rattle.laws.proofs.model.Base.keep_window _ l.slots (nums k.window) (pending_rule l k S p M on))
 
   pub mended_core_shape : Shape l (mended_core l k)
   mended_core_shape =

@@ -64,8 +64,8 @@ module _ {z : Box} {w : List Slot} {y : Model} {p : Plain} (S : Sound (label_in 
   asks spare = record {
     is_open_is = O.is_open_is;
     in_blocks = rw (O.block_is, W.blocks) O.block-low;
-    was_shut = ap model.openRow (W.row s.0) ∙ O.was_shut;
-    was_clean = ap model.dirtyRow (W.row s.0) ∙ O.was_clean;
+    was_shut = ap model.open_row (W.row s.0) ∙ O.was_shut;
+    was_clean = ap model.dirty_row (W.row s.0) ∙ O.was_clean;
     fresh = λ t n q. rw O.block_is (fresh-row O.fresh t n q);
     slot_below_is = rw W.slots O.low;
     room = rw W.window (room S O.few);

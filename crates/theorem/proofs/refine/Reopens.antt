@@ -145,15 +145,15 @@ module _ (l : Label) (k : Core) (p : Plain) (K : ImagesKept l k.ssd k.hdd) (St :
   unfolding pages_test
   pages_pass = rw (each_pass, stamps_pass, once_pass, open_pass)
     where
-      each_pass : Rattle.protocol.specs.Recovery.eachLegal l 0 (metas_of l k.ssd) ≡ true
+      each_pass : Rattle.protocol.specs.Recovery.each_legal l 0 (metas_of l k.ssd) ≡ true
       each_pass = each_legal_lem l 0 (metas_of l k.ssd)
           (λ q h. let e : q ≡ 0 + q = omega arith in rw (← e) (K.pages.each q (omega (arith, length_metas l k.ssd))))
 
-      stamps_pass : Rattle.protocol.specs.Recovery.stampsDiffer (metas_of l k.ssd) ≡ true
+      stamps_pass : Rattle.protocol.specs.Recovery.stamps_differ (metas_of l k.ssd) ≡ true
       stamps_pass = stamps_differ_lem (metas_of l k.ssd)
           (λ q r i j. K.pages.apart q r (omega (arith, length_metas l k.ssd)) (omega (arith, length_metas l k.ssd)) (omega arith))
 
-      once_pass : Rattle.protocol.specs.Recovery.noneTwice (stored_rows l (metas_of l k.ssd)) ≡ true
+      once_pass : Rattle.protocol.specs.Recovery.none_twice (stored_rows l (metas_of l k.ssd)) ≡ true
       once_pass = rw stored_is (none_twice_lem (rows_from l.slots entry) each)
         where
           each : (s u : ℕ) → s < u → 2 * u + 1 < length (rows_from l.slots entry)
@@ -167,7 +167,7 @@ module _ (l : Label) (k : Core) (p : Plain) (K : ImagesKept l k.ssd k.hdd) (St :
               let b = rows-block l.slots entry in
               apart-rows s u i hu (sym (ap valid (f s hs)) ∙ v) (sym (ap valid (f u hu)) ∙ w) (sym (b s hs) ∙ e ∙ b u hu)
 
-      open_pass : Rattle.protocol.specs.Recovery.allOpenIn (metas_of l k.ssd) (newest_of (metas_of l k.ssd)).window ≡ true
+      open_pass : Rattle.protocol.specs.Recovery.all_open_in (metas_of l k.ssd) (newest_of (metas_of l k.ssd)).window ≡ true
       open_pass = unfold window entry in (all_open (metas_of l k.ssd) (newest_of (metas_of l k.ssd)).window
           (λ s h. window_open s.0 h))
 

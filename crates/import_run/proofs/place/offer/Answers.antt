@@ -1,16 +1,13 @@
 use Prim.Native.Nat.{ℕ}
 use mathlib.Core.List.{List, [], ◌∷◌}
-use mathlib.Core.Logic.{⊎_elim}
 use mathlib.Core.Path.{◌≡◌, refl, sym, ap, ◌∙◌}
 use native.Mathlib.Omega.{arith}
-use types.Run.{OneOf}
 use denote.Enum.Declared.{tag_of}
 use Rattle.layout.specs.declared.Slot.{Slot}
 use Rattle.layout.specs.declared.Block.{Block}
 use Rattle.layout.specs.declared.Label.{Label}
 use Rattle.turns.specs.declared.turn.Turn.{Turn}
 use Rattle.turns.specs.declared.turn.Turn.TheVariants.{Refused, Passes, Opens, CopiesOut}
-use Rattle.turns.specs.contracts.turn.Turn as turn-type
 use Rattle.import_run.specs.declared.Run.{Run}
 use Rattle.import_run.specs.Runs.{After, taken, offered, copies_out, copied_table}
 use Rattle.import_run.proofs.PlaceLaws.{Copied, steady_sweeps, steady_takes, steady_copies}
@@ -19,12 +16,12 @@ use Rattle.import_run.proofs.place.offer.Goals as goal
 use Rattle.import_run.proofs.place.offer.Goals.{Start}
 
 -- a turn that is no copy-out
-other : (T : Turn) (l : Label) (t : List ℕ) (r : Run) (n : ℕ) (b : Block) (d : Slot) → OneOf (0 ∷ 1 ∷ 2 ∷ []) (tag_of turn-type.the_type T)
+other : (T : Turn) (l : Label) (t : List ℕ) (r : Run) (n : ℕ) (b : Block) (d : Slot) → ((s : Slot) (n : ℕ) → T ≡ CopiesOut s n → ⊥)
     → taken T l t r b d ≡ offered T l t r n b d
 other (Refused n) l t r m b d k = refl
 other Passes l t r m b d k = refl
 other (Opens s f n hand) l t r m b d k = refl
-other (CopiesOut s n) l t r m b d k = absurd (⊎_elim (λ z. omega arith) (⊎_elim (λ z. omega arith) (λ z. omega arith)) k)
+other (CopiesOut s n) l t r m b d k = absurd (k s n refl)
 
 -- one that is
 copied : (s : Start) {u : Slot} {n : ℕ} → s.args.turn ≡ CopiesOut u n
@@ -42,7 +39,7 @@ pub returns-in_default : goal.returns-in_default
 returns-in_default c =
     let a = c.args in
     c.take.ensures
-    ∙ other a.turn a.l a.table.now a.run a.number a.b a.d c.in_default.keys2
+    ∙ other a.turn a.l a.table.now a.run a.number a.b a.d c.in_default.not-CopiesOut
 
 pub copy_out-next-requires : goal.copy_out-next-requires
 copy_out-next-requires c =

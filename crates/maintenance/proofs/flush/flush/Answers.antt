@@ -36,13 +36,13 @@ pub returns-then-not-state : goal.returns-then-not-state
 unfolding confirmed perform
 returns-then-not-state c =
     let a = (start (goal.at.returns-then-not-state c).Else-number-ne0).args in
-    rw c.answered.ensures (flush_idle a.ssd.now a.hdd.now a.table.now a.state (passed (goal.at.returns-then-not-state c).Else-number-ne0) c.if-not-state.true)
+    rw c.answered.ensures (flush_idle a.ssd.now a.hdd.now a.table.now a.state (passed (goal.at.returns-then-not-state c).Else-number-ne0) (not-true _ c.if-not-state.true))
 
 pub returns-then-top-state : goal.returns-then-top-state
 returns-then-top-state c =
     let a = (start (goal.at.returns-then-top-state c).Else-number-ne0).args in
     rw c.refused-then-top-state.ensures
-    (flush_spent a.ssd.now a.hdd.now a.table.now a.state (passed (goal.at.returns-then-top-state c).Else-number-ne0) c.if-not-state.false
+    (flush_spent a.ssd.now a.hdd.now a.table.now a.state (passed (goal.at.returns-then-top-state c).Else-number-ne0) (not-false _ c.if-not-state.false)
     (le-leb (largest_stamp (label_in a.state)) _ (omega (arith, c.largest_stamp-top.ensures, c.if-top-state.true))))
 
 pub confirm-requires : goal.confirm-requires
@@ -56,5 +56,5 @@ returns c =
     let a = (start (goal.at.returns c).Else-number-ne0).args in
     let z = c.confirm.ensures in
     rw (z.0, z.1)
-    (flush_done a.ssd.now a.hdd.now a.table.now a.state (passed (goal.at.returns c).Else-number-ne0) c.if-not-state.false
+    (flush_done a.ssd.now a.hdd.now a.table.now a.state (passed (goal.at.returns c).Else-number-ne0) (not-false _ c.if-not-state.false)
     (lt-leb (largest_stamp (label_in a.state)) _ (omega (arith, c.largest_stamp-top.ensures, c.if-top-state.false))))

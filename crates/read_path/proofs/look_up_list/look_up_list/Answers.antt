@@ -49,7 +49,7 @@ fits j z = let a = (start (goal.at.After-judge_list-listed j).Else-number-ne0).a
 pub locate-requires : goal.locate-requires
 locate-requires c =
     let a = (start (goal.at.locate-requires c).Else-number-ne0).args in
-    record { table_len = (box (goal.at.locate-requires c).Else-number-ne0).box.sound.table-size; words_len = sym (fits (goal.at.locate-requires c).After-judge_list-listed c.if-listed-ne0.false); slots_bound = (box (goal.at.locate-requires c).Else-number-ne0).box.ranges.slots-most }
+    record { table_len = (box (goal.at.locate-requires c).Else-number-ne0).box.sound.table-size; words_len = sym (fits (goal.at.locate-requires c).After-judge_list-listed c.if-listed-ne0.false); slots_bound = (box (goal.at.locate-requires c).Else-number-ne0).box.fits.slots-most }
 
 pub use_places-requires : goal.use_places-requires
 use_places-requires c =

@@ -22,7 +22,7 @@ pub bounds-table-from : goal.bounds-table-from
 bounds-table-from c =
     let f = few (goal.at.bounds-table-from c).After-least-n in
     let P = (start (goal.at.bounds-table-from c).After-least-n).requires in
-    omega (arith, f.0, P.1.0, P.1.1, c.loop-i.invariant.0)
+    omega (arith, f.0, P.table_len, P.first_lt_slots, c.loop-i.invariant.0)
 
 pub bounds-part-i : goal.bounds-part-i
 bounds-part-i c =

@@ -20,7 +20,7 @@ numbered c =
     number-length s.args.line.now c.put_number.new.part s.requires.line_len (ap length c.put_number.ensures ∙ length-number (60 * s.args.k) low)
 
 lettered : (c : After-put_letters) → let n = c in let a = n.args in
-    length (put_mid 6 60 (set (put_mid 0 5 a.line.now n.put-number.new.0) 5 32) c.put_letters.new.part) ≡ 67
+    length (put_mid 6 60 (set (put_mid 0 5 a.line.now n.put_number.new.part) 5 32) c.put_letters.new.part) ≡ 67
 lettered c =
     let n = c in
     let a = n.args in
