@@ -63,7 +63,7 @@ use Rattle.import_cost.proofs.StateLaws.{landed-again, condition_at_lem, conditi
 
 -- a steady table has few enough slots
 pub steady_slots : {l : Label} {t : List ℕ} {h : Slot} → Steady l t h → l.slots ≤ 57600
-steady_slots S = subst (λ (l : Label). l.slots ≤ 57600) S.Label-is (record_limits S.state S.fair.record_kept).slots-most
+steady_slots S = subst (λ (l : Label). l.slots ≤ 57600) S.label_is (record_limits S.state S.fair.record_kept).slots-most
 
 -- the flags of a slot that is opened
 opened-writing : {f : ℕ} → Opened f → (writing f ≡ true) × (dirty f ≡ true) × (valid f ≡ true)

@@ -37,12 +37,12 @@ listed : (c : Else-listed-ne0) → let a = (start (goal.at.Else-listed-ne0 c).El
 listed c = sym c.judge_call-listed.ensures ∙ c.if-listed-ne0.false
 
 -- 13 is passed
-run_is : (c : Else-run-eq13) → let r = c in let a = (start (goal.at.Else-run-eq13 r).Else-number-ne0).args in
+run_is : (c : Else-run-eq13) → let a = (start (goal.at.Else-run-eq13 c).Else-number-ne0).args in
     (refused13 a.table.now a.state a.blocks.now a.caller ≡ false)
-    × Ended a.table.now a.state r.run-all.new.0 r.run-all.result (offered_as a.table.now a.state a.blocks.now a.caller)
-run_is c = let r = c in let a = (start (goal.at.Else-run-eq13 r).Else-number-ne0).args in
-    ran_ended a.table.now a.state r.run_all-run.new.table r.run_all-run.result (offered_as a.table.now a.state a.blocks.now a.caller)
-    (refused13 a.table.now a.state a.blocks.now a.caller) c.if-run-eq13.false r.run_all-run.ensures
+    × Ended a.table.now a.state c.run_all-run.new.table c.run_all-run.result (offered_as a.table.now a.state a.blocks.now a.caller)
+run_is c = let a = (start (goal.at.Else-run-eq13 c).Else-number-ne0).args in
+    ran_ended a.table.now a.state c.run_all-run.new.table c.run_all-run.result (offered_as a.table.now a.state a.blocks.now a.caller)
+    (refused13 a.table.now a.state a.blocks.now a.caller) c.if-run-eq13.false c.run_all-run.ensures
 
 pub returns-then-number-ne0 : goal.returns-then-number-ne0
 returns-then-number-ne0 c =
@@ -75,46 +75,42 @@ pub alone-requires : goal.alone-requires
 alone-requires c =
     let a = (start (goal.at.alone-requires c).Else-number-ne0).args in
     let same = same-table a.ssd.now a.hdd.now a.table.now a.state a.blocks.now a.caller (seen (goal.at.alone-requires c).Else-number-ne0).none (listed (goal.at.alone-requires c).Else-listed-ne0) (ready-fair (box (goal.at.alone-requires c).Else-number-ne0)) c.run_all-run.new.table c.run_all-run.result (run_is (goal.at.alone-requires c).Else-run-eq13).1 c.if-run-eq0.true in
-    rw same record { fits_record = (box (goal.at.alone-requires c).Else-number-ne0).box.ranges; hdd_len = (box (goal.at.alone-requires c).Else-number-ne0).box.sound.hdd-size; fair = ready-fair (box (goal.at.alone-requires c).Else-number-ne0); condition_value = (seen (goal.at.alone-requires c).Else-number-ne0).condition_is }
+    rw same record { fits_record = (box (goal.at.alone-requires c).Else-number-ne0).box.fits; hdd_len = (box (goal.at.alone-requires c).Else-number-ne0).box.sound.hdd-size; fair = ready-fair (box (goal.at.alone-requires c).Else-number-ne0); condition_value = (seen (goal.at.alone-requires c).Else-number-ne0).condition_is }
 
 pub returns-then-run-eq0 : goal.returns-then-run-eq0
 returns-then-run-eq0 c =
-    let f = c in
-    let a = (start (goal.at.returns-then-run-eq0 f).Else-number-ne0).args in
+    let a = (start (goal.at.returns-then-run-eq0 c).Else-number-ne0).args in
     c.alone.ensures
     ∙ ap (λ (b : Block). left (turned (place_turn c.run_all-run.new.table a.state b a.caller) b a.caller (box_of a.ssd.now a.hdd.now c.run_all-run.new.table a.state)) (record { ssd = a.ssd.now; hdd = a.hdd.now }))
-    f.first_of-first.ensures
-    ∙ alone_leaves a.ssd.now a.hdd.now a.table.now a.state a.blocks.now a.caller (seen (goal.at.returns-then-run-eq0 f).Else-number-ne0).none (listed (goal.at.returns-then-run-eq0 c).Else-listed-ne0) (ready-fair (box (goal.at.returns-then-run-eq0 f).Else-number-ne0)) c.run_all-run.new.table c.run_all-run.result (run_is (goal.at.returns-then-run-eq0 c).Else-run-eq13).1 c.if-run-eq0.true
+    c.first_of-first.ensures
+    ∙ alone_leaves a.ssd.now a.hdd.now a.table.now a.state a.blocks.now a.caller (seen (goal.at.returns-then-run-eq0 c).Else-number-ne0).none (listed (goal.at.returns-then-run-eq0 c).Else-listed-ne0) (ready-fair (box (goal.at.returns-then-run-eq0 c).Else-number-ne0)) c.run_all-run.new.table c.run_all-run.result (run_is (goal.at.returns-then-run-eq0 c).Else-run-eq13).1 c.if-run-eq0.true
 
 pub returns-then-run-eq0-2 : goal.returns-then-run-eq0-2
 unfolding confirmed perform
 returns-then-run-eq0-2 c =
-    let f = c in
-    let a = (start (goal.at.returns-then-run-eq0-2 f).Else-number-ne0).args in
+    let a = (start (goal.at.returns-then-run-eq0-2 c).Else-number-ne0).args in
     rw c.answered.ensures
-    (passed-leaves a.ssd.now a.hdd.now a.table.now a.state a.blocks.now a.caller (seen (goal.at.returns-then-run-eq0-2 f).Else-number-ne0).none (listed (goal.at.returns-then-run-eq0-2 c).Else-listed-ne0) (ready-fair (box (goal.at.returns-then-run-eq0-2 f).Else-number-ne0)) c.run_all-run.new.table c.run_all-run.result (run_is (goal.at.returns-then-run-eq0-2 c).Else-run-eq13).1
+    (passed-leaves a.ssd.now a.hdd.now a.table.now a.state a.blocks.now a.caller (seen (goal.at.returns-then-run-eq0-2 c).Else-number-ne0).none (listed (goal.at.returns-then-run-eq0-2 c).Else-listed-ne0) (ready-fair (box (goal.at.returns-then-run-eq0-2 c).Else-number-ne0)) c.run_all-run.new.table c.run_all-run.result (run_is (goal.at.returns-then-run-eq0-2 c).Else-run-eq13).1
     c.if-run-eq0.false (run_is (goal.at.returns-then-run-eq0-2 c).Else-run-eq13).0 c.if-run-eq0-2.true)
 
 pub confirm-requires : goal.confirm-requires
 confirm-requires c =
-    let f = c in
-    let a = (start (goal.at.confirm-requires f).Else-number-ne0).args in
-    let P = (seen (goal.at.confirm-requires f).Else-number-ne0).none in
+    let a = (start (goal.at.confirm-requires c).Else-number-ne0).args in
+    let P = (seen (goal.at.confirm-requires c).Else-number-ne0).none in
     let l = listed (goal.at.confirm-requires c).Else-listed-ne0 in
-    let F = ready-fair (box (goal.at.confirm-requires f).Else-number-ne0) in
+    let F = ready-fair (box (goal.at.confirm-requires c).Else-number-ne0) in
     let v = c.run_all-run.new.table in
     let q = c.run_all-run.result in
-    let E = run_is (goal.at.confirm-requires c).Else-run-eq13 in record { fits_record = state_fits a.ssd.now a.hdd.now a.table.now a.state a.blocks.now a.caller P l F v q E.1 c.if-run-eq0.false E.0 (box (goal.at.confirm-requires f).Else-number-ne0).box.ranges; p_bound = page_fits a.ssd.now a.hdd.now a.table.now a.state a.blocks.now a.caller P l F v q E.1 c.if-run-eq0.false E.0 c.if-run-eq0-2.false; newest_bound = stamp-left a.ssd.now a.hdd.now a.table.now a.state a.blocks.now a.caller P l F v q E.1 c.if-run-eq0.false E.0 c.if-run-eq0-2.false }
+    let E = run_is (goal.at.confirm-requires c).Else-run-eq13 in record { fits_record = state_fits a.ssd.now a.hdd.now a.table.now a.state a.blocks.now a.caller P l F v q E.1 c.if-run-eq0.false E.0 (box (goal.at.confirm-requires c).Else-number-ne0).box.fits; p_bound = page_fits a.ssd.now a.hdd.now a.table.now a.state a.blocks.now a.caller P l F v q E.1 c.if-run-eq0.false E.0 c.if-run-eq0-2.false; newest_bound = stamp-left a.ssd.now a.hdd.now a.table.now a.state a.blocks.now a.caller P l F v q E.1 c.if-run-eq0.false E.0 c.if-run-eq0-2.false }
 
 pub shape_of-table : goal.shape_of-table
-shape_of-table c = omega (arith, c.run_all-run.auto)
+shape_of-table c = omega (arith, c.run_all-run.auto.table)
 
 pub returns : goal.returns
 unfolding confirmed perform
 returns c =
-    let r = c in
-    let f = r in
+    let f = c in
     let a = (start (goal.at.returns f).Else-number-ne0).args in
     rw (c.confirm.ensures.0, c.confirm.ensures.1)
-    (stored-leaves a.ssd.now a.hdd.now a.table.now a.state a.blocks.now a.caller (seen (goal.at.returns f).Else-number-ne0).none (listed (goal.at.returns r).Else-listed-ne0) (ready-fair (box (goal.at.returns f).Else-number-ne0)) r.run_all-run.new.table r.run_all-run.result (run_is (goal.at.returns c).Else-run-eq13).1
+    (stored-leaves a.ssd.now a.hdd.now a.table.now a.state a.blocks.now a.caller (seen (goal.at.returns f).Else-number-ne0).none (listed (goal.at.returns c).Else-listed-ne0) (ready-fair (box (goal.at.returns f).Else-number-ne0)) c.run_all-run.new.table c.run_all-run.result (run_is (goal.at.returns c).Else-run-eq13).1
     c.if-run-eq0.false (run_is (goal.at.returns c).Else-run-eq13).0 c.if-run-eq0-2.false)

@@ -8,11 +8,8 @@ use Rattle.protocol.specs.Calls.{box_of}
 use Rattle.load_run.specs.Runs.{Load, run_from}
 use Rattle.load_run.proofs.RunLaws.{run_none, counted-most, run_more, run-done}
 use native.Mathlib.Omega.{arith}
+use Rattle.load_run.proofs.run.Invariants.{load_of}
 use Rattle.load_run.proofs.run.Goals as goal
-
--- the load so far
-abbrev load_of : List ℕ → List ℕ → List ℕ → Record → List ℕ → ℕ → Load
-load_of ssd hdd table state plain n = record { box = box_of ssd hdd table state; plain = plain; refusals = n }
 
 pub loop-i-init : goal.loop-i-init
 loop-i-init c = (omega arith, omega arith, refl, refl, refl, refl, run_none _ _ _)

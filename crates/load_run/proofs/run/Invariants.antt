@@ -9,6 +9,10 @@ use Rattle.load_run.proofs.RunLaws.{run_none, counted-most, run_more, run-done}
 use native.Mathlib.Omega.{arith}
 use Rattle.load_run.proofs.run.Given as goal
 
+-- the load so far
+abbrev pub load_of : List ℕ → List ℕ → List ℕ → Record → List ℕ → ℕ → Load
+load_of ssd hdd table state plain n = record { box = box_of ssd hdd table state; plain = plain; refusals = n }
+
 abbrev pub invariant-loop-i : goal.invariant-loop-i
 invariant-loop-i l = (l.i ≤ l.draws) × (l.refusals ≤ l.i) × (length l.ssd ≡ length l.initial.ssd) × (length l.hdd ≡ length l.initial.hdd) × (length l.table ≡ length l.initial.table)
     × (length l.plain ≡ length l.initial.plain)

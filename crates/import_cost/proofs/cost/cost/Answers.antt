@@ -71,14 +71,13 @@ run_all-requires c =
 
 pub returns : goal.returns
 returns c =
-    let e = c in
-    let a = (start (goal.at.returns e).Else-number-ne0).args in
-    let G = box e in
+    let a = (start (goal.at.returns c).Else-number-ne0).args in
+    let G = box (goal.at.returns c).Else-number-ne0 in
     let S = scans a.blocks.now a.caller (listed (goal.at.returns c).Else-listed-ne0) in
     let full : c.crowded-full.result ≡ crowd_by a.state.count (held_by a.caller a.state) =
     c.crowded-full.ensures
-    ∙ ap (λ (n : ℕ). crowd_by e.judge_ready-seen.result.writing n) c.held.ensures
-    ∙ ap (λ (n : ℕ). crowd_by n (held_by a.caller a.state)) ((seen (goal.at.returns e).Else-number-ne0).writing_is
+    ∙ ap (λ (n : ℕ). crowd_by c.judge_ready-seen.result.writing n) c.held.ensures
+    ∙ ap (λ (n : ℕ). crowd_by n (held_by a.caller a.state)) ((seen (goal.at.returns c).Else-number-ne0).writing_is
     ∙ sym (open_count a.ssd.now a.hdd.now _ a.table.now a.state G)) in
     c.run_all.ensures
     ∙ (λ i. run_from a.state.label (full i) 0 a.blocks.now (record {
@@ -90,4 +89,4 @@ returns c =
     G.box.sound.hdd-size
     a.caller S.known a.table.now (ready-fair G) a.blocks.now)
     ∙ cost_runs a.ssd.now a.hdd.now a.table.now a.state a.blocks.now a.caller a.scratch.now _
-    e.lent-page.ensures (seen (goal.at.returns e).Else-number-ne0).none (listed (goal.at.returns c).Else-listed-ne0)
+    c.lent-page.ensures (seen (goal.at.returns c).Else-number-ne0).none (listed (goal.at.returns c).Else-listed-ne0)

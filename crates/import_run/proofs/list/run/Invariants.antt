@@ -11,7 +11,7 @@ use native.Mathlib.Omega.{arith}
 use Rattle.import_run.proofs.list.run.Given as goal
 
 abbrev pub invariant-loop-j : goal.invariant-loop-j
-invariant-loop-j l = (l.n ≡ length l.blocks) × Going l.l l.number l.blocks l.words (run_from l.l l.number 0 l.blocks (record { l.run = l.initial.run; l.table = l.initial.table })) l.table l.run l.j
+invariant-loop-j l = (l.n ≡ length l.blocks) × Going l.l l.number l.blocks l.words (run_from l.l l.number 0 l.blocks (record { run = l.initial.run; table = l.initial.table })) l.table l.run l.j
     × (length l.words ≡ length l.blocks)
     × (length l.table ≡ length l.initial.table) × (l.j ≤ length l.blocks)
 

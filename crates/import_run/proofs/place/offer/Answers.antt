@@ -45,7 +45,7 @@ pub copy_out-next-requires : goal.copy_out-next-requires
 copy_out-next-requires c =
     let p = c.requires in
     let W = steady_sweeps p.steady in
-    let C = copied c c.in-CopiesOut.is in
+    let C = copied (goal.at.copy_out-next-requires c).Start c.in-CopiesOut.is in
     record { table_len = (W.size, W.low); s_lt_slots = C.low; s_value = C.was_dirty; copies_bound = p.early.1 }
 
 pub offer_at-again-requires : goal.offer_at-again-requires
@@ -55,7 +55,7 @@ offer_at-again-requires c =
 
 pub take-requires-2 : goal.take-requires-2
 take-requires-2 c =
-    let C = copied c c.in-CopiesOut.is in
+    let C = copied (goal.at.take-requires-2 c).Start c.in-CopiesOut.is in
     let W = steady_sweeps C.steady in
     rw (
       c.offer_at-again.ensures,

@@ -22,8 +22,8 @@ overflow_add-next c =
 pub land-requires : goal.land-requires
 land-requires c =
     let a = c.args in
-    let v : List ℕ = c.clear_used.new.table.0 in
-    let h : 2 * a.s.0 + 1 < length v = omega (arith, c.clear_used.auto, c.requires.table_len.0, c.requires.s_lt_slots.0) in
+    let v : List ℕ = c.clear_used.new.table in
+    let h : 2 * a.s.0 + 1 < length v = omega (arith, c.clear_used.auto.table, c.requires.table_len.0, c.requires.s_lt_slots.0) in
     let u : List ℕ = set v (2 * a.s.0) a.b.0 in
     let m : 2 * a.s.0 + 1 < length u = omega (arith, h, length-set v (2 * a.s.0) a.b.0) in
     let f : row_flags (set_row v a.s a.b a.flags) a.s ≡ a.flags = get_or-set_same u (2 * a.s.0 + 1) a.flags 0 m in
