@@ -16,7 +16,10 @@ pub legal_page-requires : goal.legal_page-requires
 legal_page-requires c =
     let l = c.loop-p in
     let h : l.p < meta_pages c.args.l = omega (arith, l.invariant.0) in
-    record { page_len = (page-read c.args.l _ _ _ c.requires.ssd_len h c.meta_page.ensures).1; p_bound = omega (arith, pages-most c.args.l c.requires.limits, c.loop-p.invariant.0) }
+    record {
+      page_len = (page-read c.args.l _ _ _ c.requires.ssd_len h c.meta_page.ensures).1;
+      p_bound = omega (arith, pages-most c.args.l c.requires.limits, c.loop-p.invariant.0);
+    }
 
 pub returns-then-not-legal_page : goal.returns-then-not-legal_page
 returns-then-not-legal_page c =

@@ -17,7 +17,10 @@ pub entry_of-entry-requires : goal.entry_of-entry-requires
 entry_of-entry-requires c =
     let l = c.loop-i in
     let all : length c.args.w.slots ≡ 63 = search (rules, length-mapped) in
-    record { ssd_len = c.requires.ssd_len; s_lt_slots = slot-low c.args.l c.args.w.slots c.args.w.count l.i _ c.requires.w_value (omega arith) (omega (arith, c.requires)) }
+    record {
+      ssd_len = c.requires.ssd_len;
+      s_lt_slots = slot-low c.args.l c.args.w.slots c.args.w.count l.i _ c.requires.w_value (omega arith) (omega (arith, c.requires));
+    }
 
 pub returns-then-not-is_open : goal.returns-then-not-is_open
 returns-then-not-is_open c =

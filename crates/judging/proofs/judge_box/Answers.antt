@@ -45,7 +45,10 @@ returns-then-page-ne4096 c =
 pub look-requires : goal.look-requires
 look-requires c =
     let a = c.args in
-    record { state_value = kept (goal.at.look-requires c).Else-not-record_ok; table_len = lengths_table (label_in a.state) a.ssd a.hdd (length a.table.now) (lengths (goal.at.look-requires c).Else-not-lengths_ok) }
+    record {
+      state_value = kept (goal.at.look-requires c).Else-not-record_ok;
+      table_len = lengths_table (label_in a.state) a.ssd a.hdd (length a.table.now) (lengths (goal.at.look-requires c).Else-not-lengths_ok);
+    }
 
 pub returns : goal.returns
 returns c =

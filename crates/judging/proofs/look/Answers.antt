@@ -29,7 +29,13 @@ returns-then-not-scan c =
 pub agrees-requires : goal.agrees-requires
 agrees-requires c =
     let k = seen c in
-    record { state_value = c.requires.state_value; table_len = c.requires.table_len; table_value = k.rows; writing_value = k.open_are; busy_value = k.busy_are }
+    record {
+      state_value = c.requires.state_value;
+      table_len = c.requires.table_len;
+      table_value = k.rows;
+      writing_value = k.open_are;
+      busy_value = k.busy_are;
+    }
 
 pub returns-then-not-agrees : goal.returns-then-not-agrees
 returns-then-not-agrees c =

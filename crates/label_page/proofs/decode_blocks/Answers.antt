@@ -20,7 +20,10 @@ key c =
 line : (c : In-Number)
     → let a = c.args in
     let v = c.in-Number in
-    (v.end ≤ length a.bytes.now) × (number (drop (a.at + 7) a.bytes.now) ≡ some (record { value = v.blocks; rest = drop v.end a.bytes.now }))
+    (v.end ≤ length a.bytes.now) × (number (drop (a.at + 7) a.bytes.now) ≡ some (record {
+      value = v.blocks;
+      rest = drop v.end a.bytes.now;
+    }))
 line c =
     let a = c.args in
     read a.bytes.now (a.at + 7) (key (goal.at.In-Number c).Else-not-begins).0 _ _ _ c.scan_number.ensures c.in-Number.is

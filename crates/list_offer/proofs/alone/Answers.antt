@@ -42,7 +42,13 @@ perform-requires c =
     let a = c.args in
     let F = c.requires.fair in
     let p = placing_performs a.table.now a.state a.b a.caller F (place_turn_is a.table.now a.state a.b a.caller F) in
-    record { fits_record = c.requires.fits_record; hdd_len = c.requires.hdd_len; state_value = F.record_kept; table_value = fair-legal F; performable = rw (by_turn (goal.at.perform-requires c).After-offer-turn) p }
+    record {
+      fits_record = c.requires.fits_record;
+      hdd_len = c.requires.hdd_len;
+      state_value = F.record_kept;
+      table_value = fair-legal F;
+      performable = rw (by_turn (goal.at.perform-requires c).After-offer-turn) p;
+    }
 
 pub returns : goal.returns
 returns c =

@@ -62,7 +62,12 @@ pub run_all-run-requires : goal.run_all-run-requires
 run_all-run-requires c =
     let a = (start (goal.at.run_all-run-requires c).Else-number-ne0).args in
     let S = scans a.blocks.now a.caller (listed (goal.at.run_all-run-requires c).Else-listed-ne0) in
-    record { fair = ready-fair (box (goal.at.run_all-run-requires c).Else-number-ne0); blocks_len_bound = S.few; blocks_value = S.once; caller_le_import_caller = S.known }
+    record {
+      fair = ready-fair (box (goal.at.run_all-run-requires c).Else-number-ne0);
+      blocks_len_bound = S.few;
+      blocks_value = S.once;
+      caller_le_import_caller = S.known;
+    }
 
 pub returns-then-run-eq13 : goal.returns-then-run-eq13
 returns-then-run-eq13 c =
@@ -75,13 +80,21 @@ pub alone-requires : goal.alone-requires
 alone-requires c =
     let a = (start (goal.at.alone-requires c).Else-number-ne0).args in
     let same = same-table a.ssd.now a.hdd.now a.table.now a.state a.blocks.now a.caller (seen (goal.at.alone-requires c).Else-number-ne0).none (listed (goal.at.alone-requires c).Else-listed-ne0) (ready-fair (box (goal.at.alone-requires c).Else-number-ne0)) c.run_all-run.new.table c.run_all-run.result (run_is (goal.at.alone-requires c).Else-run-eq13).1 c.if-run-eq0.true in
-    rw same record { fits_record = (box (goal.at.alone-requires c).Else-number-ne0).box.fits; hdd_len = (box (goal.at.alone-requires c).Else-number-ne0).box.sound.hdd-size; fair = ready-fair (box (goal.at.alone-requires c).Else-number-ne0); condition_value = (seen (goal.at.alone-requires c).Else-number-ne0).condition_is }
+    rw same record {
+      fits_record = (box (goal.at.alone-requires c).Else-number-ne0).box.fits;
+      hdd_len = (box (goal.at.alone-requires c).Else-number-ne0).box.sound.hdd-size;
+      fair = ready-fair (box (goal.at.alone-requires c).Else-number-ne0);
+      condition_value = (seen (goal.at.alone-requires c).Else-number-ne0).condition_is;
+    }
 
 pub returns-then-run-eq0 : goal.returns-then-run-eq0
 returns-then-run-eq0 c =
     let a = (start (goal.at.returns-then-run-eq0 c).Else-number-ne0).args in
     c.alone.ensures
-    ∙ ap (λ (b : Block). left (turned (place_turn c.run_all-run.new.table a.state b a.caller) b a.caller (box_of a.ssd.now a.hdd.now c.run_all-run.new.table a.state)) (record { ssd = a.ssd.now; hdd = a.hdd.now }))
+    ∙ ap (λ (b : Block). left (turned (place_turn c.run_all-run.new.table a.state b a.caller) b a.caller (box_of a.ssd.now a.hdd.now c.run_all-run.new.table a.state)) (record {
+      ssd = a.ssd.now;
+      hdd = a.hdd.now;
+    }))
     c.first_of-first.ensures
     ∙ alone_leaves a.ssd.now a.hdd.now a.table.now a.state a.blocks.now a.caller (seen (goal.at.returns-then-run-eq0 c).Else-number-ne0).none (listed (goal.at.returns-then-run-eq0 c).Else-listed-ne0) (ready-fair (box (goal.at.returns-then-run-eq0 c).Else-number-ne0)) c.run_all-run.new.table c.run_all-run.result (run_is (goal.at.returns-then-run-eq0 c).Else-run-eq13).1 c.if-run-eq0.true
 
@@ -101,7 +114,11 @@ confirm-requires c =
     let F = ready-fair (box (goal.at.confirm-requires c).Else-number-ne0) in
     let v = c.run_all-run.new.table in
     let q = c.run_all-run.result in
-    let E = run_is (goal.at.confirm-requires c).Else-run-eq13 in record { fits_record = state_fits a.ssd.now a.hdd.now a.table.now a.state a.blocks.now a.caller P l F v q E.1 c.if-run-eq0.false E.0 (box (goal.at.confirm-requires c).Else-number-ne0).box.fits; p_bound = page_fits a.ssd.now a.hdd.now a.table.now a.state a.blocks.now a.caller P l F v q E.1 c.if-run-eq0.false E.0 c.if-run-eq0-2.false; newest_bound = stamp-left a.ssd.now a.hdd.now a.table.now a.state a.blocks.now a.caller P l F v q E.1 c.if-run-eq0.false E.0 c.if-run-eq0-2.false }
+    let E = run_is (goal.at.confirm-requires c).Else-run-eq13 in record {
+      fits_record = state_fits a.ssd.now a.hdd.now a.table.now a.state a.blocks.now a.caller P l F v q E.1 c.if-run-eq0.false E.0 (box (goal.at.confirm-requires c).Else-number-ne0).box.fits;
+      p_bound = page_fits a.ssd.now a.hdd.now a.table.now a.state a.blocks.now a.caller P l F v q E.1 c.if-run-eq0.false E.0 c.if-run-eq0-2.false;
+      newest_bound = stamp-left a.ssd.now a.hdd.now a.table.now a.state a.blocks.now a.caller P l F v q E.1 c.if-run-eq0.false E.0 c.if-run-eq0-2.false;
+    }
 
 pub shape_of-table : goal.shape_of-table
 shape_of-table c = omega (arith, c.run_all-run.auto.table)

@@ -6,4 +6,10 @@ use Rattle.list_offer.proofs.run_all.Goals as goal
 
 pub run_found-requires : goal.run_found-requires
 run_found-requires c =
-    record { fair = c.requires.fair; words_len = length-take (length c.args.blocks.now - 0) (replicate 63 0) ∙ omega (arith, c.requires.blocks_len_bound); blocks_len_bound = c.requires.blocks_len_bound; blocks_value = c.requires.blocks_value; caller_le_import_caller = c.requires.caller_le_import_caller }
+    record {
+      fair = c.requires.fair;
+      words_len = length-take (length c.args.blocks.now - 0) (replicate 63 0) ∙ omega (arith, c.requires.blocks_len_bound);
+      blocks_len_bound = c.requires.blocks_len_bound;
+      blocks_value = c.requires.blocks_value;
+      caller_le_import_caller = c.requires.caller_le_import_caller;
+    }

@@ -5,7 +5,10 @@ use Rattle.moves.proofs.copy_in.Goals as goal
 
 pub copy_page-requires : goal.copy_page-requires
 copy_page-requires c =
-    let a = c.args in record { holds = data_holds a.ssd.now a.state.label a.s _ c.requires.ssd_len c.requires.s_lt_slots c.data_place-place.ensures; holds_2 = block_holds a.hdd.now a.state.label a.b _ c.requires.hdd_len c.requires.b_lt_blocks c.block_place.ensures }
+    let a = c.args in record {
+      holds = data_holds a.ssd.now a.state.label a.s _ c.requires.ssd_len c.requires.s_lt_slots c.data_place-place.ensures;
+      holds_2 = block_holds a.hdd.now a.state.label a.b _ c.requires.hdd_len c.requires.b_lt_blocks c.block_place.ensures;
+    }
 
 pub overflow_cast-number : goal.overflow_cast-number
 overflow_cast-number c =

@@ -15,11 +15,18 @@ rows_end-end-requires c =
 pub encode_meta-page-requires : goal.encode_meta-page-requires
 encode_meta-page-requires c =
     let e = c.rows_end-end.ensures in
-    record { count_le_window_most = rw c.window_of.ensures c.requires.fits_record.window_most_is; rows_len_bound = simp (length-take, length-drop) (omega (arith, e.3)); rows_len = simp (length-take, length-drop) (omega (arith, e)) }
+    record {
+      count_le_window_most = rw c.window_of.ensures c.requires.fits_record.window_most_is;
+      rows_len_bound = simp (length-take, length-drop) (omega (arith, e.3));
+      rows_len = simp (length-take, length-drop) (omega (arith, e));
+    }
 
 pub store-requires : goal.store-requires
 store-requires c =
-    let a = c.args in record { holds = meta_holds a.ssd.now a.state.label a.p _ c.requires.fits_record.ssd-size c.requires.p_bound c.meta_place-place.ensures; page_len = search rules }
+    let a = c.args in record {
+      holds = meta_holds a.ssd.now a.state.label a.p _ c.requires.fits_record.ssd-size c.requires.p_bound c.meta_place-place.ensures;
+      page_len = search rules;
+    }
 
 pub overflow_cast-number : goal.overflow_cast-number
 overflow_cast-number c =

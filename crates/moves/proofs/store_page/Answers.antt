@@ -5,7 +5,10 @@ use Rattle.moves.proofs.store_page.Goals as goal
 
 pub store-requires : goal.store-requires
 store-requires c =
-    let a = c.args in record { holds = data_holds a.ssd.now a.state.label a.s _ c.requires.ssd_len c.requires.s_lt_slots c.data_place-place.ensures; page_len = c.requires.page_len }
+    let a = c.args in record {
+      holds = data_holds a.ssd.now a.state.label a.s _ c.requires.ssd_len c.requires.s_lt_slots c.data_place-place.ensures;
+      page_len = c.requires.page_len;
+    }
 
 pub overflow_cast-number : goal.overflow_cast-number
 overflow_cast-number c =

@@ -91,7 +91,10 @@ pub returns-then-rows-lt4 : goal.returns-then-rows-lt4
 returns-then-rows-lt4 c = stops (start4 (goal.at.returns-then-rows-lt4 c).Else-not-all_zero) 3 (passed4 (goal.at.returns-then-rows-lt4 c).Else-not-all_zero) (omega arith)
 
 pub legal_window-requires : goal.legal_window-requires
-legal_window-requires c = record { page_len = search rules; page_bound = ((count-rule _).0 (count-passed (goal.at.legal_window-requires c).Else-not-legal_count)).most }
+legal_window-requires c = record {
+  page_len = search rules;
+  page_bound = ((count-rule _).0 (count-passed (goal.at.legal_window-requires c).Else-not-legal_count)).most;
+}
 
 pub returns-then-not-legal_window : goal.returns-then-not-legal_window
 returns-then-not-legal_window c =

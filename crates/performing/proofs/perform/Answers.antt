@@ -61,7 +61,13 @@ open_slot-requires c =
     let s = entry (goal.at.open_slot-requires c).In-Opens in
     let d = doable s _ c.in-Opens.is in
     let n = leb-false _ s.args.state.newest (sym c.is_spent.ensures ∙ c.if-is_spent.false) in
-    rw c.clear_used.ensures record { fits_record = fits s _; state_value = s.requires.state_value; count_lt_window_most = d.1; newest_bound = omega (arith, n); s_lt_slots = d.0 }
+    rw c.clear_used.ensures record {
+      fits_record = fits s _;
+      state_value = s.requires.state_value;
+      count_lt_window_most = d.1;
+      newest_bound = omega (arith, n);
+      s_lt_slots = d.0;
+    }
 
 pub clear_used-requires-in-CopiesOut : goal.clear_used-requires-in-CopiesOut
 clear_used-requires-in-CopiesOut c =
@@ -75,7 +81,14 @@ copy_out-stored-requires c =
     let g = c.in-CopiesOut in
     let P = passed s g.passed in
     let f = P.dirty_is g.s d.0 ∙ d.1 in
-    rw c.clear_used-in-CopiesOut.ensures record { fits_record = fits s _; hdd_len = s.requires.hdd_len; blocks_bound = (record_limits s.args.state s.requires.state_value).blocks-most; s_lt_slots = d.0; s_bound = dirty-block (label_in s.args.state) (table_after g.passed (box s)) P.legal g.s d.0 f; s_value = f }
+    rw c.clear_used-in-CopiesOut.ensures record {
+      fits_record = fits s _;
+      hdd_len = s.requires.hdd_len;
+      blocks_bound = (record_limits s.args.state s.requires.state_value).blocks-most;
+      s_lt_slots = d.0;
+      s_bound = dirty-block (label_in s.args.state) (table_after g.passed (box s)) P.legal g.s d.0 f;
+      s_value = f;
+    }
 
 pub returns-in-Refused : goal.returns-in-Refused
 returns-in-Refused c =

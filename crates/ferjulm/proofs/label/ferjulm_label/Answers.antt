@@ -13,7 +13,11 @@ read-label : (ssd : List ℕ) (slots blocks : ℕ) (l : Label) → label_if ssd 
 unfolding c_label
 read-label ssd slots blocks l e = rw (label_test_is ssd, e, (legal-read ssd l e).1)
 
-no_label : (ssd : List ℕ) (slots blocks : ℕ) → label_if ssd ≡ Illegal → record { code = 2; slots = slots; blocks = blocks } ≡ c_label ssd slots blocks
+no_label : (ssd : List ℕ) (slots blocks : ℕ) → label_if ssd ≡ Illegal → record {
+  code = 2;
+  slots = slots;
+  blocks = blocks;
+} ≡ c_label ssd slots blocks
 unfolding c_label
 no_label ssd slots blocks e = rw (label_test_is ssd, e)
 

@@ -38,7 +38,13 @@ perform-requires c =
     let a = (start (goal.at.perform-requires c).Else-number-ne0).args in
     let B = (known (goal.at.perform-requires c).Else-number-ne0).box.box in
     let p = fetch_performs a.ssd.now a.hdd.now a.table.now a.state a.block a.caller (known (goal.at.perform-requires c).Else-number-ne0).none c.judge_block-seen.result.condition in
-    record { fits_record = B.fits; hdd_len = B.sound.hdd-size; state_value = B.record_kept; table_value = B.rows; performable = rw c.fetch-turn.ensures p }
+    record {
+      fits_record = B.fits;
+      hdd_len = B.sound.hdd-size;
+      state_value = B.record_kept;
+      table_value = B.rows;
+      performable = rw c.fetch-turn.ensures p;
+    }
 
 pub returns : goal.returns
 returns c =

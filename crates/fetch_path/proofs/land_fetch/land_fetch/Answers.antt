@@ -46,12 +46,23 @@ returns-then-number-ne0 c =
 pub copy_in-stored-requires : goal.copy_in-stored-requires
 copy_in-stored-requires c =
     let R = (known (goal.at.copy_in-stored-requires c).Else-number-ne0).row _ c.in-Fetching.is in
-    record { ssd_len = (known (goal.at.copy_in-stored-requires c).Else-number-ne0).box.box.sound.ssd-size; hdd_len = (known (goal.at.copy_in-stored-requires c).Else-number-ne0).box.box.sound.hdd-size; slots_bound = (known (goal.at.copy_in-stored-requires c).Else-number-ne0).box.box.fits.slots-most; s_lt_slots = R.low; b_lt_blocks = (known (goal.at.copy_in-stored-requires c).Else-number-ne0).low }
+    record {
+      ssd_len = (known (goal.at.copy_in-stored-requires c).Else-number-ne0).box.box.sound.ssd-size;
+      hdd_len = (known (goal.at.copy_in-stored-requires c).Else-number-ne0).box.box.sound.hdd-size;
+      slots_bound = (known (goal.at.copy_in-stored-requires c).Else-number-ne0).box.box.fits.slots-most;
+      s_lt_slots = R.low;
+      b_lt_blocks = (known (goal.at.copy_in-stored-requires c).Else-number-ne0).low;
+    }
 
 pub close_slot-next-requires : goal.close_slot-next-requires
 close_slot-next-requires c =
     let a = (start (goal.at.close_slot-next-requires c).Else-number-ne0).args in
-    let R = (known (goal.at.close_slot-next-requires c).Else-number-ne0).row _ c.in-Fetching.is in record { state_value = (known (goal.at.close_slot-next-requires c).Else-number-ne0).box.box.record_kept; state_value_2 = open_listed _ _ _ _ _ (known (goal.at.close_slot-next-requires c).Else-number-ne0).box _ R.low R.writing_is; s_in_bounds = R.within; s_bound = flags_low a.state a.table.now (known (goal.at.close_slot-next-requires c).Else-number-ne0).box.box.sound.table-size (known (goal.at.close_slot-next-requires c).Else-number-ne0).box.box.rows _ R.low }
+    let R = (known (goal.at.close_slot-next-requires c).Else-number-ne0).row _ c.in-Fetching.is in record {
+      state_value = (known (goal.at.close_slot-next-requires c).Else-number-ne0).box.box.record_kept;
+      state_value_2 = open_listed _ _ _ _ _ (known (goal.at.close_slot-next-requires c).Else-number-ne0).box _ R.low R.writing_is;
+      s_in_bounds = R.within;
+      s_bound = flags_low a.state a.table.now (known (goal.at.close_slot-next-requires c).Else-number-ne0).box.box.sound.table-size (known (goal.at.close_slot-next-requires c).Else-number-ne0).box.box.rows _ R.low;
+    }
 
 pub returns-in-NotCached : goal.returns-in-NotCached
 returns-in-NotCached c =

@@ -31,7 +31,10 @@ pub entry_at-entry-requires : goal.entry_at-entry-requires
 entry_at-entry-requires c =
     let l = c.loop-s in
     let h : l.s < c.args.l.slots = omega (arith, l.invariant.0) in
-    let k = c.loop-s-2 in record { page_len = (page-read c.args.l _ _ l.p c.requires.ssd_len (page-low c.args.l l.s l.p (l.invariant.2 h) h) c.meta_page-page.ensures).1; i_bound = omega (arith, k.invariant.0, c.page_end-end.ensures) }
+    let k = c.loop-s-2 in record {
+      page_len = (page-read c.args.l _ _ l.p c.requires.ssd_len (page-low c.args.l l.s l.p (l.invariant.2 h) h) c.meta_page-page.ensures).1;
+      i_bound = omega (arith, k.invariant.0, c.page_end-end.ensures);
+    }
 
 pub returns-then-not-visit : goal.returns-then-not-visit
 returns-then-not-visit c =

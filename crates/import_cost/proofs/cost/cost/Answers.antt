@@ -67,7 +67,11 @@ pub run_all-requires : goal.run_all-requires
 run_all-requires c =
     let a = (start (goal.at.run_all-requires c).Else-number-ne0).args in
     let S = scans a.blocks.now a.caller (listed (goal.at.run_all-requires c).Else-listed-ne0) in
-    rw c.copy.ensures record { steady = record { state = a.state; fair = ready-fair (box (goal.at.run_all-requires c).Else-number-ne0); label_is = refl; hand_is = refl }; blocks_len_bound = S.few; blocks_value = S.once }
+    rw c.copy.ensures record {
+      steady = record { state = a.state; fair = ready-fair (box (goal.at.run_all-requires c).Else-number-ne0); label_is = refl; hand_is = refl };
+      blocks_len_bound = S.few;
+      blocks_value = S.once;
+    }
 
 pub returns : goal.returns
 returns c =

@@ -5,4 +5,8 @@ use Rattle.import_cost.proofs.cost.run_found.Goals as goal
 
 pub locate-requires : goal.locate-requires
 locate-requires c =
-    record { table_len = (steady_sweeps c.requires.steady).size; words_len = c.requires.words_len; slots_bound = steady_slots c.requires.steady }
+    record {
+      table_len = (steady_sweeps c.requires.steady).size;
+      words_len = c.requires.words_len;
+      slots_bound = steady_slots c.requires.steady;
+    }

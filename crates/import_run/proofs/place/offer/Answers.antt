@@ -33,7 +33,11 @@ take-requires c =
     let a = c.args in
     let p = c.requires in
     let W = steady_sweeps p.steady in
-    record { table_len = (W.size, W.low); takes = rw (p.turn_value, p.d_value) (steady_takes p.steady a.number a.b p.b_lt_blocks); early = p.early.0 }
+    record {
+      table_len = (W.size, W.low);
+      takes = rw (p.turn_value, p.d_value) (steady_takes p.steady a.number a.b p.b_lt_blocks);
+      early = p.early.0;
+    }
 
 pub returns-in_default : goal.returns-in_default
 returns-in_default c =
@@ -63,7 +67,11 @@ take-requires-2 c =
       ap (λ (e : After). e.run)
           c.copy_out-next.ensures,
       C.next,
-    ) record { table_len = (W.size, C.low); takes = (C.low, omega arith); early = record { few_metadata = c.requires.early.0.few_metadata; few_landings = c.requires.early.0.few_landings } }
+    ) record {
+      table_len = (W.size, C.low);
+      takes = (C.low, omega arith);
+      early = record { few_metadata = c.requires.early.0.few_metadata; few_landings = c.requires.early.0.few_landings };
+    }
 
 pub returns : goal.returns
 returns c =

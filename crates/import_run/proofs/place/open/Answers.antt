@@ -28,7 +28,10 @@ land-requires c =
     let m : 2 * a.s.0 + 1 < length u = omega (arith, h, length-set v (2 * a.s.0) a.b.0) in
     let f : row_flags (set_row v a.s a.b a.flags) a.s ≡ a.flags = get_or-set_same u (2 * a.s.0 + 1) a.flags 0 m in
     rw c.set_row.ensures
-    record { lands = (omega (arith, m, length-set u (2 * a.s.0 + 1) a.flags), omega (arith, f, c.requires.s_lt_slots.1)); landings_bound = c.requires.early.few_landings }
+    record {
+      lands = (omega (arith, m, length-set u (2 * a.s.0 + 1) a.flags), omega (arith, f, c.requires.s_lt_slots.1));
+      landings_bound = c.requires.early.few_landings;
+    }
 
 pub returns : goal.returns
 returns c =

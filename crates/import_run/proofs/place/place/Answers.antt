@@ -20,7 +20,10 @@ condition_of-condition-requires c =
 
 pub offer_at-turn-requires : goal.offer_at-turn-requires
 offer_at-turn-requires c =
-    record { sweepable = steady_sweeps c.requires.steady; within = rw c.condition_of-condition.ensures (condition_within c.requires.steady c.args.b) }
+    record {
+      sweepable = steady_sweeps c.requires.steady;
+      within = rw c.condition_of-condition.ensures (condition_within c.requires.steady c.args.b);
+    }
 
 pub offer-requires : goal.offer-requires
 offer-requires c =

@@ -11,7 +11,11 @@ use Rattle.list_image.proofs.image.put_image.Goals as goal
 pub pending-pending-requires : goal.pending-pending-requires
 pending-pending-requires c =
     let k = passed c.args.l (metas_of c.args.l c.args.ssd.now) c.requires.ssd_value in
-    record { ssd_len = c.requires.ssd_len.0; ssd_value = k.legal; at_bound = rw (← length_metas c.args.l c.args.ssd.now) (found _ _ c.newest-found.ensures).on_page_is }
+    record {
+      ssd_len = c.requires.ssd_len.0;
+      ssd_value = k.legal;
+      at_bound = rw (← length_metas c.args.l c.args.ssd.now) (found _ _ c.newest-found.ensures).on_page_is;
+    }
 
 pub put_lines-requires : goal.put_lines-requires
 put_lines-requires c =
@@ -19,7 +23,11 @@ put_lines-requires c =
     let w = newest_bounded c.args.l (metas_of c.args.l c.args.ssd.now) _ k.legal (found _ _ c.newest-found.ensures).on_page_is in
     let z = pending_bounded c.args.l _ _ c.pending-pending.ensures w in
     let f = few_slots c.args.l _ c.requires.ssd_len.0 c.requires.ssd_len.1 in
-    record { slots_in_bounds = omega (arith, c.put_head-at.ensures.end_is, c.put_head-at.ensures.short, c.requires.page_len); ssd_len = c.requires.ssd_len.0; count_le_window_most = z.0 }
+    record {
+      slots_in_bounds = omega (arith, c.put_head-at.ensures.end_is, c.put_head-at.ensures.short, c.requires.page_len);
+      ssd_len = c.requires.ssd_len.0;
+      count_le_window_most = z.0;
+    }
 
 pub returns : goal.returns
 returns c =

@@ -17,7 +17,10 @@ loop-s-init c = (omega arith, refl, written_none _ _ _)
 pub put_line-end-requires : goal.put_line-end-requires
 put_line-end-requires c =
     let l = c.loop-s in
-    record { at_in_bounds = omega (arith, l.invariant.2.end_is, l.invariant.2.short, c.requires.slots_in_bounds); count_le_window_most = c.requires.count_le_window_most }
+    record {
+      at_in_bounds = omega (arith, l.invariant.2.end_is, l.invariant.2.short, c.requires.slots_in_bounds);
+      count_le_window_most = c.requires.count_le_window_most;
+    }
 
 pub loop-s-preserved : goal.loop-s-preserved
 loop-s-preserved c =

@@ -36,7 +36,12 @@ returns-then-not-pages_ok c =
 
 pub put_image-requires : goal.put_image-requires
 put_image-requires c =
-    let l = sym c.label_of.ensures ∙ c.in-Legal.is in record { page_len = c.requires; ssd_len = (c.if-ssd-ssd_length.false ∙ c.ssd_length.ensures, c.if-ssd-gt65536.false); limits = limits c.args.ssd.now _ l; ssd_value = sym c.pages_ok.ensures ∙ c.if-not-pages_ok.false }
+    let l = sym c.label_of.ensures ∙ c.in-Legal.is in record {
+      page_len = c.requires;
+      ssd_len = (c.if-ssd-ssd_length.false ∙ c.ssd_length.ensures, c.if-ssd-gt65536.false);
+      limits = limits c.args.ssd.now _ l;
+      ssd_value = sym c.pages_ok.ensures ∙ c.if-not-pages_ok.false;
+    }
 
 pub returns : goal.returns
 returns c =

@@ -16,7 +16,10 @@ loop-i-init c =
 pub meet-requires : goal.meet-requires
 meet-requires c =
     let l = c.loop-i in
-    record { words_len = l.invariant.0; by_index = λ j h e. ap (λ (n : ℕ). get_or c.args.marks.now (n % 4096) 0) (sym e) ∙ c.requires.by_index j h }
+    record {
+      words_len = l.invariant.0;
+      by_index = λ j h e. ap (λ (n : ℕ). get_or c.args.marks.now (n % 4096) 0) (sym e) ∙ c.requires.by_index j h;
+    }
 
 pub loop-i-preserved : goal.loop-i-preserved
 loop-i-preserved c =

@@ -48,7 +48,11 @@ returns-then-top-state c =
 pub confirm-requires : goal.confirm-requires
 confirm-requires c =
     let a = (start (goal.at.confirm-requires c).Else-number-ne0).args in
-    let B = ready a.ssd.now a.hdd.now 4096 a.table.now a.state (passed (goal.at.confirm-requires c).Else-number-ne0) in record { fits_record = B.box.fits; p_bound = meta_of-low (label_in a.state) (record { 0 = 0 }) B.box.sound.limits.some_slot; newest_bound = omega (arith, c.largest_stamp-top.ensures, c.if-top-state.false) }
+    let B = ready a.ssd.now a.hdd.now 4096 a.table.now a.state (passed (goal.at.confirm-requires c).Else-number-ne0) in record {
+      fits_record = B.box.fits;
+      p_bound = meta_of-low (label_in a.state) (record { 0 = 0 }) B.box.sound.limits.some_slot;
+      newest_bound = omega (arith, c.largest_stamp-top.ensures, c.if-top-state.false);
+    }
 
 pub returns : goal.returns
 unfolding confirmed perform

@@ -27,7 +27,10 @@ returns-then-meta_span-p c =
 
 pub store_meta-requires : goal.store_meta-requires
 store_meta-requires c =
-    record { fits_record = c.requires.fits_record; p_bound = place-page c.args.state.label _ (rw (← c.meta_span.ensures) c.if-meta_span-p.false) }
+    record {
+      fits_record = c.requires.fits_record;
+      p_bound = place-page c.args.state.label _ (rw (← c.meta_span.ensures) c.if-meta_span-p.false);
+    }
 
 pub returns : goal.returns
 returns c =

@@ -45,7 +45,14 @@ pub copy_out-stored-requires : goal.copy_out-stored-requires
 copy_out-stored-requires c =
     let R = (known (goal.at.copy_out-stored-requires c).Else-number-ne0).row _ c.in-Dirty.is in
     let L = (known (goal.at.copy_out-stored-requires c).Else-number-ne0).box.box.sound in
-    record { fits_record = (known (goal.at.copy_out-stored-requires c).Else-number-ne0).box.box.fits; hdd_len = L.hdd-size; blocks_bound = L.limits.blocks-most; s_lt_slots = R.low; s_bound = rw R.block_is (known (goal.at.copy_out-stored-requires c).Else-number-ne0).low; s_value = R.dirty_is }
+    record {
+      fits_record = (known (goal.at.copy_out-stored-requires c).Else-number-ne0).box.box.fits;
+      hdd_len = L.hdd-size;
+      blocks_bound = L.limits.blocks-most;
+      s_lt_slots = R.low;
+      s_bound = rw R.block_is (known (goal.at.copy_out-stored-requires c).Else-number-ne0).low;
+      s_value = R.dirty_is;
+    }
 
 pub returns-in-NotCached : goal.returns-in-NotCached
 unfolding perform

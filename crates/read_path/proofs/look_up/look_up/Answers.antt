@@ -40,13 +40,19 @@ pub use_slot-requires : goal.use_slot-requires
 use_slot-requires c =
     let a = (start (goal.at.use_slot-requires c).Else-number-ne0).args in
     let R = (known (goal.at.use_slot-requires c).Else-number-ne0).row _ c.in-Clean.is in
-    record { s_in_bounds = R.within; s_bound = flags_low a.state a.table.now (known (goal.at.use_slot-requires c).Else-number-ne0).box.box.sound.table-size (known (goal.at.use_slot-requires c).Else-number-ne0).box.box.rows _ R.low }
+    record {
+      s_in_bounds = R.within;
+      s_bound = flags_low a.state a.table.now (known (goal.at.use_slot-requires c).Else-number-ne0).box.box.sound.table-size (known (goal.at.use_slot-requires c).Else-number-ne0).box.box.rows _ R.low;
+    }
 
 pub use_slot-requires-in-Dirty : goal.use_slot-requires-in-Dirty
 use_slot-requires-in-Dirty c =
     let a = (start (goal.at.use_slot-requires-in-Dirty c).Else-number-ne0).args in
     let R = (known (goal.at.use_slot-requires-in-Dirty c).Else-number-ne0).row _ c.in-Dirty.is in
-    record { s_in_bounds = R.within; s_bound = flags_low a.state a.table.now (known (goal.at.use_slot-requires-in-Dirty c).Else-number-ne0).box.box.sound.table-size (known (goal.at.use_slot-requires-in-Dirty c).Else-number-ne0).box.box.rows _ R.low }
+    record {
+      s_in_bounds = R.within;
+      s_bound = flags_low a.state a.table.now (known (goal.at.use_slot-requires-in-Dirty c).Else-number-ne0).box.box.sound.table-size (known (goal.at.use_slot-requires-in-Dirty c).Else-number-ne0).box.box.rows _ R.low;
+    }
 
 pub returns-in-NotCached : goal.returns-in-NotCached
 unfolding perform

@@ -49,11 +49,18 @@ fits j z = let a = (start (goal.at.After-judge_list-listed j).Else-number-ne0).a
 pub locate-requires : goal.locate-requires
 locate-requires c =
     let a = (start (goal.at.locate-requires c).Else-number-ne0).args in
-    record { table_len = (box (goal.at.locate-requires c).Else-number-ne0).box.sound.table-size; words_len = sym (fits (goal.at.locate-requires c).After-judge_list-listed c.if-listed-ne0.false); slots_bound = (box (goal.at.locate-requires c).Else-number-ne0).box.fits.slots-most }
+    record {
+      table_len = (box (goal.at.locate-requires c).Else-number-ne0).box.sound.table-size;
+      words_len = sym (fits (goal.at.locate-requires c).After-judge_list-listed c.if-listed-ne0.false);
+      slots_bound = (box (goal.at.locate-requires c).Else-number-ne0).box.fits.slots-most;
+    }
 
 pub use_places-requires : goal.use_places-requires
 use_places-requires c =
-    let a = (start (goal.at.use_places-requires c).Else-number-ne0).args in record { by_index = λ j h. subst (λ (ws : List ℕ). 2 * get_or ws j 0 ≤ length a.table.now) (sym c.locate.ensures) (places_in_is a.table.now a.blocks.now j); by_index_2 = rows-low a.state a.table.now (box (goal.at.use_places-requires c).Else-number-ne0).box.sound.table-size (box (goal.at.use_places-requires c).Else-number-ne0).box.rows }
+    let a = (start (goal.at.use_places-requires c).Else-number-ne0).args in record {
+      by_index = λ j h. subst (λ (ws : List ℕ). 2 * get_or ws j 0 ≤ length a.table.now) (sym c.locate.ensures) (places_in_is a.table.now a.blocks.now j);
+      by_index_2 = rows-low a.state a.table.now (box (goal.at.use_places-requires c).Else-number-ne0).box.sound.table-size (box (goal.at.use_places-requires c).Else-number-ne0).box.rows;
+    }
 
 pub returns : goal.returns
 unfolding perform

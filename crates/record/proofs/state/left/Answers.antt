@@ -13,7 +13,10 @@ use Rattle.record.proofs.state.left.Goals as goal
 
 pub leave-left-requires : goal.leave-left-requires
 leave-left-requires c =
-    rw (c.window_of.ensures, window_is c.args.r) record { count_le_window_most = (parts c.args.r c.requires.r_value).most; w_value = c.requires.r_value_2 }
+    rw (c.window_of.ensures, window_is c.args.r) record {
+      count_le_window_most = (parts c.args.r c.requires.r_value).most;
+      w_value = c.requires.r_value_2;
+    }
 
 pub overflow_sub-next : goal.overflow_sub-next
 overflow_sub-next c =

@@ -101,4 +101,7 @@ returns c =
     let b : l.named ≡ caller_array (beside c.args.s w (take n c.args.callers)) =
     all_moved 0 c.args.s w _ l.named l.i l.invariant.2 (omega arith) (here (goal.at.returns c).Start) ∙ padded-callers _
     in
-    (λ i. record { slots = (rw (last_place (goal.at.returns c).Start) at a) i; callers = (rw (last_place (goal.at.returns c).Start) at b) i })
+    (λ i. record {
+      slots = (rw (last_place (goal.at.returns c).Start) at a) i;
+      callers = (rw (last_place (goal.at.returns c).Start) at b) i;
+    })

@@ -13,7 +13,11 @@ use Rattle.recovery.proofs.fill.recover.Goals as goal
 pub pending-pending-requires : goal.pending-pending-requires
 pending-pending-requires c =
     let k = passed c.args.l (metas_of c.args.l c.args.ssd.now) c.requires.ssd_value in
-    record { ssd_len = c.requires.ssd_len; ssd_value = k.legal; at_bound = rw (← length_metas c.args.l c.args.ssd.now) (found _ _ c.newest-found.ensures).on_page_is }
+    record {
+      ssd_len = c.requires.ssd_len;
+      ssd_value = k.legal;
+      at_bound = rw (← length_metas c.args.l c.args.ssd.now) (found _ _ c.newest-found.ensures).on_page_is;
+    }
 
 pub free_rows-requires : goal.free_rows-requires
 free_rows-requires c =

@@ -35,7 +35,11 @@ pub put_map-requires : goal.put_map-requires
 put_map-requires c =
     let a = (start (goal.at.put_map-requires c).Else-number-ne0).args in
     let R = ready a.ssd.now a.hdd.now 4096 a.table.now a.state (passed (goal.at.put_map-requires c).Else-number-ne0) in
-    record { table_len = R.box.fits.table-size; slots_bound = R.box.fits.slots-most; l_in_bounds = rw c.map_bytes.ensures at c.if-sheet-map_bytes.false }
+    record {
+      table_len = R.box.fits.table-size;
+      slots_bound = R.box.fits.slots-most;
+      l_in_bounds = rw c.map_bytes.ensures at c.if-sheet-map_bytes.false;
+    }
 
 pub returns : goal.returns
 returns c =

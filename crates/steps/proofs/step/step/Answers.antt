@@ -50,7 +50,12 @@ returns-then-top-state c =
 
 pub mend-requires : goal.mend-requires
 mend-requires c =
-    let S = box (goal.at.mend-requires c).Else-number-ne0 in record { fits_record = S.fits; state_value = S.record_kept; le_count = some_pending _ _ _ _ S c.in-Recovering.is; newest_bound = omega (arith, c.largest_stamp-top.ensures, c.if-top-state.false) }
+    let S = box (goal.at.mend-requires c).Else-number-ne0 in record {
+      fits_record = S.fits;
+      state_value = S.record_kept;
+      le_count = some_pending _ _ _ _ S c.in-Recovering.is;
+      newest_bound = omega (arith, c.largest_stamp-top.ensures, c.if-top-state.false);
+    }
 
 pub returns-in-Ready : goal.returns-in-Ready
 returns-in-Ready c =

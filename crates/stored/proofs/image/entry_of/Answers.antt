@@ -16,7 +16,10 @@ meta_page-requires c = record { ssd_len = c.requires.ssd_len; p_bound = low c }
 
 pub entry_at-requires : goal.entry_at-requires
 entry_at-requires c =
-    record { page_len = (page-read c.args.l _ _ _ c.requires.ssd_len (low (goal.at.entry_at-requires c).After-meta_of) c.meta_page.ensures).1; i_bound = omega arith }
+    record {
+      page_len = (page-read c.args.l _ _ _ c.requires.ssd_len (low (goal.at.entry_at-requires c).After-meta_of) c.meta_page.ensures).1;
+      i_bound = omega arith;
+    }
 
 pub returns : goal.returns
 unfolding entry_in

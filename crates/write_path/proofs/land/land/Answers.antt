@@ -55,7 +55,12 @@ returns-then-number-ne0 c =
 pub store_page-stored-requires : goal.store_page-stored-requires
 store_page-stored-requires c =
     let R = (known (goal.at.store_page-stored-requires c).Else-number-ne0).row _ c.in-Dirty.is in
-    record { ssd_len = (known (goal.at.store_page-stored-requires c).Else-number-ne0).box.box.sound.ssd-size; page_len = (known (goal.at.store_page-stored-requires c).Else-number-ne0).box.box.page-size; slots_bound = (known (goal.at.store_page-stored-requires c).Else-number-ne0).box.box.fits.slots-most; s_lt_slots = R.low }
+    record {
+      ssd_len = (known (goal.at.store_page-stored-requires c).Else-number-ne0).box.box.sound.ssd-size;
+      page_len = (known (goal.at.store_page-stored-requires c).Else-number-ne0).box.box.page-size;
+      slots_bound = (known (goal.at.store_page-stored-requires c).Else-number-ne0).box.box.fits.slots-most;
+      s_lt_slots = R.low;
+    }
 
 pub land_row-requires : goal.land_row-requires
 land_row-requires c =
@@ -65,12 +70,22 @@ land_row-requires c =
 pub store_page-stored-requires-in-Writing : goal.store_page-stored-requires-in-Writing
 store_page-stored-requires-in-Writing c =
     let R = (known (goal.at.store_page-stored-requires-in-Writing c).Else-number-ne0).row _ c.in-Writing.is in
-    record { ssd_len = (known (goal.at.store_page-stored-requires-in-Writing c).Else-number-ne0).box.box.sound.ssd-size; page_len = (known (goal.at.store_page-stored-requires-in-Writing c).Else-number-ne0).box.box.page-size; slots_bound = (known (goal.at.store_page-stored-requires-in-Writing c).Else-number-ne0).box.box.fits.slots-most; s_lt_slots = R.low }
+    record {
+      ssd_len = (known (goal.at.store_page-stored-requires-in-Writing c).Else-number-ne0).box.box.sound.ssd-size;
+      page_len = (known (goal.at.store_page-stored-requires-in-Writing c).Else-number-ne0).box.box.page-size;
+      slots_bound = (known (goal.at.store_page-stored-requires-in-Writing c).Else-number-ne0).box.box.fits.slots-most;
+      s_lt_slots = R.low;
+    }
 
 pub close_slot-next-requires : goal.close_slot-next-requires
 close_slot-next-requires c =
     let R = (known (goal.at.close_slot-next-requires c).Else-number-ne0).row _ c.in-Writing.is in
-    record { state_value = (known (goal.at.close_slot-next-requires c).Else-number-ne0).box.box.record_kept; state_value_2 = open_listed _ _ _ _ _ (known (goal.at.close_slot-next-requires c).Else-number-ne0).box _ R.low R.writing_is; s_in_bounds = R.within; s_bound = low-flags (goal.at.close_slot-next-requires c).Else-number-ne0 _ R.low }
+    record {
+      state_value = (known (goal.at.close_slot-next-requires c).Else-number-ne0).box.box.record_kept;
+      state_value_2 = open_listed _ _ _ _ _ (known (goal.at.close_slot-next-requires c).Else-number-ne0).box _ R.low R.writing_is;
+      s_in_bounds = R.within;
+      s_bound = low-flags (goal.at.close_slot-next-requires c).Else-number-ne0 _ R.low;
+    }
 
 pub returns-in-NotCached : goal.returns-in-NotCached
 returns-in-NotCached c =

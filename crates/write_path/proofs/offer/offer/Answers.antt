@@ -38,7 +38,10 @@ returns-then-number-ne0 c =
 
 pub offer-turn-requires : goal.offer-turn-requires
 offer-turn-requires c =
-    let a = (start c).args in record { seen = seen a.ssd.now a.hdd.now 4096 a.table.now a.state a.block a.caller _ (known c); within = within c }
+    let a = (start c).args in record {
+      seen = seen a.ssd.now a.hdd.now 4096 a.table.now a.state a.block a.caller _ (known c);
+      within = within c;
+    }
 
 -- what its turn leaves is what the call does
 offered : (d : After-offer-turn) → let a = (start (goal.at.After-offer-turn d).Else-number-ne0).args in let x = box_of a.ssd.now a.hdd.now a.table.now a.state in
@@ -64,7 +67,13 @@ perform-requires c =
     let a = (start (goal.at.perform-requires c).Else-number-ne0).args in
     let B = (known (goal.at.perform-requires c).Else-number-ne0).box.box in
     let p = offer_performs a.ssd.now a.hdd.now a.table.now a.state a.block a.caller (known (goal.at.perform-requires c).Else-number-ne0).none c.judge_block-seen.result.condition (within (goal.at.perform-requires c).Else-number-ne0) in
-    record { fits_record = B.fits; hdd_len = B.sound.hdd-size; state_value = B.record_kept; table_value = B.rows; performable = rw c.offer-turn.ensures p }
+    record {
+      fits_record = B.fits;
+      hdd_len = B.sound.hdd-size;
+      state_value = B.record_kept;
+      table_value = B.rows;
+      performable = rw c.offer-turn.ensures p;
+    }
 
 pub returns : goal.returns
 returns c =
