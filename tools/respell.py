@@ -14,7 +14,7 @@ import re
 import sys
 
 WORD = re.compile(r'[^\s(){}.;,@"«»]+')
-DECLARED = re.compile(r'^(\s*)((?:pub |abbrev |unfoldable |record |data |mod )*)([^\s(){}.;,@"«»:]+)((?: *\([^)]*\)| *\{[^}]*\})*) +:(?: |$)')
+DECLARED = re.compile(r'^(\s*)((?:pub |abbrev |unfoldable |record |data |mod )*)([^\s(){}.;,@"«»:]+(?: [^\s(){}.;,@"«»:]+)*)((?: *\([^)]*\)| *\{[^}]*\})*) +:(?: |$)')
 # words of the library that a lemma of ours may be about, beside our own definitions
 LIBRARY = set("length append take drop set map replicate get_or add mul sub div rem le lt eq ne eqb leb ltb and or not cond min max suc pow reverse".split())
 def antt_files(root):
@@ -30,11 +30,11 @@ def snake(word):
 
 
 def declared(path):
-    """Yields the names that a file of specs/ or proofs/ declares: (name, whether it is a field or a constructor, whether it is a goal)."""
+    """Yields the names that a file of specs/ or proofs/ declares: each, whether it is a field or a constructor, a goal, alone on its line."""
     for line in open(path, encoding="utf-8"):
         m = DECLARED.match(line)
-        if m and not m.group(3).startswith("--"):
-            yield m.group(3), m.group(1) != "", " tie." in line or " goal." in line
+        for name in m.group(3).split(" ") if m and not m.group(3).startswith("--") else []:
+            yield name, m.group(1) != "", " tie." in line or " goal." in line, " " not in m.group(3)
 
 
 def table(root):
@@ -47,14 +47,14 @@ def table(root):
         if path.endswith(".rt"):
             continue
         taken |= {m.group(0) for m in WORD.finditer(text) if text[m.end() : m.end() + 1] != "." and not text[: m.start()].endswith("proofs.")}
-        for name, inner, goal in declared(path):
+        for name, inner, goal, alone in declared(path):
             if not goal and not (path.endswith("/Proof.antt") and inner is False and goal):
                 own.add(name)
                 if inner:
                     fields.add(name)
                 else:
                     tops.add(name)
-                if "/specs/" in path:
+                if "/specs/" in path and alone:
                     defs.add(snake(name))
     names = {d for d in defs if "-" not in d} | {n for n in own if n[:1].isupper()} | LIBRARY
 

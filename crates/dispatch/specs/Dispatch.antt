@@ -2,7 +2,7 @@
 use Rattle.std.specs.Prelude.{ℕ, List}
 use Rattle.protocol.specs.Reply.{Reply, refused}
 use Rattle.protocol.specs.Box.{Result, box_after}
-use Rattle.protocol.specs.Plan.{Call, format, step, flush, reopen, offer, fetch, landFetch, lookUp, writeBack, land, look_up_list, offer_list}
+use Rattle.protocol.specs.Plan.{Call, format, step, flush, reopen, offer, fetch, land_fetch, look_up, write_back, land, look_up_list, offer_list}
 use Rattle.protocol.specs.Calls.{result_of}
 use Rattle.protocol.specs.ReferenceDisk.{Disk, fed}
 use Rattle.protocol.specs.Events.{World, call, reads_if, finished, apply}
@@ -16,11 +16,11 @@ call_of Step page list room = step
 call_of (Offer b caller) page list room = offer b caller
 call_of (Land b) page list room = land b page
 call_of (Fetch b caller) page list room = fetch b caller
-call_of (LandFetch b) page list room = landFetch b
-call_of (LookUp b) page list room = lookUp b
+call_of (LandFetch b) page list room = land_fetch b
+call_of (LookUp b) page list room = look_up b
 call_of LookUpList page list room = look_up_list list room
 call_of (OfferList caller) page list room = offer_list list caller
-call_of (WriteBack b) page list room = writeBack b
+call_of (WriteBack b) page list room = write_back b
 call_of Flush page list room = flush
 call_of Reopen page list room = reopen
 

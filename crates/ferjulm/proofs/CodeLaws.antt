@@ -15,7 +15,7 @@ use Rattle.protocol.specs.declared.Stored.{Stored}
 use Rattle.protocol.specs.Reply.{Reply, refusal, answer, dealt, reply_of}
 use Rattle.protocol.specs.Box.{Box, Result}
 use Rattle.protocol.specs.Condition.{condition_of}
-use Rattle.protocol.specs.Plan.{Call, lookUp, look_up_list, looking_up, plan}
+use Rattle.protocol.specs.Plan.{Call, look_up, look_up_list, looking_up, plan}
 use Rattle.protocol.specs.Perform.{perform}
 use Rattle.protocol.specs.Judge.{Reason, judged}
 use Rattle.protocol.specs.Calls.{decided, effect_of, leaves, result_of, box_of, list_words_of}
@@ -37,9 +37,9 @@ left_is R said stored state table ssd hdd words after code p q =
     ∙ ap (λ (r : Result). left_by r words) p
 
 -- a look-up leaves the record
-pub look_up_state : (b : Block) (x : Box) → (result_of (lookUp b) x).state ≡ x.state
+pub look_up_state : (b : Block) (x : Box) → (result_of (look_up b) x).state ≡ x.state
 unfolding effect_of plan perform
-look_up_state b x = by_reason (judged (lookUp b) x)
+look_up_state b x = by_reason (judged (look_up b) x)
   where
     looks : (k : Condition) → (perform (looking_up k) x).state ≡ x.state
     looks NotCached = refl
@@ -48,7 +48,7 @@ look_up_state b x = by_reason (judged (lookUp b) x)
     looks (Writing s) = refl
     looks (Fetching s) = refl
 
-    by_reason : (o : Option Reason) → (decided o (lookUp b) x).state ≡ x.state
+    by_reason : (o : Option Reason) → (decided o (look_up b) x).state ≡ x.state
     by_reason (some q) = refl
     by_reason none = looks (condition_of x.table b)
 

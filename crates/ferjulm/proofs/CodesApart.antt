@@ -18,7 +18,7 @@ use Rattle.protocol.specs.declared.Stored.{Stored}
 use Rattle.protocol.specs.Reply.{Reply, refusal, answer, dealt, reply_of, refused}
 use Rattle.protocol.specs.Box.{Box, left}
 use Rattle.protocol.specs.Plan.{Call}
-use Rattle.protocol.specs.Judge.{Reason, badLimits, no_label, badRecord, wrongLength, badRows, wrongPhase, blockTooHigh, slotOpen, wrongState, hasSlot, windowFull, allOpen, stampsSpent, sheet_short, bad_scan, bad_list, importFull, unknownCaller, number_of, judged}
+use Rattle.protocol.specs.Judge.{Reason, bad_limits, no_label, bad_record, wrong_length, bad_rows, wrong_phase, block_too_high, slot_open, wrong_state, has_slot, window_full, all_open, stamps_spent, sheet_short, bad_scan, bad_list, import_full, unknown_caller, number_of, judged}
 use Rattle.protocol.specs.Calls.{decided, effect_of, result_of, box_of}
 use Rattle.layout.proofs.Booleans.{clash}
 use Rattle.laws.proofs.why.Answers.{plan_answers}
@@ -32,24 +32,24 @@ pub record IsRefusal (code : ℕ) : Type 0 where
   pub most : code ≤ 99
 
 pub number_refuses : (r : Reason) → IsRefusal (number_of r)
-number_refuses badLimits = omega arith
+number_refuses bad_limits = omega arith
 number_refuses no_label = omega arith
-number_refuses badRecord = omega arith
-number_refuses wrongLength = omega arith
-number_refuses badRows = omega arith
-number_refuses wrongPhase = omega arith
-number_refuses blockTooHigh = omega arith
-number_refuses slotOpen = omega arith
-number_refuses wrongState = omega arith
-number_refuses hasSlot = omega arith
-number_refuses windowFull = omega arith
-number_refuses allOpen = omega arith
-number_refuses stampsSpent = omega arith
+number_refuses bad_record = omega arith
+number_refuses wrong_length = omega arith
+number_refuses bad_rows = omega arith
+number_refuses wrong_phase = omega arith
+number_refuses block_too_high = omega arith
+number_refuses slot_open = omega arith
+number_refuses wrong_state = omega arith
+number_refuses has_slot = omega arith
+number_refuses window_full = omega arith
+number_refuses all_open = omega arith
+number_refuses stamps_spent = omega arith
 number_refuses sheet_short = omega arith
 number_refuses bad_scan = omega arith
 number_refuses bad_list = omega arith
-number_refuses importFull = omega arith
-number_refuses unknownCaller = omega arith
+number_refuses import_full = omega arith
+number_refuses unknown_caller = omega arith
 
 -- a call that is refused has a code from 1 to 99
 pub refusal-code : (c : Call) (x : Box) → refused (result_of c x).said ≡ true → IsRefusal (code_of (result_of c x).said)

@@ -24,11 +24,11 @@ use Rattle.record.proofs.CallerLaws.{length-callers}
 use Rattle.protocol.specs.Reply.{Reply, refusal, answer, dealt, refused}
 use Rattle.protocol.specs.Rows.{row_flags, writing}
 use Rattle.protocol.specs.Box.{Box, left, Result, box_after}
-use Rattle.protocol.specs.Plan.{slot_map, cost, Call, format, step, flush, reopen, offer, fetch, landFetch, lookUp, view, writeBack, land, look_up_list, offer_list, ask, grown, Move, lowest_page, stepping, plan}
+use Rattle.protocol.specs.Plan.{slot_map, cost, Call, format, step, flush, reopen, offer, fetch, land_fetch, look_up, view, write_back, land, look_up_list, offer_list, ask, grown, Move, lowest_page, stepping, plan}
 use Rattle.protocol.specs.Perform.{confirmed, landed_state, format_state, perform}
 use Rattle.protocol.specs.Recovery.{label_at, metas_of, newest_of, spent_stamp, recover, off_page}
 use Rattle.protocol.specs.Kinds.{Aim}
-use Rattle.protocol.specs.Judge.{Reason, badRows, test, judged}
+use Rattle.protocol.specs.Judge.{Reason, bad_rows, test, judged}
 use Rattle.protocol.specs.Calls.{decided, effect_of, result_of}
 use Rattle.protocol.specs.ReferenceDisk.{Disk}
 use Rattle.protocol.specs.Events.{World, call, called, run}
@@ -138,7 +138,7 @@ module _ (x : Box) (whole : Whole x.state) where
   recovers-whole e =
       let l = label_at x.images.ssd in
       let pages = metas_of l x.images.ssd in
-      let P = passed l pages (not-false _ (judging.passed reopen x e badRows refl)) in
+      let P = passed l pages (not-false _ (judging.passed reopen x e bad_rows refl)) in
       let f = found pages (numbered_of pages) refl in
       let few : length (newest_of pages).window ≤ 63 =
       rw f.newest_is at (newest_bounded l pages _ P.legal f.on_page_is).most in
@@ -255,10 +255,10 @@ once flush k = served_once flush k refl refl
 once reopen k = fresh-once reopen k _ refl refl
 once (offer b caller) k = served_once (offer b caller) k refl refl
 once (fetch b caller) k = served_once (fetch b caller) k refl refl
-once (landFetch b) k = served_once (landFetch b) k refl refl
-once (lookUp b) k = served_once (lookUp b) k refl refl
+once (land_fetch b) k = served_once (land_fetch b) k refl refl
+once (look_up b) k = served_once (look_up b) k refl refl
 once (view b) k = record { made = λ h. view_box b (box_in k); stays = λ h. refl; reach = λ h. h; stay_record = λ h. h }
-once (writeBack b) k = served_once (writeBack b) k refl refl
+once (write_back b) k = served_once (write_back b) k refl refl
 once (land b page) k = served_once (land b page) k refl refl
 once (ask (slot_map n)) k = record {
   made = λ h. sym (changes_nothing (slot_map n) (box_in k)).box;

@@ -3,8 +3,8 @@ use Rattle.std.specs.Prelude.{ℕ, ◌≡◌, Bool, true, false, List, [], ◌�
 use Rattle.std.proofs.Math.Option.{some}
 use Rattle.layout.specs.declared.Block.{Block}
 use Rattle.protocol.specs.Box.{Box}
-use Rattle.protocol.specs.Plan.{Ask, slot_map, cost, Call, format, step, flush, reopen, offer, fetch, landFetch, lookUp, view, writeBack, land, look_up_list, offer_list, ask}
-use Rattle.protocol.specs.Kinds.{Kind, a_format, aReopening, aStep, a_service, kind}
+use Rattle.protocol.specs.Plan.{Ask, slot_map, cost, Call, format, step, flush, reopen, offer, fetch, land_fetch, look_up, view, write_back, land, look_up_list, offer_list, ask}
+use Rattle.protocol.specs.Kinds.{Kind, a_format, a_reopening, a_step, a_service, kind}
 use Rattle.protocol.specs.Calls.{box_of}
 use Rattle.protocol.specs.ReferenceDisk.{Disk}
 use Rattle.protocol.specs.Events.{World, call, run}
@@ -45,10 +45,10 @@ c_made flush k = c_served flush k
 c_made reopen k = c_reopen k.ssd k.hdd k.table k.words
 c_made (offer b caller) k = c_served (offer b caller) k
 c_made (fetch b caller) k = c_served (fetch b caller) k
-c_made (landFetch b) k = c_served (landFetch b) k
-c_made (lookUp b) k = c_served (lookUp b) k
+c_made (land_fetch b) k = c_served (land_fetch b) k
+c_made (look_up b) k = c_served (look_up b) k
 c_made (view b) k = c_viewed b k
-c_made (writeBack b) k = c_served (writeBack b) k
+c_made (write_back b) k = c_served (write_back b) k
 c_made (land b page) k = c_served (land b page) k
 c_made (ask a) k = c_asked a k
 c_made (look_up_list blocks room) k = c_served (look_up_list blocks room) k
@@ -61,8 +61,8 @@ c_run (c ∷ cs) k = c_run cs (c_made c k)
 -- the calls that get past the words: a format or a reopening with any 134, any other call with words that are a record
 abbrev pub reaches_by : Kind → List ℕ → Bool
 reaches_by (a_format l) words = eqb (length words) record_words
-reaches_by aReopening words = eqb (length words) record_words
-reaches_by aStep words = is_record words
+reaches_by a_reopening words = eqb (length words) record_words
+reaches_by a_step words = is_record words
 reaches_by (a_service a) words = is_record words
 
 abbrev pub reaches : Call → List ℕ → Bool

@@ -1,7 +1,7 @@
 // The calls but a view: the words are judged and unpacked, the box's call is made, and what it leaves is packed.
 ghost use Rattle.std.specs.Prelude.{◌≡◌, cond};
 ghost use Rattle.protocol.specs.Judge.{label_test};
-ghost use Rattle.protocol.specs.Plan.{step, flush, offer, fetch, landFetch, lookUp, writeBack, land};
+ghost use Rattle.protocol.specs.Plan.{step, flush, offer, fetch, land_fetch, look_up, write_back, land};
 ghost use Rattle.ferjulm.specs.Calls.{c_call, c_slot, c_place, c_format, c_reopen};
 
 use c_answers::answers;
@@ -115,7 +115,7 @@ pub extern "C" fn ferjulm_land_fetch(
     image: &mut u32,
     offset: &mut u64,
 ) -> u32
-    ensures { (record { code = result; words = words.new; table = table.new; ssd = ssd.new; hdd = hdd.now } ≡ c_call (landFetch (record { 0 = block })) ssd.old hdd.now table.old words.old) × (record { image = image.exit.now; offset = offset.new } ≡ c_place (landFetch (record { 0 = block })) ssd.old hdd.now table.old words.old (record { image = image.entry.now; offset = offset.old })) }
+    ensures { (record { code = result; words = words.new; table = table.new; ssd = ssd.new; hdd = hdd.now } ≡ c_call (land_fetch (record { 0 = block })) ssd.old hdd.now table.old words.old) × (record { image = image.exit.now; offset = offset.new } ≡ c_place (land_fetch (record { 0 = block })) ssd.old hdd.now table.old words.old (record { image = image.entry.now; offset = offset.old })) }
 {
     if !words::is_record(words) {
         return 3;
@@ -135,7 +135,7 @@ pub extern "C" fn ferjulm_look_up(
     block: u32,
     slot: &mut u32,
 ) -> u32
-    ensures { (record { code = result; words = words.now; table = table.new; ssd = ssd.now; hdd = hdd.now } ≡ c_call (lookUp (record { 0 = block })) ssd.now hdd.now table.old words.now) × (slot.new ≡ c_slot (lookUp (record { 0 = block })) ssd.now hdd.now table.old words.now slot.old) }
+    ensures { (record { code = result; words = words.now; table = table.new; ssd = ssd.now; hdd = hdd.now } ≡ c_call (look_up (record { 0 = block })) ssd.now hdd.now table.old words.now) × (slot.new ≡ c_slot (look_up (record { 0 = block })) ssd.now hdd.now table.old words.now slot.old) }
 {
     if !words::is_record(words) {
         return 3;
@@ -158,7 +158,7 @@ pub extern "C" fn ferjulm_write_back(
     image: &mut u32,
     offset: &mut u64,
 ) -> u32
-    ensures { (record { code = result; words = words.new; table = table.new; ssd = ssd.now; hdd = hdd.new } ≡ c_call (writeBack (record { 0 = block })) ssd.now hdd.old table.old words.old) × (record { image = image.exit.now; offset = offset.new } ≡ c_place (writeBack (record { 0 = block })) ssd.now hdd.old table.old words.old (record { image = image.entry.now; offset = offset.old })) }
+    ensures { (record { code = result; words = words.new; table = table.new; ssd = ssd.now; hdd = hdd.new } ≡ c_call (write_back (record { 0 = block })) ssd.now hdd.old table.old words.old) × (record { image = image.exit.now; offset = offset.new } ≡ c_place (write_back (record { 0 = block })) ssd.now hdd.old table.old words.old (record { image = image.entry.now; offset = offset.old })) }
 {
     if !words::is_record(words) {
         return 3;

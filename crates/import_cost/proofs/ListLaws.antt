@@ -20,7 +20,7 @@ use Rattle.protocol.specs.declared.Cost.TheVariants.{Refused, Counted, Met}
 use Rattle.protocol.specs.Reply.{Reply, refusal, answer, dealt, refused, done}
 use Rattle.protocol.specs.Box.{Box}
 use Rattle.protocol.specs.Plan.{Call, ask, cost}
-use Rattle.protocol.specs.Judge.{Reason, badRecord, wrongLength, badRows, wrongPhase, bad_scan, unknownCaller, number_of, lengths_test, length_test, test, judged}
+use Rattle.protocol.specs.Judge.{Reason, bad_record, wrong_length, bad_rows, wrong_phase, bad_scan, unknown_caller, number_of, lengths_test, length_test, test, judged}
 use Rattle.protocol.specs.Calls.{box_of}
 use Rattle.protocol.specs.Cost.{Tally, imports, CostLeft, met_or, cost_from, not_started, cost_by, cost_in, cost_of}
 use Rattle.judging.specs.Judging.{refuse_if, sound_then, ready_then, scan_then}
@@ -91,14 +91,14 @@ module _ (ssd hdd t : List ℕ) (r : Record) (blocks : List ℕ) (caller : ℕ) 
   abbrev left : CostLeft
   left = cost_of ssd hdd t r blocks caller scratch
 
-  begins : Judges c x (ready_then (length ssd) (length hdd) page t r 0) (bad_scan ∷ unknownCaller ∷ [])
+  begins : Judges c x (ready_then (length ssd) (length hdd) page t r 0) (bad_scan ∷ unknown_caller ∷ [])
   unfolding numbers test sound_then length_test lengths_test
-  begins = record { begins = badRecord ∷ wrongLength ∷ badRows ∷ wrongPhase ∷ []; chain_is = refl; number_is = rw lent }
+  begins = record { begins = bad_record ∷ wrong_length ∷ bad_rows ∷ wrong_phase ∷ []; chain_is = refl; number_is = rw lent }
 
   judges : Judges c x (ready_then (length ssd) (length hdd) page t r (scan_then blocks caller 0)) []
   unfolding numbers test sound_then length_test lengths_test
   judges = record {
-    begins = badRecord ∷ wrongLength ∷ badRows ∷ wrongPhase ∷ bad_scan ∷ unknownCaller ∷ [];
+    begins = bad_record ∷ wrong_length ∷ bad_rows ∷ wrong_phase ∷ bad_scan ∷ unknown_caller ∷ [];
     chain_is = refl;
     number_is = rw lent;
   }

@@ -33,8 +33,8 @@ use Rattle.protocol.specs.Condition.{open_as, closed_as, condition_at, condition
 use Rattle.protocol.specs.Sweep.{next_slot}
 use Rattle.protocol.specs.Plan.{offer, land, lands, opens as opening, landing, plan}
 use Rattle.protocol.specs.Perform.{joined, landed_state, confirmed, perform}
-use Rattle.protocol.specs.Kinds.{toWrite, to_land}
-use Rattle.protocol.specs.Judge.{wrongState, lengths_test, rows_test, test, judged}
+use Rattle.protocol.specs.Kinds.{to_write, to_land}
+use Rattle.protocol.specs.Judge.{wrong_state, lengths_test, rows_test, test, judged}
 use Rattle.protocol.specs.Calls.{effect_of, box_of}
 use Rattle.protocol.specs.Cost.{Tally, tallied, tallies, is_copied_out, repeats, offers_to, lands_unless, imports}
 use Rattle.laws.proofs.model.Model.{open_row}
@@ -118,8 +118,8 @@ module _ (ssd hdd t : List ℕ) (q : Record) (F : Fair t q) (ssd-size : length s
       → effect_of (land b zero_page) y ≡ perform (landing zero_page k) y
   unfolding test plan
   land-low b bl k e o = does (land b zero_page) y (landing zero_page k)
-      (judged_on (land b zero_page) y _ (wrongState ∷ []) (land_judges ssd hdd t q b zero_page) (rw length_zero (serves b 0 (omega arith) bl))
-      ∙ first_no _ wrongState [] (ap not (ap takes_write e ∙ o)) ∙ end _)
+      (judged_on (land b zero_page) y _ (wrong_state ∷ []) (land_judges ssd hdd t q b zero_page) (rw length_zero (serves b 0 (omega arith) bl))
+      ∙ first_no _ wrong_state [] (ap not (ap takes_write e ∙ o)) ∙ end _)
       (ap (landing zero_page) e)
 
 -- the run of one question
@@ -167,7 +167,7 @@ module _ (ssd hdd : List ℕ) (r : Record) (kept : record_test r ≡ true) (read
         → Done (imports caller b (tally said)) (record { run = meets 7 z; table = t })
     unfolding imports offers_to tallies
     high_ends said e = subst
-        (λ (f : Effect). let w : Tally = tallied toWrite f (tally said) in
+        (λ (f : Effect). let w : Tally = tallied to_write f (tally said) in
         let v : Tally = repeats (is_copied_out w.said) (offer b caller) w in Done (lands_unless (refused v.said) b v)
         (record { run = meets 7 z; table = t }))
         (sym e) (met _ _ refl (λ h. omega arith) refl refl)
@@ -177,10 +177,10 @@ module _ (ssd hdd : List ℕ) (r : Record) (kept : record_test r ≡ true) (read
       first = tallies (offer b caller) (tally said)
 
       by_turn : {T : Turn} → offer_turn_at l t z.hand number (condition_of t b) ≡ T
-          → first ≡ tallied toWrite (performed T b caller x) (tally said)
+          → first ≡ tallied to_write (performed T b caller x) (tally said)
       unfolding tallies
-      by_turn e = ap (λ (f : Effect). tallied toWrite f (tally said)) (effect_low bl)
-          ∙ ap (λ (T : Turn). tallied toWrite (performed T b caller x) (tally said)) e
+      by_turn e = ap (λ (f : Effect). tallied to_write f (tally said)) (effect_low bl)
+          ∙ ap (λ (T : Turn). tallied to_write (performed T b caller x) (tally said)) e
 
       -- landed, unless it was refused
       abbrev lands_after : Tally → Tally
@@ -284,7 +284,7 @@ module _ (ssd hdd : List ℕ) (r : Record) (kept : record_test r ≡ true) (read
             ∙ landed-again q F.record_kept s (out s O.was_shut) caller hand (z.newest + 1)
 
         abbrev branch : Bool → Tally
-        branch o = tallied toWrite (elim o [
+        branch o = tallied to_write (elim o [
           | true ↦ refusing 13 x
           | false ↦ perform (opening q s b caller f (cleared_from n l t z.hand) hand) x
         ]) (tally said)

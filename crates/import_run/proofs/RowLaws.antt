@@ -31,7 +31,7 @@ use Rattle.protocol.specs.Perform.{landed_flags}
 use Rattle.protocol.specs.Judge.{agree_test, rows_test}
 use Rattle.laws.proofs.model.Base.{upd, upd_same, upd_other, has}
 use Rattle.laws.proofs.model.Model.{open_row}
-use Rattle.laws.proofs.refine.Flags.{row_of, Flags, f0, f1, f3, f5, f7, f9, f11, f13, f15, LegalRow, flags_legal, cleaned_flags}
+use Rattle.laws.proofs.refine.Flags.{row_of, Flags, f0, f1, f3, f5, f7, f9, f11, f13, f15, LegalRow, flags_legal_lem, cleaned_flags}
 use Rattle.laws.proofs.refine.Tables.{row_at, Rows, at_open, set_at, set-rows, length-row}
 use Rattle.laws.proofs.refine.Windows.{nums}
 use Rattle.laws.proofs.refine.Conditions.{Located, at, nowhere, located}
@@ -240,7 +240,7 @@ module _ {t : List ℕ} {r : Record} (F : Fair t r) (b : Block) (bl : b.0 < r.la
 
   -- a page lands in a dirty slot
   pub lands_in_is : (s : Slot) → s.0 < r.label.slots → Lands t s
-  lands_in_is s h = (omega (arith, F.size), few (flags_legal (R s.0 h).flags).1)
+  lands_in_is s h = (omega (arith, F.size), few (flags_legal_lem (R s.0 h).flags).1)
     where
       few : ltb (row_flags t s) 16 ≡ true → row_flags t s < 16
       few e = ltb-true _ _ e

@@ -13,7 +13,7 @@ use Rattle.protocol.specs.declared.Cost.TheVariants.{Counted, Met}
 use Rattle.protocol.specs.Rows.{row_flags, set_flags, set_row, without_dirty}
 use Rattle.protocol.specs.Condition.{condition_of}
 use Rattle.protocol.specs.Perform.{landed_flags}
-use Rattle.protocol.specs.Judge.{blockTooHigh, stampsSpent, number_of}
+use Rattle.protocol.specs.Judge.{block_too_high, stamps_spent, number_of}
 use Rattle.protocol.specs.Cost.{CostLeft}
 use Rattle.sweeping.specs.Sweeps.{cleared_from}
 use Rattle.turns.specs.declared.turn.Turn.{Turn}
@@ -78,7 +78,7 @@ lands_in table r s = record { run = lands r; table = landed_row table s }
 
 -- a slot is opened and its page lands, or 13 is met and nothing changes
 abbrev pub opens_if : Bool → Label → List ℕ → Run → Block → Slot → ℕ → ℕ → Slot → After
-opens_if true l table r b s flags n hand = record { run = meets (number_of stampsSpent) r; table = table }
+opens_if true l table r b s flags n hand = record { run = meets (number_of stamps_spent) r; table = table }
 opens_if false l table r b s flags n hand = lands_in (set_row (cleared_from n l table r.hand) s b flags) (announces hand r) s
 
 -- a turn that copies nothing out, and the landing after it: in the slot d, where the block is dirty
@@ -119,7 +119,7 @@ place_in k l table r number b = offered (offer_turn_at l table r.hand number k) 
 unfoldable pub place_after : Label → List ℕ → Run → ℕ → Block → After
 place_after l table r number b =
     elim (leb l.blocks b.0) [
-      | true ↦ record { run = meets (number_of blockTooHigh) r; table = table }
+      | true ↦ record { run = meets (number_of block_too_high) r; table = table }
       | false ↦ place_in (condition_of table b) l table r number b
     ]
 

@@ -16,10 +16,10 @@ use Rattle.protocol.specs.Reply.{nothing_to_do}
 use Rattle.record.specs.Record.{label_in}
 use Rattle.protocol.specs.Box.{Box, refusing, left}
 use Rattle.protocol.specs.Condition.{condition_of, words_of, closed_slots, is_open, takes_write, takes_fetch}
-use Rattle.protocol.specs.Plan.{Call, look_up_list, uses_all, flush, landFetch, lookUp, view, writeBack, land, ask, slot_map, stay, confirms, looking_up, writing_back, landing, landing_fetch, flushing, stores_meta, plan}
+use Rattle.protocol.specs.Plan.{Call, look_up_list, uses_all, flush, land_fetch, look_up, view, write_back, land, ask, slot_map, stay, confirms, looking_up, writing_back, landing, landing_fetch, flushing, stores_meta, plan}
 use Rattle.protocol.specs.Perform.{perform}
 use Rattle.protocol.specs.SlotMap.{map_bytes, map_text}
-use Rattle.protocol.specs.Judge.{Reason, slotOpen, wrongState, stampsSpent, sheet_short, test, first_of, judged}
+use Rattle.protocol.specs.Judge.{Reason, slot_open, wrong_state, stamps_spent, sheet_short, test, first_of, judged}
 use Rattle.protocol.specs.Calls.{box_of, look_up_of, write_back_of, land_of, land_fetch_of, flush_of, look_up_list_of, words_by, words_left, list_words_of, viewed, view_part, view_of, mapped, map_of}
 use Rattle.judging.specs.Judging.{ready_then, serves_then, list_then}
 use Rattle.laws.proofs.Judged.{first_yes, first_no, performs, refused_as}
@@ -33,44 +33,44 @@ module _ (ssd hdd t : List ℕ) (r : Record) (b : Block) (k : Condition) (e : co
   module _ (z : serves_then (length ssd) (length hdd) 4096 t r b 0 0 ≡ 0) where
     pub look_up_is : left (perform (looking_up k) x) x.images ≡ look_up_of ssd hdd t r b
     unfolding plan
-    look_up_is = performs (lookUp b) x (looking_up k) (judged_on (lookUp b) x _ [] (look_up_judges ssd hdd t r b) z ∙ end _) (ap looking_up e)
+    look_up_is = performs (look_up b) x (looking_up k) (judged_on (look_up b) x _ [] (look_up_judges ssd hdd t r b) z ∙ end _) (ap looking_up e)
 
     pub write_back_open : is_open k ≡ true → left (refusing 8 x) x.images ≡ write_back_of ssd hdd t r b
     unfolding test
-    write_back_open o = refused_as (writeBack b) x slotOpen
-        (judged_on (writeBack b) x _ (slotOpen ∷ []) (write_back_judges ssd hdd t r b) z ∙ first_yes _ slotOpen [] (ap is_open e ∙ o))
+    write_back_open o = refused_as (write_back b) x slot_open
+        (judged_on (write_back b) x _ (slot_open ∷ []) (write_back_judges ssd hdd t r b) z ∙ first_yes _ slot_open [] (ap is_open e ∙ o))
 
     pub write_back_is : is_open k ≡ false → left (perform (writing_back x k) x) x.images ≡ write_back_of ssd hdd t r b
     unfolding test plan
-    write_back_is o = performs (writeBack b) x (writing_back x k)
-        (judged_on (writeBack b) x _ (slotOpen ∷ []) (write_back_judges ssd hdd t r b) z ∙ first_no _ slotOpen [] (ap is_open e ∙ o) ∙ end _)
+    write_back_is o = performs (write_back b) x (writing_back x k)
+        (judged_on (write_back b) x _ (slot_open ∷ []) (write_back_judges ssd hdd t r b) z ∙ first_no _ slot_open [] (ap is_open e ∙ o) ∙ end _)
         (ap (writing_back x) e)
 
     pub land_fetch_wrong : takes_fetch k ≡ false → left (refusing 9 x) x.images ≡ land_fetch_of ssd hdd t r b
     unfolding test
-    land_fetch_wrong o = refused_as (landFetch b) x wrongState
-        (judged_on (landFetch b) x _ (wrongState ∷ []) (land_fetch_judges ssd hdd t r b) z
-        ∙ first_yes _ wrongState [] (ap not (ap takes_fetch e ∙ o)))
+    land_fetch_wrong o = refused_as (land_fetch b) x wrong_state
+        (judged_on (land_fetch b) x _ (wrong_state ∷ []) (land_fetch_judges ssd hdd t r b) z
+        ∙ first_yes _ wrong_state [] (ap not (ap takes_fetch e ∙ o)))
 
     pub land_fetch_is : takes_fetch k ≡ true → left (perform (landing_fetch x b k) x) x.images ≡ land_fetch_of ssd hdd t r b
     unfolding test plan
-    land_fetch_is o = performs (landFetch b) x (landing_fetch x b k)
-        (judged_on (landFetch b) x _ (wrongState ∷ []) (land_fetch_judges ssd hdd t r b) z
-        ∙ first_no _ wrongState [] (ap not (ap takes_fetch e ∙ o)) ∙ end _)
+    land_fetch_is o = performs (land_fetch b) x (landing_fetch x b k)
+        (judged_on (land_fetch b) x _ (wrong_state ∷ []) (land_fetch_judges ssd hdd t r b) z
+        ∙ first_no _ wrong_state [] (ap not (ap takes_fetch e ∙ o)) ∙ end _)
         (ap (landing_fetch x b) e)
 
   module _ (page : List ℕ) (z : serves_then (length ssd) (length hdd) (length page) t r b 0 0 ≡ 0) where
     pub land_wrong : takes_write k ≡ false → left (refusing 9 x) x.images ≡ land_of ssd hdd t r b page
     unfolding test
-    land_wrong o = refused_as (land b page) x wrongState
-        (judged_on (land b page) x _ (wrongState ∷ []) (land_judges ssd hdd t r b page) z
-        ∙ first_yes _ wrongState [] (ap not (ap takes_write e ∙ o)))
+    land_wrong o = refused_as (land b page) x wrong_state
+        (judged_on (land b page) x _ (wrong_state ∷ []) (land_judges ssd hdd t r b page) z
+        ∙ first_yes _ wrong_state [] (ap not (ap takes_write e ∙ o)))
 
     pub land_is : takes_write k ≡ true → left (perform (landing page k) x) x.images ≡ land_of ssd hdd t r b page
     unfolding test plan
     land_is o = performs (land b page) x (landing page k)
-        (judged_on (land b page) x _ (wrongState ∷ []) (land_judges ssd hdd t r b page) z
-        ∙ first_no _ wrongState [] (ap not (ap takes_write e ∙ o)) ∙ end _)
+        (judged_on (land b page) x _ (wrong_state ∷ []) (land_judges ssd hdd t r b page) z
+        ∙ first_no _ wrong_state [] (ap not (ap takes_write e ∙ o)) ∙ end _)
         (ap (landing page) e)
 
 -- flush, by the record's unconfirmed
@@ -78,27 +78,27 @@ module _ (ssd hdd t : List ℕ) (r : Record) (z : ready_then (length ssd) (lengt
   abbrev y : Box
   y = box_of ssd hdd t r
 
-  asked : judged flush y ≡ first_of (stampsSpent ∷ []) (λ q. test q flush y)
-  asked = judged_on flush y _ (stampsSpent ∷ []) (flush_judges ssd hdd t r) z
+  asked : judged flush y ≡ first_of (stamps_spent ∷ []) (λ q. test q flush y)
+  asked = judged_on flush y _ (stamps_spent ∷ []) (flush_judges ssd hdd t r) z
 
   pub flush_idle : r.unconfirmed ≡ false → left (perform (stay nothing_to_do) y) y.images ≡ flush_of ssd hdd t r
   unfolding test plan
   flush_idle u = performs flush y (stay nothing_to_do)
-      (asked ∙ first_no _ stampsSpent [] (ap (λ (b : Bool). stores_meta (flushing b) && leb (largest_stamp (label_in r)) r.newest) u)
+      (asked ∙ first_no _ stamps_spent [] (ap (λ (b : Bool). stores_meta (flushing b) && leb (largest_stamp (label_in r)) r.newest) u)
       ∙ end _)
       (ap flushing u)
 
   pub flush_spent : r.unconfirmed ≡ true → leb (largest_stamp (label_in r)) r.newest ≡ true → left (refusing 13 y) y.images
       ≡ flush_of ssd hdd t r
   unfolding test plan
-  flush_spent u s = refused_as flush y stampsSpent
-      (asked ∙ first_yes _ stampsSpent [] (ap (λ (b : Bool). stores_meta (flushing b) && leb (largest_stamp (label_in r)) r.newest) u ∙ s))
+  flush_spent u s = refused_as flush y stamps_spent
+      (asked ∙ first_yes _ stamps_spent [] (ap (λ (b : Bool). stores_meta (flushing b) && leb (largest_stamp (label_in r)) r.newest) u ∙ s))
 
   pub flush_done : r.unconfirmed ≡ true → leb (largest_stamp (label_in r)) r.newest ≡ false → left (perform confirms y) y.images
       ≡ flush_of ssd hdd t r
   unfolding test plan
   flush_done u s = performs flush y confirms
-      (asked ∙ first_no _ stampsSpent [] (ap (λ (b : Bool). stores_meta (flushing b) && leb (largest_stamp (label_in r)) r.newest) u
+      (asked ∙ first_no _ stamps_spent [] (ap (λ (b : Bool). stores_meta (flushing b) && leb (largest_stamp (label_in r)) r.newest) u
       ∙ s) ∙ end _)
       (ap flushing u)
 

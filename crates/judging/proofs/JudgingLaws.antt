@@ -50,9 +50,9 @@ module _ (r : Record) (t : List ℕ) where
   rows_agree e = rw e
 
 module _ (ssd hdd page : ℕ) (t : List ℕ) (r : Record) (rest : ℕ) where
-  pub bad_record : record_test r ≡ false → sound_then ssd hdd page t r rest ≡ 3
+  pub bad_record_is : record_test r ≡ false → sound_then ssd hdd page t r rest ≡ 3
   unfolding sound_then
-  bad_record e = rw e
+  bad_record_is e = rw e
 
   pub bad_length : record_test r ≡ true → lengths_test (label_in r) ssd hdd (length t) ≡ false → sound_then ssd hdd page t r rest ≡ 4
   unfolding sound_then

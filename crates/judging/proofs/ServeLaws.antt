@@ -12,8 +12,8 @@ use borrow.Author.Tests.{eq-eqb, ne_eqb}
 use Rattle.layout.specs.declared.Block.{Block}
 use Rattle.record.specs.declared.Record.{Record}
 use Rattle.protocol.specs.Box.{Box, refusing, left}
-use Rattle.protocol.specs.Plan.{Call, flush, offer, fetch, landFetch, lookUp, view, writeBack, land, look_up_list, offer_list, ask, slot_map}
-use Rattle.protocol.specs.Judge.{lengths_test, Reason, badRecord, wrongLength, badRows, wrongPhase, blockTooHigh, slotOpen, wrongState, hasSlot, windowFull, allOpen, stampsSpent, importFull, unknownCaller, bad_scan, bad_list, sheet_short, number_of, length_test, test, chain, first_of, judged}
+use Rattle.protocol.specs.Plan.{Call, flush, offer, fetch, land_fetch, look_up, view, write_back, land, look_up_list, offer_list, ask, slot_map}
+use Rattle.protocol.specs.Judge.{lengths_test, Reason, bad_record, wrong_length, bad_rows, wrong_phase, block_too_high, slot_open, wrong_state, has_slot, window_full, all_open, stamps_spent, import_full, unknown_caller, bad_scan, bad_list, sheet_short, number_of, length_test, test, chain, first_of, judged}
 use Rattle.protocol.specs.Calls.{result_of, box_of}
 use Rattle.layout.proofs.Booleans.{Told, told, told_true, told_false, clash}
 use Rattle.laws.proofs.Judged.{first_yes, first_no, refused_as}
@@ -103,17 +103,17 @@ module _ (c : Call) (x : Box) where
 
 -- 3 to 6, and 3 to 7
 abbrev ready_reasons : List Reason
-ready_reasons = badRecord ∷ wrongLength ∷ badRows ∷ wrongPhase ∷ []
+ready_reasons = bad_record ∷ wrong_length ∷ bad_rows ∷ wrong_phase ∷ []
 
 abbrev serves_reasons : List Reason
-serves_reasons = badRecord ∷ wrongLength ∷ badRows ∷ wrongPhase ∷ blockTooHigh ∷ []
+serves_reasons = bad_record ∷ wrong_length ∷ bad_rows ∷ wrong_phase ∷ block_too_high ∷ []
 
 -- with 18 before 7
 abbrev calls_reasons : List Reason
-calls_reasons = badRecord ∷ wrongLength ∷ badRows ∷ wrongPhase ∷ unknownCaller ∷ blockTooHigh ∷ []
+calls_reasons = bad_record ∷ wrong_length ∷ bad_rows ∷ wrong_phase ∷ unknown_caller ∷ block_too_high ∷ []
 
 module _ (ssd hdd t : List ℕ) (r : Record) where
-  pub flush_judges : Judges flush (box_of ssd hdd t r) (ready_then (length ssd) (length hdd) 4096 t r 0) (stampsSpent ∷ [])
+  pub flush_judges : Judges flush (box_of ssd hdd t r) (ready_then (length ssd) (length hdd) 4096 t r 0) (stamps_spent ∷ [])
   unfolding numbers test sound_then length_test lengths_test
   flush_judges = record { begins = ready_reasons; chain_is = refl; number_is = refl }
 
@@ -124,30 +124,30 @@ module _ (ssd hdd t : List ℕ) (r : Record) where
 -- a list, by what 3 to 6 say, and by 16 and 7 besides
 module _ (ssd hdd t : List ℕ) (r : Record) (blocks : List ℕ) (room : ℕ) where
   pub list-begins : Judges (look_up_list blocks room) (box_of ssd hdd t r) (ready_then (length ssd) (length hdd) 4096 t r 0)
-      (bad_list ∷ blockTooHigh ∷ [])
+      (bad_list ∷ block_too_high ∷ [])
   unfolding numbers test sound_then length_test lengths_test
   list-begins = record { begins = ready_reasons; chain_is = refl; number_is = refl }
 
   pub list_judges : Judges (look_up_list blocks room) (box_of ssd hdd t r)
       (ready_then (length ssd) (length hdd) 4096 t r (list_then blocks room r.label.blocks 0)) []
   unfolding numbers test sound_then length_test lengths_test
-  list_judges = record { begins = ready_reasons ++ (bad_list ∷ blockTooHigh ∷ []); chain_is = refl; number_is = refl }
+  list_judges = record { begins = ready_reasons ++ (bad_list ∷ block_too_high ∷ []); chain_is = refl; number_is = refl }
 
 -- a list that is offered, by what 3 to 6 say, and by 15 and 18 besides
 module _ (ssd hdd t : List ℕ) (r : Record) (blocks : List ℕ) (caller : ℕ) where
   pub offers_begin : Judges (offer_list blocks caller) (box_of ssd hdd t r) (ready_then (length ssd) (length hdd) 4096 t r 0)
-      (bad_scan ∷ unknownCaller ∷ blockTooHigh ∷ slotOpen ∷ importFull ∷ windowFull ∷ allOpen ∷ stampsSpent ∷ [])
+      (bad_scan ∷ unknown_caller ∷ block_too_high ∷ slot_open ∷ import_full ∷ window_full ∷ all_open ∷ stamps_spent ∷ [])
   unfolding numbers test sound_then length_test lengths_test
   offers_begin = record { begins = ready_reasons; chain_is = refl; number_is = refl }
 
   pub offers_judges : Judges (offer_list blocks caller) (box_of ssd hdd t r)
       (ready_then (length ssd) (length hdd) 4096 t r (scan_then blocks caller 0))
-      (blockTooHigh ∷ slotOpen ∷ importFull ∷ windowFull ∷ allOpen ∷ stampsSpent ∷ [])
+      (block_too_high ∷ slot_open ∷ import_full ∷ window_full ∷ all_open ∷ stamps_spent ∷ [])
   unfolding numbers test sound_then length_test lengths_test
-  offers_judges = record { begins = ready_reasons ++ (bad_scan ∷ unknownCaller ∷ []); chain_is = refl; number_is = refl }
+  offers_judges = record { begins = ready_reasons ++ (bad_scan ∷ unknown_caller ∷ []); chain_is = refl; number_is = refl }
 
 module _ (ssd hdd t : List ℕ) (r : Record) (b : Block) where
-  pub look_up_judges : Judges (lookUp b) (box_of ssd hdd t r) (serves_then (length ssd) (length hdd) 4096 t r b 0 0) []
+  pub look_up_judges : Judges (look_up b) (box_of ssd hdd t r) (serves_then (length ssd) (length hdd) 4096 t r b 0 0) []
   unfolding numbers test sound_then length_test lengths_test
   look_up_judges = record { begins = serves_reasons; chain_is = refl; number_is = refl }
 
@@ -155,27 +155,27 @@ module _ (ssd hdd t : List ℕ) (r : Record) (b : Block) where
   unfolding numbers test sound_then length_test lengths_test
   view_judges = record { begins = serves_reasons; chain_is = refl; number_is = refl }
 
-  pub write_back_judges : Judges (writeBack b) (box_of ssd hdd t r) (serves_then (length ssd) (length hdd) 4096 t r b 0 0) (slotOpen ∷ [])
+  pub write_back_judges : Judges (write_back b) (box_of ssd hdd t r) (serves_then (length ssd) (length hdd) 4096 t r b 0 0) (slot_open ∷ [])
   unfolding numbers test sound_then length_test lengths_test
   write_back_judges = record { begins = serves_reasons; chain_is = refl; number_is = refl }
 
-  pub land_fetch_judges : Judges (landFetch b) (box_of ssd hdd t r) (serves_then (length ssd) (length hdd) 4096 t r b 0 0) (wrongState ∷ [])
+  pub land_fetch_judges : Judges (land_fetch b) (box_of ssd hdd t r) (serves_then (length ssd) (length hdd) 4096 t r b 0 0) (wrong_state ∷ [])
   unfolding numbers test sound_then length_test lengths_test
   land_fetch_judges = record { begins = serves_reasons; chain_is = refl; number_is = refl }
 
   pub land_judges : (page : List ℕ)
-      → Judges (land b page) (box_of ssd hdd t r) (serves_then (length ssd) (length hdd) (length page) t r b 0 0) (wrongState ∷ [])
+      → Judges (land b page) (box_of ssd hdd t r) (serves_then (length ssd) (length hdd) (length page) t r b 0 0) (wrong_state ∷ [])
   unfolding numbers test sound_then length_test lengths_test
   land_judges page = record { begins = serves_reasons; chain_is = refl; number_is = refl }
 
   -- with a caller
   module _ (caller : ℕ) where
     pub offer_judges : Judges (offer b caller) (box_of ssd hdd t r) (serves_then (length ssd) (length hdd) 4096 t r b caller 0)
-        (slotOpen ∷ importFull ∷ windowFull ∷ allOpen ∷ stampsSpent ∷ [])
+        (slot_open ∷ import_full ∷ window_full ∷ all_open ∷ stamps_spent ∷ [])
     unfolding numbers test sound_then length_test lengths_test
     offer_judges = record { begins = calls_reasons; chain_is = refl; number_is = refl }
 
     pub fetch_judges : Judges (fetch b caller) (box_of ssd hdd t r) (serves_then (length ssd) (length hdd) 4096 t r b caller 0)
-        (hasSlot ∷ slotOpen ∷ importFull ∷ windowFull ∷ allOpen ∷ stampsSpent ∷ [])
+        (has_slot ∷ slot_open ∷ import_full ∷ window_full ∷ all_open ∷ stamps_spent ∷ [])
     unfolding numbers test sound_then length_test lengths_test
     fetch_judges = record { begins = calls_reasons; chain_is = refl; number_is = refl }

@@ -20,12 +20,12 @@ use Rattle.protocol.specs.Rows.{each_row}
 use Rattle.protocol.specs.Box.{Box}
 use Rattle.protocol.specs.Plan.{Call, step}
 use Rattle.protocol.specs.Kinds.{Aim, a_service, kind}
-use Rattle.protocol.specs.Judge.{badRecord, wrongLength, badRows, wrongPhase, lengths_test, length_test, row_test, agree_test, rows_test, is_ready, lent_test, test, asked_first, judged}
+use Rattle.protocol.specs.Judge.{bad_record, wrong_length, bad_rows, wrong_phase, lengths_test, length_test, row_test, agree_test, rows_test, is_ready, lent_test, test, asked_first, judged}
 use Rattle.record.specs.Window.{each_place, zero_slots}
 use Rattle.record.specs.Callers.{named_places, callers_test}
 use Rattle.record.proofs.CallerLaws.{Named, named_of}
 use Rattle.record.specs.Rule.{steps_test, record_test}
-use Rattle.record.proofs.WindowLaws.{length-array, zero_past}
+use Rattle.record.proofs.WindowLaws.{length-array, zero_past_lem}
 use Rattle.record.proofs.RecordLaws.{parts, window-length, window-array}
 use Rattle.laws.proofs.model.Base.{Window}
 use Rattle.laws.proofs.refine.Windows.{nums, length_nums, distinct_nums, below_nums, window_of_lem}
@@ -82,18 +82,18 @@ legal-judged x t e f g = legal x (not-false _ e) (and_parts (length_test (label_
 -- of a step, or of a service, that no reason refuses
 pub step_legal : (x : Box) → judged step x ≡ none → Legal x
 unfolding test
-step_legal x e = let q = passed step x e in legal-judged x true (q badRecord refl) (q wrongLength refl) (q badRows refl)
+step_legal x e = let q = passed step x e in legal-judged x true (q bad_record refl) (q wrong_length refl) (q bad_rows refl)
 
 module _ (c : Call) (x : Box) {a : Aim} (k : kind c ≡ a_service a) (e : judged c x ≡ none) where
   pub service_legal : Legal x
   unfolding test
   service_legal =
       let q = passed_first c x e k in
-      legal-judged x (lent_test a.purpose (length x.table)) (q badRecord refl) (rw k at (q wrongLength refl)) (rw k at (q badRows refl))
+      legal-judged x (lent_test a.purpose (length x.table)) (q bad_record refl) (rw k at (q wrong_length refl)) (rw k at (q bad_rows refl))
 
   pub service_ready : x.state.phase ≡ Ready
   unfolding test
-  service_ready = ready_of x.state.phase (rw k at (passed_first c x e k wrongPhase refl))
+  service_ready = ready_of x.state.phase (rw k at (passed_first c x e k wrong_phase refl))
     where
       ready_of : (p : Phase) → not (is_ready p) ≡ false → p ≡ Ready
       ready_of Ready q = refl
@@ -143,7 +143,7 @@ module _ (x : Box) (L : Legal x) where
       past : zero_slots (drop x.state.count x.state.window) ≡ true
       past =
           ap (λ (n : ℕ). zero_slots (drop n x.state.window)) L.count_is
-          ∙ ap (λ (v : List Slot). zero_slots (drop (length (window_in x.state)) v)) L.array_is ∙ zero_past (window_in x.state)
+          ∙ ap (λ (v : List Slot). zero_slots (drop (length (window_in x.state)) v)) L.array_is ∙ zero_past_lem (window_in x.state)
 
   pub legal_lengths : length_test (label_in x.state) x.images x.table ≡ true
   unfolding length_test lengths_test

@@ -18,7 +18,7 @@ use Rattle.record.specs.Window.{without, beside}
 use Rattle.record.proofs.CallerLaws.{leaves-test}
 use Rattle.record.proofs.WindowLaws.{take-array}
 use Rattle.protocol.specs.Rows.{row_flags, set_flags, valid, writing}
-use Rattle.protocol.specs.Box.{Box, ssdImage, stored_on, left, box_after}
+use Rattle.protocol.specs.Box.{Box, ssd_image, stored_on, left, box_after}
 use Rattle.protocol.specs.Plan.{lands}
 use Rattle.protocol.specs.Perform.{landed_flags, landed_state, perform}
 use Rattle.protocol.specs.Judge.{agree_test}
@@ -31,7 +31,7 @@ use Rattle.laws.proofs.why.RowsRules.{agree_same}
 -- the box after it
 abbrev pub closed : Bool → Slot → List ℕ → Box → Box
 closed write s page x = record {
-  images = stored_on ssdImage (data_place (label_in x.state) s) page x.images;
+  images = stored_on ssd_image (data_place (label_in x.state) s) page x.images;
   table = set_flags x.table s (landed_flags write (row_flags x.table s));
   state = landed_state true s x.state;
 }
@@ -40,7 +40,7 @@ pub closed_is : (write : Bool) (s : Slot) (page : List ℕ) (x : Box) → writin
     → box_after (left (perform (lands write s page) x) x.images) ≡ closed write s page x
 unfolding perform
 closed_is write s page x o = λ i. record {
-  images = stored_on ssdImage (data_place (label_in x.state) s) page x.images;
+  images = stored_on ssd_image (data_place (label_in x.state) s) page x.images;
   table = set_flags x.table s (landed_flags write (row_flags x.table s));
   state = landed_state (o i) s x.state;
 }

@@ -25,10 +25,10 @@ use Rattle.record.proofs.CallerLaws.{by_more}
 use Rattle.protocol.specs.Box.{Box}
 use Rattle.protocol.specs.Condition.{condition_of, closed_slots, is_open, takes_write, takes_fetch}
 use Rattle.protocol.specs.Sweep.{Victim, sweep}
-use Rattle.protocol.specs.Plan.{flush, offer, fetch, landFetch, lookUp, view, writeBack, land, look_up_list, ask, Ask, slot_map, cost, grown, Move, stay, uses, uses_all, announces, opens, lands, copies, confirms, takes_as, takes, offering, fetching, landing, landing_fetch, looking_up, writing_back, flushing, plan, stores_meta, import_open}
+use Rattle.protocol.specs.Plan.{flush, offer, fetch, land_fetch, look_up, view, write_back, land, look_up_list, ask, Ask, slot_map, cost, grown, Move, stay, uses, uses_all, announces, opens, lands, copies, confirms, takes_as, takes, offering, fetching, landing, landing_fetch, looking_up, writing_back, flushing, plan, stores_meta, import_open}
 use Rattle.protocol.specs.Perform.{confirmed, landed_flags, landed_state, used_all, perform}
-use Rattle.protocol.specs.Kinds.{toServe, toSettle, toWrite, toFetch, toLandFetch, to_land, Aim, aims, aims_by, aims_all, ask_aim, no_block}
-use Rattle.protocol.specs.Judge.{wrongLength, blockTooHigh, slotOpen, wrongState, windowFull, stampsSpent, importFull, unknownCaller, length_test, test, judged}
+use Rattle.protocol.specs.Kinds.{to_serve, to_settle, to_write, to_fetch, to_land_fetch, to_land, Aim, aims, aims_by, aims_all, ask_aim, no_block}
+use Rattle.protocol.specs.Judge.{wrong_length, block_too_high, slot_open, wrong_state, window_full, stamps_spent, import_full, unknown_caller, length_test, test, judged}
 use Rattle.protocol.specs.ReferenceDisk.{Disk, fed_call}
 use Rattle.layout.proofs.Booleans.{Told, told, told_true, told_false, clash, and_parts}
 use Rattle.laws.proofs.model.Model.{dirty_row, open_row, block_of}
@@ -103,9 +103,9 @@ pub data Does (x : Box) : Aim → Move → Type 0 where
   does_fetch : {a : Aim} {b : Block} {s : Slot} → Quiet a → Held (label_in x.state) x.table b.0 s.0 → b.0 < x.state.label.blocks
       → writing (row_flags x.table s) ≡ true → Does x a (lands false s (page_at x.images.hdd (block_place (label_in x.state) b)))
   -- a flush with nothing to confirm, and with something
-  does_rest : {b : Block} {said : Reply} → refused said ≡ false → x.state.unconfirmed ≡ false → Does x (aims b toSettle) (stay said)
+  does_rest : {b : Block} {said : Reply} → refused said ≡ false → x.state.unconfirmed ≡ false → Does x (aims b to_settle) (stay said)
   does_confirm : {b : Block} → x.state.unconfirmed ≡ true → x.state.newest < largest_stamp (label_in x.state)
-      → Does x (aims b toSettle) confirms
+      → Does x (aims b to_settle) confirms
 
 -- it is no refusal
 pub does_said : {x : Box} {a : Aim} {m : Move} → Does x a m → refused (perform m x).said ≡ false
@@ -298,14 +298,14 @@ module _ (x : Box) (L : Fit x) where
   landings b page bl size (is_fetching s H w d) t = clash {b = false} t refl
 
   land_fetches : (b : Block) → b.0 < x.state.label.blocks → {z : Condition} → Stands lab x.table b.0 z → takes_fetch z ≡ true
-      → Does x (aims b toLandFetch) (landing_fetch x b z)
+      → Does x (aims b to_land_fetch) (landing_fetch x b z)
   land_fetches b bl (absent h) t = clash {b = false} t refl
   land_fetches b bl (is_clean s H w d) t = clash {b = false} t refl
   land_fetches b bl (is_dirty s H w d) t = clash {b = false} t refl
   land_fetches b bl (is_writing_is s H w d) t = clash {b = false} t refl
   land_fetches b bl (is_fetching s H w d) t = does_fetch (λ d. refl) H bl w
 
-  looks_up : (b : Block) → {z : Condition} → Stands lab x.table b.0 z → Does x (aims b toServe) (looking_up z)
+  looks_up : (b : Block) → {z : Condition} → Stands lab x.table b.0 z → Does x (aims b to_serve) (looking_up z)
   looks_up b (absent h) = does_nothing (λ d. refl) refl
   looks_up b (is_clean s H w d) = does_use (λ d. refl) refl H
   looks_up b (is_dirty s H w d) = does_use (λ d. refl) refl H
@@ -316,7 +316,7 @@ module _ (x : Box) (L : Fit x) where
   looks_up_all blocks room =
       does_use_all (λ d. refl) (used-alike lab x.table L.rows x.table same (all_valid lab x.table L.table-size blocks))
 
-  writes_back : (b : Block) → {z : Condition} → Stands lab x.table b.0 z → Does x (aims b toServe) (writing_back x z)
+  writes_back : (b : Block) → {z : Condition} → Stands lab x.table b.0 z → Does x (aims b to_serve) (writing_back x z)
   writes_back b (absent h) = does_nothing (λ d. refl) refl
   writes_back b (is_clean s H w d) = does_nothing (λ d. refl) refl
   writes_back b (is_dirty s H w d) = does_copy (λ d. refl) refl
@@ -326,15 +326,15 @@ module _ (x : Box) (L : Fit x) where
 
   flushes : (u : Bool) → x.state.unconfirmed ≡ u → (stores_meta (flushing u) && leb (largest_stamp (label_in x.state))
       x.state.newest) ≡ false
-      → Does x (aims no_block toSettle) (flushing u)
+      → Does x (aims no_block to_settle) (flushing u)
   flushes true e spent = does_confirm e (leb-false _ _ spent)
   flushes false e spent = does_rest refl e
 
 -- each service, not refused
 module _ (x : Box) where
-  pub flush_does : judged flush x ≡ none → Does x (aims no_block toSettle) (plan flush x)
+  pub flush_does : judged flush x ≡ none → Does x (aims no_block to_settle) (plan flush x)
   unfolding test plan
-  flush_does e = flushes x (fit (service_legal flush x refl e)) x.state.unconfirmed refl (passed flush x e stampsSpent refl)
+  flush_does e = flushes x (fit (service_legal flush x refl e)) x.state.unconfirmed refl (passed flush x e stamps_spent refl)
 
   pub ask_does : (a : Ask) → judged (ask a) x ≡ none → Does x (ask_aim a) (plan (ask a) x)
   unfolding plan
@@ -347,47 +347,47 @@ module _ (x : Box) where
   look_up_list_does blocks room e = looks_up_all x (fit (service_legal (look_up_list blocks room) x refl e)) blocks room
 
   module _ (b : Block) where
-    pub offer_does : (c : ℕ) → judged (offer b c) x ≡ none → Does x (aims_by b toWrite c) (plan (offer b c) x)
+    pub offer_does : (c : ℕ) → judged (offer b c) x ≡ none → Does x (aims_by b to_write c) (plan (offer b c) x)
     unfolding test plan
     offer_does c e =
         let L = fit (service_legal (offer b c) x refl e) in
         let q = passed (offer b c) x e in
         taken_does (λ d. refl)
-        (offers x L b c (q unknownCaller refl) (leb-false _ _ (q blockTooHigh refl)) (here x L b) (q slotOpen refl) (q importFull refl)
-        (q windowFull refl)) (q stampsSpent refl)
+        (offers x L b c (q unknown_caller refl) (leb-false _ _ (q block_too_high refl)) (here x L b) (q slot_open refl) (q import_full refl)
+        (q window_full refl)) (q stamps_spent refl)
 
-    pub fetch_does : (c : ℕ) → judged (fetch b c) x ≡ none → Does x (aims_by b toFetch c) (plan (fetch b c) x)
+    pub fetch_does : (c : ℕ) → judged (fetch b c) x ≡ none → Does x (aims_by b to_fetch c) (plan (fetch b c) x)
     unfolding test plan
     fetch_does c e =
         let L = fit (service_legal (fetch b c) x refl e) in
         let q = passed (fetch b c) x e in
         taken_does (λ d. refl)
-        (fetches x L b c (q unknownCaller refl) (leb-false _ _ (q blockTooHigh refl)) (here x L b) (q importFull refl)
-        (q windowFull refl)) (q stampsSpent refl)
+        (fetches x L b c (q unknown_caller refl) (leb-false _ _ (q block_too_high refl)) (here x L b) (q import_full refl)
+        (q window_full refl)) (q stamps_spent refl)
 
-    pub land_fetch_does : judged (landFetch b) x ≡ none → Does x (aims b toLandFetch) (plan (landFetch b) x)
+    pub land_fetch_does : judged (land_fetch b) x ≡ none → Does x (aims b to_land_fetch) (plan (land_fetch b) x)
     unfolding test plan
     land_fetch_does e =
-        let L = fit (service_legal (landFetch b) x refl e) in
-        let q = passed (landFetch b) x e in
-        land_fetches x L b (leb-false _ _ (q blockTooHigh refl)) (here x L b) (not-false _ (q wrongState refl))
+        let L = fit (service_legal (land_fetch b) x refl e) in
+        let q = passed (land_fetch b) x e in
+        land_fetches x L b (leb-false _ _ (q block_too_high refl)) (here x L b) (not-false _ (q wrong_state refl))
 
-    pub look_up_does : judged (lookUp b) x ≡ none → Does x (aims b toServe) (plan (lookUp b) x)
+    pub look_up_does : judged (look_up b) x ≡ none → Does x (aims b to_serve) (plan (look_up b) x)
     unfolding plan
-    look_up_does e = let L = fit (service_legal (lookUp b) x refl e) in looks_up x L b (here x L b)
+    look_up_does e = let L = fit (service_legal (look_up b) x refl e) in looks_up x L b (here x L b)
 
-    pub view_does : judged (view b) x ≡ none → Does x (aims b toServe) (plan (view b) x)
+    pub view_does : judged (view b) x ≡ none → Does x (aims b to_serve) (plan (view b) x)
     unfolding plan
     view_does e = does_nothing (λ d. refl) refl
 
-    pub write_back_does : judged (writeBack b) x ≡ none → Does x (aims b toServe) (plan (writeBack b) x)
+    pub write_back_does : judged (write_back b) x ≡ none → Does x (aims b to_serve) (plan (write_back b) x)
     unfolding plan
-    write_back_does e = let L = fit (service_legal (writeBack b) x refl e) in writes_back x L b (here x L b)
+    write_back_does e = let L = fit (service_legal (write_back b) x refl e) in writes_back x L b (here x L b)
 
     pub land_does : (page : List ℕ) → judged (land b page) x ≡ none → Does x (aims b (to_land page)) (plan (land b page) x)
     unfolding test plan
     land_does page e =
         let L = fit (service_legal (land b page) x refl e) in
         let q = passed (land b page) x e in
-        let sizes = and_parts (length_test (label_in x.state) x.images x.table) _ (not-false _ (q wrongLength refl)) in
-        landings x L b page (leb-false _ _ (q blockTooHigh refl)) (eqb-true _ _ sizes.1) (here x L b) (not-false _ (q wrongState refl))
+        let sizes = and_parts (length_test (label_in x.state) x.images x.table) _ (not-false _ (q wrong_length refl)) in
+        landings x L b page (leb-false _ _ (q block_too_high refl)) (eqb-true _ _ sizes.1) (here x L b) (not-false _ (q wrong_state refl))

@@ -53,7 +53,7 @@ by_name (q ∷ rs) t n r m = go (or_cases _ _ m) (by_name rs t n.1 r)
     go (inl e) ih = ap t (sym (number_is q r (eqb-true _ _ e))) ∙ n.0
     go (inr k) ih = ih k
 
--- of a call that no reason refuses none of its chain holds: `passed c x e windowFull refl`, wherever in the chain it stands
+-- of a call that no reason refuses none of its chain holds: `passed c x e window_full refl`, wherever in the chain it stands
 pub passed : (c : Call) (x : Box) → judged c x ≡ none → (r : Reason) → belongs r (chain c) ≡ true → test r c x ≡ false
 unfolding judged
 passed c x e r m = by_name (chain c) (λ q. test q c x) (none_hold (chain c) (λ q. test q c x) e) r m

@@ -20,7 +20,7 @@ use Rattle.protocol.specs.Box.{Box}
 use Rattle.protocol.specs.Condition.{condition_of, is_open, takes_write}
 use Rattle.protocol.specs.Plan.{offer_list, grown, Move, import_open, opens, offering, Offered, not_yet, offered_box, declines, on_page, dealt_with, placed_as, placed, offers_from, announcing, together, first_block, plan, stores_meta}
 use Rattle.protocol.specs.Kinds.{Aim, aims_first}
-use Rattle.protocol.specs.Judge.{blockTooHigh, slotOpen, windowFull, stampsSpent, importFull, unknownCaller, test, judged}
+use Rattle.protocol.specs.Judge.{block_too_high, slot_open, window_full, stamps_spent, import_full, unknown_caller, test, judged}
 use Rattle.layout.proofs.Booleans.{Told, told, told_true, told_false, or_neither}
 use Rattle.laws.proofs.Sound.{Sound}
 use Rattle.laws.proofs.Judged.{passed}
@@ -133,9 +133,9 @@ offer_list_does x blocks c e =
     let S = legal_sound x L (service_ready (offer_list blocks c) x refl e) in
     let q = passed (offer_list blocks c) x e in
     let b : Block = first_block blocks in
-    let first = offers x (fit L) b c (q unknownCaller refl) (leb-false _ _ (q blockTooHigh refl)) (here x (fit L) b) (q slotOpen refl)
-    (q importFull refl) (q windowFull refl)
+    let first = offers x (fit L) b c (q unknown_caller refl) (leb-false _ _ (q block_too_high refl)) (here x (fit L) b) (q slot_open refl)
+    (q import_full refl) (q window_full refl)
     in
     let z = offers_from x c (not_yet x) blocks in
-    together_does x L S c (q unknownCaller refl) (λ d. refl) first z (ran x L S c (q unknownCaller refl) blocks (not_yet x) ran_none) z.places
-    (q stampsSpent refl)
+    together_does x L S c (q unknown_caller refl) (λ d. refl) first z (ran x L S c (q unknown_caller refl) blocks (not_yet x) ran_none) z.places
+    (q stamps_spent refl)

@@ -36,10 +36,10 @@ spare (suc k) n h =
         ∙ ap (λ (t : List ℕ). t ++ ((48 + n % 10) ∷ [])) e
         ∙ sym (digits_large (suc k) n m)
 
-length_most : (k n : ℕ) → length (digits k n) ≤ k
+length_most_lem : (k n : ℕ) → length (digits k n) ≤ k
 unfolding digits
-length_most zero n = omega arith
-length_most (suc k) n = go (dec_lt n 10) (length_most k (n / 10))
+length_most_lem zero n = omega arith
+length_most_lem (suc k) n = go (dec_lt n 10) (length_most_lem k (n / 10))
   where
     go : Dec (n < 10) → length (digits k (n / 10)) ≤ k → length (digits (suc k) n) ≤ suc k
     go (yes l) e = rw (digits_small k n l) (omega arith)
@@ -58,7 +58,7 @@ length-least k n = go (dec_lt n 10)
 
 -- a number has 1 to 10 digits
 pub decimal-size : (n : ℕ) → (1 ≤ length (decimal n)) × (length (decimal n) ≤ 10)
-decimal-size n = (length-least 9 n, length_most 10 n)
+decimal-size n = (length-least 9 n, length_most_lem 10 n)
 
 pub decimal_long : (n : ℕ) → 10 ≤ n → 2 ≤ length (decimal n)
 decimal_long n h = rw (digits_large 9 n h, length-append) (omega (arith, length-least 8 (n / 10)))
@@ -144,7 +144,7 @@ read-digits (suc k) n t m p h =
         let s : List ℕ = digits k (n / 10) in
         let j : ℕ = 8 - length (digits (suc k) n) in
         let ln : length (digits (suc k) n) ≡ length s + 1 = rw (digits_large k n a, length-append) in
-        let q : 8 - length s ≡ suc j = omega (arith, length_most k (n / 10)) in
+        let q : 8 - length s ≡ suc j = omega (arith, length_most_lem k (n / 10)) in
         let v : 10 * (n / 10) + (d - 48) ≡ n = omega arith in
         ap (λ (x : List ℕ). number (x ++ t)) (digits_large k n a)
         ∙ ap number (append_assoc s (d ∷ []) t)

@@ -16,7 +16,7 @@ use Rattle.layout.specs.MetaPage.{slots_bytes, entry_bytes, rows_bytes, encode_m
 use Rattle.layout.specs.Places.{label_of}
 use Rattle.layout.specs.PageRule.{LegalFlags}
 use Rattle.layout.specs.ReadDown.{Rule, rows_end, last_row, Keeps, Undecided, NotBefore}
-use Rattle.layout.specs.ReadDown.Rule.{lengthMost, stampZero, zero6, slotsBelow, slotsApart, zeroPast, zero268, flagsLegal, freeZero, beyondFree, blockBelow, entryZero, zero2432}
+use Rattle.layout.specs.ReadDown.Rule.{length_most, stamp_zero, zero6, slots_below, slots_apart, zero_past, zero268, flags_legal, free_zero, beyond_free, block_below, entry_zero, zero2432}
 use Rattle.layout.proofs.Booleans.{and_parts}
 use Rattle.layout.proofs.RuleLaws.{page-rule}
 use Rattle.layout.proofs.RowCases.{legal_page, legal-passes}
@@ -70,8 +70,8 @@ one_zero e = omega (arith, e)
 
 pub not-before : NotBefore
 unfolding padded le_bytes le_number slots_bytes entry_bytes rows_bytes encode_meta stamp_of count_of slot_at entry_part decode_entry
-not-before lengthMost = changed lengthMost 4 64 (omega arith) (omega arith) λ h. absurd (omega (arith, h))
-not-before stampZero = record {
+not-before length_most = changed length_most 4 64 (omega arith) (omega arith) λ h. absurd (omega (arith, h))
+not-before stamp_zero = record {
   label = label_of 4 8;
   number = 0;
   keeping = set (set legal_page 0 0) 4 0;
@@ -80,19 +80,19 @@ not-before stampZero = record {
     set_is_page (set legal_page 0 0) 4 0 (omega arith) (set_is_page legal_page 0 0 (omega arith) legal_is_page),
     set_is_page legal_page 0 0 (omega arith) legal_is_page,
   );
-  alike = take-set-le (rows_end (last_row stampZero - 1)) (set legal_page 0 0) 4 0 (omega arith);
+  alike = take-set-le (rows_end (last_row stamp_zero - 1)) (set legal_page 0 0) 4 0 (omega arith);
   kept = λ e. refl;
   broken = λ h. absurd (omega (arith, h refl));
 }
 not-before zero6 = changed zero6 6 1 (omega arith) (omega arith) λ h. one_zero (h 6 (omega arith) (omega arith))
-not-before slotsBelow = changed slotsBelow 20 4 (omega arith) (omega arith) λ h. absurd (omega (arith, h 1 (omega arith) (lit< tt)))
-not-before slotsApart = changed slotsApart 20 0 (omega arith) (omega arith) λ h. h 0 1 (omega arith) (omega arith) (lit< tt) refl
-not-before zeroPast = changed zeroPast 24 1 (omega arith) (omega arith) λ h. one_zero (h 24 (lit≤ tt) (omega arith))
+not-before slots_below = changed slots_below 20 4 (omega arith) (omega arith) λ h. absurd (omega (arith, h 1 (omega arith) (lit< tt)))
+not-before slots_apart = changed slots_apart 20 0 (omega arith) (omega arith) λ h. h 0 1 (omega arith) (omega arith) (lit< tt) refl
+not-before zero_past = changed zero_past 24 1 (omega arith) (omega arith) λ h. one_zero (h 24 (lit≤ tt) (omega arith))
 not-before zero268 = changed zero268 268 1 (omega arith) (omega arith) λ h. one_zero (h 268 (omega arith) (omega arith))
-not-before flagsLegal = changed flagsLegal 516 2 (omega arith) (omega arith) λ h. no_flags (h 0 (omega arith))
-not-before freeZero = changed freeZero 516 0 (omega arith) (omega arith) λ h. absurd (omega (arith, h 0 (omega arith) refl))
-not-before beyondFree = changed beyondFree 548 1 (omega arith) (omega arith) λ h. one_zero (h 4 (omega arith) (lit≤ tt))
-not-before blockBelow = changed blockBelow 512 8 (omega arith) (omega arith) λ h.
+not-before flags_legal = changed flags_legal 516 2 (omega arith) (omega arith) λ h. no_flags (h 0 (omega arith))
+not-before free_zero = changed free_zero 516 0 (omega arith) (omega arith) λ h. absurd (omega (arith, h 0 (omega arith) refl))
+not-before beyond_free = changed beyond_free 548 1 (omega arith) (omega arith) λ h. one_zero (h 4 (omega arith) (lit≤ tt))
+not-before block_below = changed block_below 512 8 (omega arith) (omega arith) λ h.
     absurd (omega (arith, h 0 (omega arith) (λ e. omega (arith, e))))
-not-before entryZero = changed entryZero 517 1 (omega arith) (omega arith) λ h. one_zero (h 0 (omega arith) 5 (omega arith) (omega arith))
+not-before entry_zero = changed entry_zero 517 1 (omega arith) (omega arith) λ h. one_zero (h 0 (omega arith) 5 (omega arith) (omega arith))
 not-before zero2432 = changed zero2432 2432 1 (omega arith) (omega arith) λ h. one_zero (h 2432 (omega arith) (omega arith))

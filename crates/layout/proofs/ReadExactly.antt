@@ -11,7 +11,7 @@ use Rattle.layout.specs.declared.Label.{Label}
 use Rattle.layout.specs.MetaPage.{count_of, slot_at, entry_part, entry_at}
 use Rattle.layout.specs.PageRule.{read_down, field_test}
 use Rattle.layout.specs.ReadDown.{Rule, last_row, Keeps, Broken, PassesExactly, RefusesExactly}
-use Rattle.layout.specs.ReadDown.Rule.{lengthMost, stampZero, zero6, slotsBelow, slotsApart, zeroPast, zero268, flagsLegal, freeZero, beyondFree, blockBelow, entryZero, zero2432}
+use Rattle.layout.specs.ReadDown.Rule.{length_most, stamp_zero, zero6, slots_below, slots_apart, zero_past, zero268, flags_legal, free_zero, beyond_free, block_below, entry_zero, zero2432}
 use Rattle.layout.proofs.Booleans.{Told, told, told_true, told_false, clash}
 use Rattle.layout.proofs.RuleLaws.{count-rule, zero_rule, window-rule, flags_rule, entries-rule}
 use Rattle.layout.proofs.WholePage.{window-kept, entries-kept}
@@ -21,18 +21,18 @@ use Rattle.layout.proofs.Decided.{dec_test, dec_if, dec_same, each_or, dec_each}
 module _ (l : Label) (p : ℕ) (page : List ℕ) where
   -- a row's test says the rules that it closes
   rule_of : (r : Rule) → field_test (last_row r) l p page ≡ true → Keeps r l p page
-  rule_of lengthMost e = ((count-rule page).0 e).most
-  rule_of stampZero e = ((count-rule page).0 e).stamp_zero
+  rule_of length_most e = ((count-rule page).0 e).most
+  rule_of stamp_zero e = ((count-rule page).0 e).stamp_zero_is
   rule_of zero6 e = (zero_rule 6 16 page).0 e
-  rule_of slotsBelow e = λ k h. ((window-rule l page).0 e).in_range_is k
-  rule_of slotsApart e = λ k m h q. ((window-rule l page).0 e).apart k m h
-  rule_of zeroPast e = ((window-rule l page).0 e).zero_past
+  rule_of slots_below e = λ k h. ((window-rule l page).0 e).in_range_is k
+  rule_of slots_apart e = λ k m h q. ((window-rule l page).0 e).apart k m h
+  rule_of zero_past e = ((window-rule l page).0 e).zero_past_lem
   rule_of zero268 e = (zero_rule 268 512 page).0 e
-  rule_of flagsLegal e = λ i h. ((entries-rule l p page).0 e i h).pair.legal
-  rule_of freeZero e = λ i h. ((entries-rule l p page).0 e i h).pair.free
-  rule_of beyondFree e = λ i h. ((entries-rule l p page).0 e i h).beyond
-  rule_of blockBelow e = λ i h. ((entries-rule l p page).0 e i h).pair.below
-  rule_of entryZero e = λ i h k q s. ((entries-rule l p page).0 e i h).zero_after k q
+  rule_of flags_legal e = λ i h. ((entries-rule l p page).0 e i h).pair.legal
+  rule_of free_zero e = λ i h. ((entries-rule l p page).0 e i h).pair.free
+  rule_of beyond_free e = λ i h. ((entries-rule l p page).0 e i h).beyond
+  rule_of block_below e = λ i h. ((entries-rule l p page).0 e i h).pair.below
+  rule_of entry_zero e = λ i h k q s. ((entries-rule l p page).0 e i h).zero_after k q
   rule_of zero2432 e = (zero_rule 2432 4096 page).0 e
 
   -- and they say it
@@ -40,45 +40,45 @@ module _ (l : Label) (p : ℕ) (page : List ℕ) where
   test_of zero h = refl
   test_of (suc zero) h = refl
   test_of (suc (suc zero)) h =
-      (count-rule page).1 (record { most = h lengthMost (omega arith); stamp_zero = h stampZero (omega arith) })
+      (count-rule page).1 (record { most = h length_most (omega arith); stamp_zero_is = h stamp_zero (omega arith) })
   test_of (suc (suc (suc zero))) h = (zero_rule 6 16 page).1 (h zero6 (omega arith))
   test_of (suc (suc (suc (suc zero)))) h =
       (window-rule l page).1
       (window-kept l p page
-      (h lengthMost (omega arith))
-      (h slotsBelow (omega arith))
-      (h slotsApart (omega arith))
-      (h zeroPast (omega arith)))
+      (h length_most (omega arith))
+      (h slots_below (omega arith))
+      (h slots_apart (omega arith))
+      (h zero_past (omega arith)))
   test_of (suc (suc (suc (suc (suc zero))))) h = (zero_rule 268 512 page).1 (h zero268 (omega arith))
   test_of (suc (suc (suc (suc (suc (suc zero)))))) h =
       (entries-rule l p page).1
       (entries-kept l p page
-      (h flagsLegal (omega arith))
-      (h freeZero (omega arith))
-      (h beyondFree (omega arith))
-      (h blockBelow (omega arith))
-      (h entryZero (omega arith)))
+      (h flags_legal (omega arith))
+      (h free_zero (omega arith))
+      (h beyond_free (omega arith))
+      (h block_below (omega arith))
+      (h entry_zero (omega arith)))
   test_of (suc (suc (suc (suc (suc (suc (suc zero))))))) h = (zero_rule 2432 4096 page).1 (h zero2432 (omega arith))
   test_of (suc (suc (suc (suc (suc (suc (suc (suc row)))))))) h = refl
 
   -- whether a page keeps a rule is decided
   keeps_dec : (r : Rule) → Dec (Keeps r l p page)
-  keeps_dec lengthMost = dec_le _ _
-  keeps_dec stampZero = dec_if (ℕ_discrete _ _) (ℕ_discrete _ _)
+  keeps_dec length_most = dec_le _ _
+  keeps_dec stamp_zero = dec_if (ℕ_discrete _ _) (ℕ_discrete _ _)
   keeps_dec zero6 = dec_test (zero_rule 6 16 page)
-  keeps_dec slotsBelow = dec_each 63 _ λ k. dec_if (dec_lt _ _) (dec_lt _ _)
-  keeps_dec slotsApart =
+  keeps_dec slots_below = dec_each 63 _ λ k. dec_if (dec_lt _ _) (dec_lt _ _)
+  keeps_dec slots_apart =
       dec_same
       (λ h k m q s. h m s k q, λ h m s k q. h k m q s)
       (dec_each 63 (λ m. (k : ℕ) → k < m → m < count_of page → (slot_at page k).0 ≢ (slot_at page m).0) λ m.
       dec_each m _ λ k. dec_if (dec_lt _ _) (dec_if (ℕ_discrete _ _) (no λ x. x)))
-  keeps_dec zeroPast = dec_test (zero_rule (16 + 4 * count_of page) 268 page)
+  keeps_dec zero_past = dec_test (zero_rule (16 + 4 * count_of page) 268 page)
   keeps_dec zero268 = dec_test (zero_rule 268 512 page)
-  keeps_dec flagsLegal = dec_each 240 _ λ i. dec_test (flags_rule (entry_at page i).flags)
-  keeps_dec freeZero = dec_each 240 _ λ i. dec_if (ℕ_discrete _ _) (ℕ_discrete _ _)
-  keeps_dec beyondFree = dec_each 240 _ λ i. dec_if (dec_le _ _) (ℕ_discrete _ _)
-  keeps_dec blockBelow = dec_each 240 _ λ i. dec_if (dec_if (ℕ_discrete _ _) (no λ x. x)) (dec_lt _ _)
-  keeps_dec entryZero =
+  keeps_dec flags_legal = dec_each 240 _ λ i. dec_test (flags_rule (entry_at page i).flags)
+  keeps_dec free_zero = dec_each 240 _ λ i. dec_if (ℕ_discrete _ _) (ℕ_discrete _ _)
+  keeps_dec beyond_free = dec_each 240 _ λ i. dec_if (dec_le _ _) (ℕ_discrete _ _)
+  keeps_dec block_below = dec_each 240 _ λ i. dec_if (dec_if (ℕ_discrete _ _) (no λ x. x)) (dec_lt _ _)
+  keeps_dec entry_zero =
       dec_each 240 _ λ i.
       dec_same
       (λ h k q s. h k s q, λ h k s q. h k q s)
@@ -94,26 +94,26 @@ passes_exactly k l p page = (
 -- the rules in a row
 abbrev rules : List Rule
 rules =
-    lengthMost ∷ stampZero ∷ zero6 ∷ slotsBelow ∷ slotsApart ∷ zeroPast ∷ zero268 ∷ flagsLegal ∷ freeZero ∷ beyondFree
-    ∷ blockBelow ∷ entryZero ∷ zero2432 ∷ []
+    length_most ∷ stamp_zero ∷ zero6 ∷ slots_below ∷ slots_apart ∷ zero_past ∷ zero268 ∷ flags_legal ∷ free_zero ∷ beyond_free
+    ∷ block_below ∷ entry_zero ∷ zero2432 ∷ []
 
 abbrev rule_at : ℕ → Rule
-rule_at i = get_or rules i lengthMost
+rule_at i = get_or rules i length_most
 
 -- each is among them
 listed-rule : (r : Rule) → (i : ℕ) × (i < 13) × (rule_at i ≡ r)
-listed-rule lengthMost = (0, omega arith, refl)
-listed-rule stampZero = (1, omega arith, refl)
+listed-rule length_most = (0, omega arith, refl)
+listed-rule stamp_zero = (1, omega arith, refl)
 listed-rule zero6 = (2, omega arith, refl)
-listed-rule slotsBelow = (3, omega arith, refl)
-listed-rule slotsApart = (4, omega arith, refl)
-listed-rule zeroPast = (5, omega arith, refl)
+listed-rule slots_below = (3, omega arith, refl)
+listed-rule slots_apart = (4, omega arith, refl)
+listed-rule zero_past = (5, omega arith, refl)
 listed-rule zero268 = (6, omega arith, refl)
-listed-rule flagsLegal = (7, omega arith, refl)
-listed-rule freeZero = (8, omega arith, refl)
-listed-rule beyondFree = (9, omega arith, refl)
-listed-rule blockBelow = (10, omega arith, refl)
-listed-rule entryZero = (11, omega arith, refl)
+listed-rule flags_legal = (7, omega arith, refl)
+listed-rule free_zero = (8, omega arith, refl)
+listed-rule beyond_free = (9, omega arith, refl)
+listed-rule block_below = (10, omega arith, refl)
+listed-rule entry_zero = (11, omega arith, refl)
 listed-rule zero2432 = (12, omega arith, refl)
 
 module _ (k : ℕ) (l : Label) (p : ℕ) (page : List ℕ) where

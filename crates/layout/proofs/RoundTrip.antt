@@ -131,9 +131,9 @@ module _ (l : Label) (p : ℕ) (page : List ℕ) (ok : IsPage page) (r : PageRul
   entry_same i h = entry_back l (slot_on p i) (entry_part page i) (length_part i h) (part_bytes (512 + 8 * i) 8 page ok.bytes) (r.entries i h)
 
   -- an entry beyond the last slot is all zero
-  entry_zero : (i : ℕ) → i < 240 → l.slots ≤ 240 * p + i → entry_part page i ≡ replicate 8 0
+  entry_zero_is : (i : ℕ) → i < 240 → l.slots ≤ 240 * p + i → entry_part page i ≡ replicate 8 0
   unfolding entry_bytes le_bytes
-  entry_zero i h q =
+  entry_zero_is i h q =
       let f : (entry_at page i).flags ≡ 0 = (r.entries i h).beyond q in
       let b : (entry_at page i).block.0 ≡ 0 = (r.entries i h).pair.free f in
       sym (entry_same i h) ∙ rw (b, f)
@@ -146,7 +146,7 @@ module _ (l : Label) (p : ℕ) (page : List ℕ) (ok : IsPage page) (r : PageRul
   window_zeros k h q = go (dec_lt k 268)
     where
       go : Dec (k < 268) → get_or page k 0 ≡ 0
-      go (yes m) = r.window.zero_past k h m
+      go (yes m) = r.window.zero_past_lem k h m
       go (no m) = r.zero_268 k (omega arith) q
 
   window_same : padded 496 (slots_bytes (window_of page)) ≡ take 496 (drop 16 page)
@@ -173,7 +173,7 @@ module _ (l : Label) (p : ℕ) (page : List ℕ) (ok : IsPage page) (r : PageRul
             let i : ℕ = (k - 512) / 8 in
             let j : ℕ = (k - 512) % 8 in
             let e : 512 + 8 * i + j ≡ k = omega arith in
-            let z : get_or (entry_part page i) j 0 ≡ 0 = ap (λ (x : List ℕ). get_or x j 0) (entry_zero i (omega arith) (others i (omega arith) (omega arith))) ∙ get_or-replicate 8 j 0 0 (omega arith) in
+            let z : get_or (entry_part page i) j 0 ≡ 0 = ap (λ (x : List ℕ). get_or x j 0) (entry_zero_is i (omega arith) (others i (omega arith) (omega arith))) ∙ get_or-replicate 8 j 0 0 (omega arith) in
             ap (λ (x : ℕ). get_or page x 0) (sym e)
             ∙ sym (get_or-drop (512 + 8 * i) page j 0)
             ∙ sym (get_or-take 8 (drop (512 + 8 * i) page) j 0 (omega arith))
@@ -253,7 +253,7 @@ pub record Storable (l : Label) (p t : ℕ) (w : List Slot) (rows : List ℕ) : 
   pub slots-most : l.slots ≤ 57600
   pub blocks-most : l.blocks ≤ 16777216
   pub stamp_fits : t < 2 ^ 32
-  pub stamp_zero : t ≡ 0 → w ≡ []
+  pub stamp_zero_is : t ≡ 0 → w ≡ []
   pub window_most_is : length w ≤ 63
   pub in_range_is : in_range l w ≡ true
   pub apart : distinct w ≡ true
@@ -277,7 +277,7 @@ module _ (l : Label) (p t : ℕ) (w : List Slot) (rows : List ℕ) (h : Storable
   unfolding count_test page
   count-legal =
       rw (encode_count t w rows lw lr, encode_stamp t w rows lw lr h.stamp_fits)
-      (and_of (le-leb (length w) 63 lw) (if_of _ _ λ e. eq-eqb _ _ (ap length (h.stamp_zero (eqb-true t 0 e)))))
+      (and_of (le-leb (length w) 63 lw) (if_of _ _ λ e. eq-eqb _ _ (ap length (h.stamp_zero_is (eqb-true t 0 e)))))
 
   -- the zero ranges, in the window's part of the page and after the entries
   window_zero : (at k : ℕ) → 4 * length w ≤ at → at + k ≤ 496 → zero_test (16 + at) (16 + at + k) page ≡ true

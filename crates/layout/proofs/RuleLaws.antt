@@ -28,8 +28,8 @@ unfolding count_test
 count-rule page = (
   λ e.
       let p = and_parts _ _ e in
-      record { most = leb-true _ _ p.0; stamp_zero = λ z. eqb-true _ _ (if_use _ _ p.1 (eq-eqb _ _ z)) },
-  λ r. and_of (le-leb _ _ r.most) (if_of _ _ λ z. eq-eqb _ _ (r.stamp_zero (eqb-true _ _ z))),
+      record { most = leb-true _ _ p.0; stamp_zero_is = λ z. eqb-true _ _ (if_use _ _ p.1 (eq-eqb _ _ z)) },
+  λ r. and_of (le-leb _ _ r.most) (if_of _ _ λ z. eq-eqb _ _ (r.stamp_zero_is (eqb-true _ _ z))),
 )
 
 pub zero_rule : (from to : ℕ) (page : List ℕ) → zero_test from to page ⇔ ZeroRule from to page
@@ -97,12 +97,12 @@ window-rule l page = (
       record {
         in_range_is = range_get l (count_of page) (slot_at page) p.0;
         apart = distinct_get (count_of page) (slot_at page) q.0;
-        zero_past = (zero_rule (16 + 4 * count_of page) 268 page).0 q.1;
+        zero_past_lem = (zero_rule (16 + 4 * count_of page) 268 page).0 q.1;
       },
   λ r.
       and_of
       (range_of l (count_of page) (slot_at page) r.in_range_is)
-      (and_of (distinct_of (count_of page) (slot_at page) r.apart) ((zero_rule (16 + 4 * count_of page) 268 page).1 r.zero_past)),
+      (and_of (distinct_of (count_of page) (slot_at page) r.apart) ((zero_rule (16 + 4 * count_of page) 268 page).1 r.zero_past_lem)),
 )
 
 pub flags_rule : (f : ℕ) → legal_flags f ⇔ LegalFlags f

@@ -8,7 +8,7 @@ use lib.Seq.{take-take, get_or-take}
 use Rattle.pages.specs.Words.{le_number}
 use Rattle.layout.specs.MetaPage.{stamp_of, count_of, slot_at, entry_part}
 use Rattle.layout.specs.ReadDown.{Rule, rows_end, last_row, StandsIn}
-use Rattle.layout.specs.ReadDown.Rule.{lengthMost, stampZero, zero6, slotsBelow, slotsApart, zeroPast, zero268, flagsLegal, freeZero, beyondFree, blockBelow, entryZero, zero2432}
+use Rattle.layout.specs.ReadDown.Rule.{length_most, stamp_zero, zero6, slots_below, slots_apart, zero_past, zero268, flags_legal, free_zero, beyond_free, block_below, entry_zero, zero2432}
 
 part_of : (n m e : ℕ) (a : List ℕ) → n + m ≤ e → take m (drop n (take e a)) ≡ take m (drop n a)
 part_of zero m e a h = take-take m e a (omega arith)
@@ -45,24 +45,24 @@ abbrev end : Rule → ℕ
 end r = rows_end (last_row r)
 
 pub stands_in : StandsIn
-stands_in lengthMost l p a b q h = rw (sym (length-same a b (end lengthMost) q (omega arith))) h
-stands_in stampZero l p a b q h =
-    rw (sym (stamp-same a b (end stampZero) q (omega arith)), sym (length-same a b (end stampZero) q (omega arith))) h
+stands_in length_most l p a b q h = rw (sym (length-same a b (end length_most) q (omega arith))) h
+stands_in stamp_zero l p a b q h =
+    rw (sym (stamp-same a b (end stamp_zero) q (omega arith)), sym (length-same a b (end stamp_zero) q (omega arith))) h
 stands_in zero6 l p a b q h = λ k s t. sym (byte_same a b (end zero6) q k (omega arith)) ∙ h k s t
-stands_in slotsBelow l p a b q h =
+stands_in slots_below l p a b q h =
     λ k s t.
-    rw (sym (slot_same a b (end slotsBelow) q (omega arith) k s))
-    (h k s (omega (arith, length-same a b (end slotsBelow) q (omega arith))))
-stands_in slotsApart l p a b q h =
+    rw (sym (slot_same a b (end slots_below) q (omega arith) k s))
+    (h k s (omega (arith, length-same a b (end slots_below) q (omega arith))))
+stands_in slots_apart l p a b q h =
     λ k m s t u.
-    rw (sym (slot_same a b (end slotsApart) q (omega arith) k (omega arith)), sym (slot_same a b (end slotsApart) q (omega arith) m t))
-    (h k m s t (omega (arith, length-same a b (end slotsApart) q (omega arith))))
-stands_in zeroPast l p a b q h =
-    λ k s t. sym (byte_same a b (end zeroPast) q k (omega arith)) ∙ h k (omega (arith, length-same a b (end zeroPast) q (omega arith))) t
+    rw (sym (slot_same a b (end slots_apart) q (omega arith) k (omega arith)), sym (slot_same a b (end slots_apart) q (omega arith) m t))
+    (h k m s t (omega (arith, length-same a b (end slots_apart) q (omega arith))))
+stands_in zero_past l p a b q h =
+    λ k s t. sym (byte_same a b (end zero_past) q k (omega arith)) ∙ h k (omega (arith, length-same a b (end zero_past) q (omega arith))) t
 stands_in zero268 l p a b q h = λ k s t. sym (byte_same a b (end zero268) q k (omega arith)) ∙ h k s t
-stands_in flagsLegal l p a b q h = λ i s. rw (sym (entry_same a b (end flagsLegal) q (omega arith) i s)) (h i s)
-stands_in freeZero l p a b q h = λ i s. rw (sym (entry_same a b (end freeZero) q (omega arith) i s)) (h i s)
-stands_in beyondFree l p a b q h = λ i s. rw (sym (entry_same a b (end beyondFree) q (omega arith) i s)) (h i s)
-stands_in blockBelow l p a b q h = λ i s. rw (sym (entry_same a b (end blockBelow) q (omega arith) i s)) (h i s)
-stands_in entryZero l p a b q h = λ i s. rw (sym (entry_same a b (end entryZero) q (omega arith) i s)) (h i s)
+stands_in flags_legal l p a b q h = λ i s. rw (sym (entry_same a b (end flags_legal) q (omega arith) i s)) (h i s)
+stands_in free_zero l p a b q h = λ i s. rw (sym (entry_same a b (end free_zero) q (omega arith) i s)) (h i s)
+stands_in beyond_free l p a b q h = λ i s. rw (sym (entry_same a b (end beyond_free) q (omega arith) i s)) (h i s)
+stands_in block_below l p a b q h = λ i s. rw (sym (entry_same a b (end block_below) q (omega arith) i s)) (h i s)
+stands_in entry_zero l p a b q h = λ i s. rw (sym (entry_same a b (end entry_zero) q (omega arith) i s)) (h i s)
 stands_in zero2432 l p a b q h = λ k s t. sym (byte_same a b (end zero2432) q k (omega arith)) ∙ h k s t

@@ -14,7 +14,7 @@ count_test page = leb (count_of page) window_most && (not (eqb (stamp_of page) 0
 
 pub record CountRule (page : List ℕ) : Type 0 where
   pub most : count_of page ≤ 63
-  pub stamp_zero : stamp_of page ≡ 0 → count_of page ≡ 0
+  pub stamp_zero_is : stamp_of page ≡ 0 → count_of page ≡ 0
 
 -- 6..15, 268..511, 2432..4095: "zero"
 unfoldable pub zero_test : ℕ → ℕ → List ℕ → Bool
@@ -42,7 +42,7 @@ window_test l page = in_range l (window_of page) && (distinct (window_of page) &
 pub record WindowRule (l : Label) (page : List ℕ) : Type 0 where
   pub in_range_is : (k : ℕ) → k < count_of page → (slot_at page k).0 < l.slots
   pub apart : (k m : ℕ) → k < m → m < count_of page → (slot_at page k).0 ≢ (slot_at page m).0
-  pub zero_past : ZeroRule (16 + 4 * count_of page) 268 page
+  pub zero_past_lem : ZeroRule (16 + 4 * count_of page) 268 page
 
 -- 512..2431: "Stored flags: 1 valid, 2 dirty, 4 writing; legal sums 0, 1, 3, 5, 7"
 unfoldable pub legal_flags : ℕ → Bool

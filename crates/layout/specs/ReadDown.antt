@@ -13,8 +13,8 @@ rows_end k = get_or (0 ∷ 4 ∷ 6 ∷ 16 ∷ 268 ∷ 512 ∷ 2432 ∷ []) k 409
 
 -- "a rule of a single page": rules between pages are no part of it
 pub data Rule : Type 0 where
-  lengthMost stampZero zero6 slotsBelow slotsApart zeroPast zero268 : Rule
-  flagsLegal freeZero beyondFree blockBelow entryZero zero2432 : Rule
+  length_most stamp_zero zero6 slots_below slots_apart zero_past zero268 : Rule
+  flags_legal free_zero beyond_free block_below entry_zero zero2432 : Rule
 
 -- each with the last row in which a field of it stands; the window has 63 places, page p the entries of slots 240p to 240p+239
 pub record Stated : Type 1 where
@@ -23,34 +23,34 @@ pub record Stated : Type 1 where
 
 abbrev pub stated : Rule → Stated
 -- "window length, 0 to 63"
-stated lengthMost = record { row = 2; keeps = λ l p page. count_of page ≤ 63 }
+stated length_most = record { row = 2; keeps = λ l p page. count_of page ≤ 63 }
 -- "Stamp 0 goes with an empty window"
-stated stampZero = record { row = 2; keeps = λ l p page. stamp_of page ≡ 0 → count_of page ≡ 0 }
+stated stamp_zero = record { row = 2; keeps = λ l p page. stamp_of page ≡ 0 → count_of page ≡ 0 }
 -- "6..15: zero"
 stated zero6 = record { row = 3; keeps = λ l p page. ZeroRule 6 16 page }
 -- "Window slots are in range and distinct"
-stated slotsBelow = record { row = 4; keeps = λ l p page. (k : ℕ) → k < 63 → k < count_of page → (slot_at page k).0 < l.slots }
-stated slotsApart = record {
+stated slots_below = record { row = 4; keeps = λ l p page. (k : ℕ) → k < 63 → k < count_of page → (slot_at page k).0 < l.slots }
+stated slots_apart = record {
   row = 4;
   keeps = λ l p page. (k m : ℕ) → k < m → m < 63 → m < count_of page → (slot_at page k).0 ≢ (slot_at page m).0;
 }
 -- "zero past the length"
-stated zeroPast = record { row = 4; keeps = λ l p page. ZeroRule (16 + 4 * count_of page) 268 page }
+stated zero_past = record { row = 4; keeps = λ l p page. ZeroRule (16 + 4 * count_of page) 268 page }
 -- "268..511: zero"
 stated zero268 = record { row = 5; keeps = λ l p page. ZeroRule 268 512 page }
 -- "legal sums 0, 1, 3, 5, 7"
-stated flagsLegal = record { row = 6; keeps = λ l p page. (i : ℕ) → i < 240 → LegalFlags (entry_at page i).flags }
+stated flags_legal = record { row = 6; keeps = λ l p page. (i : ℕ) → i < 240 → LegalFlags (entry_at page i).flags }
 -- "An entry with flags 0 is all zero": its block; its last three bytes are zero in any entry, by `entryZero`
-stated freeZero = record { row = 6; keeps = λ l p page. (i : ℕ) → i < 240 → (entry_at page i).flags ≡ 0 → (entry_at page i).block.0 ≡ 0 }
+stated free_zero = record { row = 6; keeps = λ l p page. (i : ℕ) → i < 240 → (entry_at page i).flags ≡ 0 → (entry_at page i).block.0 ≡ 0 }
 -- "as are entries beyond the last slot": their flags are 0
-stated beyondFree = record { row = 6; keeps = λ l p page. (i : ℕ) → i < 240 → l.slots ≤ (slot_on p i).0 → (entry_at page i).flags ≡ 0 }
+stated beyond_free = record { row = 6; keeps = λ l p page. (i : ℕ) → i < 240 → l.slots ≤ (slot_on p i).0 → (entry_at page i).flags ≡ 0 }
 -- "A valid entry's block is below `blocks`"
-stated blockBelow = record {
+stated block_below = record {
   row = 6;
   keeps = λ l p page. (i : ℕ) → i < 240 → (entry_at page i).flags ≢ 0 → (entry_at page i).block.0 < l.blocks;
 }
 -- "block (4), flags (1), zero (3)"
-stated entryZero = record {
+stated entry_zero = record {
   row = 6;
   keeps = λ l p page. (i : ℕ) → i < 240 → (k : ℕ) → 5 ≤ k → k < 8 → get_or (entry_part page i) k 0 ≡ 0;
 }

@@ -31,7 +31,7 @@ use Rattle.stored.proofs.ReopenLaws as reopens
 use Rattle.list_text.specs.ListText.{head_text, fate_text, entry_text}
 use Rattle.list_image.specs.Listing.{dropped, line_if, line_of, image_text, listing_of}
 use Rattle.list_image.specs.Agrees.{Beside, SameRefusal, SameFate, SameFates}
-use Rattle.list_image.proofs.ImageLaws.{unlabelled, wrong_length, bad_pages, listed_as}
+use Rattle.list_image.proofs.ImageLaws.{unlabelled, wrong_length_is, bad_pages, listed_as}
 
 -- texts that differ
 
@@ -86,8 +86,8 @@ module _ (ssd hdd table : List ℕ) (state : Record) (b : Beside ssd hdd table) 
   labelled : (l : Label) → label_if ssd ≡ Legal l → Told (eqb (length ssd) (ssd_length l)) → Verdict ssd result
   labelled l e (told_true h) = measured l e h (told _)
   labelled l e (told_false h) =
-      refuses 4 (omega arith) (sym (wrong_length ssd l e h))
-      (sym (ap (λ (r : Result). r.said) (reopens.wrong_length ssd hdd table state l e (by_length l e false h))))
+      refuses 4 (omega arith) (sym (wrong_length_is ssd l e h))
+      (sym (ap (λ (r : Result). r.said) (reopens.wrong_length_is ssd hdd table state l e (by_length l e false h))))
 
   verdict : Verdict ssd result
   verdict = go (label_if ssd) refl

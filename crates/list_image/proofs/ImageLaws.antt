@@ -53,8 +53,8 @@ module _ (ssd : List ℕ) where
     labelled = ap (λ (r : LabelRead). judged_text r ssd) (sym e)
 
     -- 4
-    pub wrong_length : eqb (length ssd) (ssd_length l) ≡ false → refusal_text 4 ≡ listing_of ssd
-    wrong_length h = rw (h, text_if) at labelled
+    pub wrong_length_is : eqb (length ssd) (ssd_length l) ≡ false → refusal_text 4 ≡ listing_of ssd
+    wrong_length_is h = rw (h, text_if) at labelled
 
     module _ (h : eqb (length ssd) (ssd_length l) ≡ true) where
       pub too_long : leb (length ssd) 65536 ≡ false → refusal_text 4 ≡ listing_of ssd

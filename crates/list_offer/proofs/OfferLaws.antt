@@ -24,7 +24,7 @@ use Rattle.protocol.specs.Box.{Box, Effect, refusing, left}
 use Rattle.protocol.specs.Condition.{condition_of, is_open, takes_write}
 use Rattle.protocol.specs.Plan.{Call, Move, offer, offer_list, stay, import_open, offering, Offered, not_yet, offered_box, declines, placed_as, placed, offers_from, announcing, together, first_block, plan, stores_meta}
 use Rattle.protocol.specs.Perform.{confirmed, perform}
-use Rattle.protocol.specs.Judge.{Reason, blockTooHigh, slotOpen, importFull, windowFull, allOpen, stampsSpent, test, first_of, judged}
+use Rattle.protocol.specs.Judge.{Reason, block_too_high, slot_open, import_full, window_full, all_open, stamps_spent, test, first_of, judged}
 use Rattle.protocol.specs.Calls.{decided, effect_of, result_of, box_of}
 use Rattle.laws.proofs.Judged.{first_yes, first_no, refused_as, performs}
 use Rattle.laws.proofs.OfferLists.{both}
@@ -112,7 +112,7 @@ module _ (ssd hdd t : List ℕ) (r : Record) (blocks : List ℕ) (caller : ℕ) 
     offers_refused m e n = refused_by c x _ _ (offers_judges ssd hdd t r blocks caller) m (e ∙ sym (on _)) n
 
     module _ (listed : scan_then blocks caller 0 ≡ 0) (F : Fair t r) where
-      asked : judged c x ≡ first_of (blockTooHigh ∷ slotOpen ∷ importFull ∷ windowFull ∷ allOpen ∷ stampsSpent ∷ []) (λ q. test q c x)
+      asked : judged c x ≡ first_of (block_too_high ∷ slot_open ∷ import_full ∷ window_full ∷ all_open ∷ stamps_spent ∷ []) (λ q. test q c x)
       asked = judged_on c x _ _ (offers_judges ssd hdd t r blocks caller) (on _ ∙ listed)
 
       serves : b.0 < r.label.blocks → serves_then (length ssd) (length hdd) 4096 t r b caller 0 ≡ 0
@@ -128,8 +128,8 @@ module _ (ssd hdd t : List ℕ) (r : Record) (blocks : List ℕ) (caller : ℕ) 
         unfolding effect_of test
         low_same low =
             ap (λ (o : Option Reason). decided o c x)
-            (asked ∙ first_no _ blockTooHigh _ (lt-leb r.label.blocks b.0 low)
-            ∙ first-same (λ q. test q c x) (λ q. test q (offer b caller) x) (slotOpen ∷ importFull ∷ windowFull ∷ allOpen ∷ stampsSpent ∷ [])
+            (asked ∙ first_no _ block_too_high _ (lt-leb r.label.blocks b.0 low)
+            ∙ first-same (λ q. test q c x) (λ q. test q (offer b caller) x) (slot_open ∷ import_full ∷ window_full ∷ all_open ∷ stamps_spent ∷ [])
             (refl, (refl, (refl, (refl, (ap (λ (m : Move). stores_meta m && leb (opening_bound (label_in r)) r.newest) plan_is, tt)))))
             ∙ sym (judged_on (offer b caller) x _ _ (offer_judges ssd hdd t r b caller) (serves low)))
             ∙ decided-same c (offer b caller) x plan_is (judged (offer b caller) x)
@@ -144,7 +144,7 @@ module _ (ssd hdd t : List ℕ) (r : Record) (blocks : List ℕ) (caller : ℕ) 
 
             go : Told (leb r.label.blocks b.0) → left (turned (place_turn t r b caller) b caller x) x.images ≡ result_of c x
             go (told_true e) = at (turn_high (label_in r) t r.hand (crowd_of t r caller) b (leb-true _ _ e))
-                (refused_as c x blockTooHigh (asked ∙ first_yes _ blockTooHigh _ e))
+                (refused_as c x block_too_high (asked ∙ first_yes _ block_too_high _ e))
             go (told_false e) = at (turn_low (label_in r) t r.hand (crowd_of t r caller) b (leb-false _ _ e))
                 (ap (λ (f : Effect). left f x.images) (sym (offer_turned ssd hdd t r b caller (serves (leb-false _ _ e))) ∙ sym (low_same (leb-false _ _ e))))
 
@@ -180,12 +180,12 @@ module _ (ssd hdd t : List ℕ) (r : Record) (blocks : List ℕ) (caller : ℕ) 
         stores_is none = refl
         stores_is (some p) = refl
 
-        spends_is : test stampsSpent c x ≡ (announces_any z && spent (label_in r) r.newest)
+        spends_is : test stamps_spent c x ≡ (announces_any z && spent (label_in r) r.newest)
         unfolding test
         spends_is = ap (λ (m : Move). stores_meta m && spent (label_in r) r.newest) moves_as
             ∙ ap (λ (d : Bool). d && spent (label_in r) r.newest) (stores_is z.page)
 
-        last : judged c x ≡ first_of (stampsSpent ∷ []) (λ q. test q c x)
+        last : judged c x ≡ first_of (stamps_spent ∷ []) (λ q. test q c x)
         unfolding test
         last =
             let k = condition_of t b in
@@ -193,18 +193,18 @@ module _ (ssd hdd t : List ℕ) (r : Record) (blocks : List ℕ) (caller : ℕ) 
             let u = or_neither (is_open k) _ q.1 in
             let v = or_neither (not (takes_write k) && (import_open caller r || leb 63 (open_rows t))) _ u.1 in
             let w = both (not (takes_write k)) (import_open caller r) (leb 63 (open_rows t)) v.0 in
-            asked ∙ first_no _ blockTooHigh _ q.0 ∙ first_no _ slotOpen _ u.0 ∙ first_no _ importFull _ w.0
-            ∙ first_no _ windowFull _ w.1 ∙ first_no _ allOpen _ v.1
+            asked ∙ first_no _ block_too_high _ q.0 ∙ first_no _ slot_open _ u.0 ∙ first_no _ import_full _ w.0
+            ∙ first_no _ window_full _ w.1 ∙ first_no _ all_open _ v.1
 
         judged_as : (announces_any z && spent (label_in r) r.newest) ≡ refused13 t r blocks caller
         judged_as = ap (λ (y : Offered). announces_any y && spent (label_in r) r.newest) (offers_bare ssd hdd t r caller blocks (not_yet x))
 
         offers_spent : refused13 t r blocks caller ≡ true → left (refusing 13 x) x.images ≡ result_of c x
-        offers_spent e = refused_as c x stampsSpent
-            (last ∙ first_yes _ stampsSpent _ (spends_is ∙ judged_as ∙ e))
+        offers_spent e = refused_as c x stamps_spent
+            (last ∙ first_yes _ stamps_spent _ (spends_is ∙ judged_as ∙ e))
 
         goes_out : refused13 t r blocks caller ≡ false → left (perform (announcing z.page z) x) x.images ≡ result_of c x
-        goes_out e = performs c x _ (last ∙ first_no _ stampsSpent _ (spends_is ∙ judged_as ∙ e) ∙ end _) moves_as
+        goes_out e = performs c x _ (last ∙ first_no _ stamps_spent _ (spends_is ∙ judged_as ∙ e) ∙ end _) moves_as
 
       pub spent-leaves : refused13 t r blocks caller ≡ true → 0 < (offered_as t r blocks caller).places → left (refusing 13 x) x.images ≡ result_of c x
       spent-leaves e n = offers_spent (omega (arith, n, ap (λ (y : Offered). y.places) (offers_bare ssd hdd t r caller blocks (not_yet x)))) e

@@ -16,7 +16,7 @@ use Rattle.record.specs.declared.Phase.TheVariants.{Ready}
 use Rattle.record.specs.Callers.{caller_array, named_places, callers_test}
 use Rattle.record.specs.Record.{label_in, window_in, callers_in}
 use Rattle.record.specs.Rule.{record_test}
-use Rattle.record.proofs.WindowLaws.{length-array, zero_past}
+use Rattle.record.proofs.WindowLaws.{length-array, zero_past_lem}
 use Rattle.record.proofs.CallerLaws.{joins-test}
 use Rattle.record.proofs.RecordLaws.{parts, window-length, callers-length, callers-known}
 use Rattle.protocol.specs.Rows.{set_row, writing, open_rows}
@@ -93,7 +93,7 @@ module _ (r : Record) (e : record_test r ≡ true) (on : r.phase ≡ Ready) (s :
         eq-eqb _ _ (length-array w few),
         ap (in_range (label_in r)) joined-window ∙ sym (below_nums (label_in r) w) ∙ S.rule.in_slots,
         ap distinct joined-window ∙ sym (distinct_nums w) ∙ S.rule.apart,
-        zero_past w,
+        zero_past_lem w,
       )
       (subst (λ (p : Phase). callers_test (named_places p (length w)) (caller_array (callers_in r ++ (caller ∷ []))) ≡ true) (sym on)
       (joins-test (window_in r) (callers_in r) (callers-length r P ∙ sym (window-length r P)) (callers-known r P) s caller known (omega (arith, more, few))))

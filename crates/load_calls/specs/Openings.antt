@@ -2,7 +2,7 @@
 use Rattle.std.specs.Prelude.{Bool, true, false}
 use Rattle.layout.specs.declared.Block.{Block}
 use Rattle.protocol.specs.Box.{Box, Result, box_after}
-use Rattle.protocol.specs.Plan.{Call, flush, offer, fetch, lookUp}
+use Rattle.protocol.specs.Plan.{Call, flush, offer, fetch, look_up}
 use Rattle.protocol.specs.Calls.{result_of}
 use Rattle.protocol.specs.Cost.{is_copied_out}
 use Rattle.draws.specs.declared.Kind.{Kind}
@@ -12,7 +12,7 @@ use Rattle.draws.specs.declared.Kind.TheVariants.{Write, Fetch, LookUp, Flush}
 abbrev pub opening : Kind → Block → Call
 opening Write b = offer b 0
 opening Fetch b = fetch b 0
-opening LookUp b = lookUp b
+opening LookUp b = look_up b
 opening Flush b = flush
 
 -- "after being repeated past a copy-out": once, since no offer answers "copied out" a second time running

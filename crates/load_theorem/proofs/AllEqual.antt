@@ -16,8 +16,8 @@ use Rattle.layout.specs.declared.Label.{Label}
 use Rattle.record.specs.declared.Phase.TheVariants.{Ready}
 use Rattle.protocol.specs.Reply.{refused}
 use Rattle.protocol.specs.Box.{Box, box_after}
-use Rattle.protocol.specs.Plan.{Call, landFetch, land}
-use Rattle.protocol.specs.Kinds.{aims_by, aims, no_block, toServe, toSettle, toWrite, toFetch, toLandFetch, to_land, aim}
+use Rattle.protocol.specs.Plan.{Call, land_fetch, land}
+use Rattle.protocol.specs.Kinds.{aims_by, aims, no_block, to_serve, to_settle, to_write, to_fetch, to_land_fetch, to_land, aim}
 use Rattle.protocol.specs.Judge.{is_ready}
 use Rattle.protocol.specs.Calls.{result_of}
 use Rattle.protocol.specs.ReferenceDisk.{Disk, fed_call}
@@ -89,10 +89,10 @@ module _ (c : Call) (S : Service c) (quiet : (d : Disk) → (fed_call (aim c).pu
 
 -- the call that a draw begins with
 opening_served : (k : Kind) (b : Block) → Service (opening k b)
-opening_served Write b = record { aimed = aims_by b toWrite 0; kind_is = refl; does = λ x. offer_does x b 0 }
-opening_served Fetch b = record { aimed = aims_by b toFetch 0; kind_is = refl; does = λ x. fetch_does x b 0 }
-opening_served LookUp b = record { aimed = aims b toServe; kind_is = refl; does = λ x. look_up_does x b }
-opening_served Flush b = record { aimed = aims no_block toSettle; kind_is = refl; does = flush_does }
+opening_served Write b = record { aimed = aims_by b to_write 0; kind_is = refl; does = λ x. offer_does x b 0 }
+opening_served Fetch b = record { aimed = aims_by b to_fetch 0; kind_is = refl; does = λ x. fetch_does x b 0 }
+opening_served LookUp b = record { aimed = aims b to_serve; kind_is = refl; does = λ x. look_up_does x b }
+opening_served Flush b = record { aimed = aims no_block to_settle; kind_is = refl; does = flush_does }
 
 opening_quiet : (k : Kind) (b : Block) (d : Disk) → (fed_call (aim (opening k b)).purpose (aim (opening k b)).block d).page ≡ d.page
 opening_quiet Write b d = refl
@@ -121,8 +121,8 @@ module _ (b : Block) (page plain : List ℕ) (low : b.0 < 8) (full : length page
 
 -- a draw
 module _ (b : Block) (page : List ℕ) (low : b.0 < 8) (full : length page ≡ 4096) where
-  fetch_served : Service (landFetch b)
-  fetch_served = record { aimed = aims b toLandFetch; kind_is = refl; does = λ x. land_fetch_does x b }
+  fetch_served : Service (land_fetch b)
+  fetch_served = record { aimed = aims b to_land_fetch; kind_is = refl; does = λ x. land_fetch_does x b }
 
   landed-kept : (k : Kind) (x : Box) (plain : List ℕ) → Kept x plain → Kept (landed k b page x plain).box (landed k b page x plain).plain
   unfolding landed
@@ -130,7 +130,7 @@ module _ (b : Block) (page : List ℕ) (low : b.0 < 8) (full : length page ≡ 4
       let t = refused (result_of (land b page) x).said in
       kept_next (land b page) (land_served b page plain low full K.size) x plain (fed_if t b page plain)
       (fed-size b page plain low full K.size t) K (fed-pages b page plain low full K.size t K.disk K.pages)
-  landed-kept Fetch x plain K = quiet_next (landFetch b) fetch_served (λ d. refl) x plain K
+  landed-kept Fetch x plain K = quiet_next (land_fetch b) fetch_served (λ d. refl) x plain K
   landed-kept LookUp x plain K = K
   landed-kept Flush x plain K = K
 

@@ -7,7 +7,7 @@ use Rattle.pages.specs.Pages.{put_page}
 use Rattle.layout.specs.declared.Block.{Block}
 use Rattle.protocol.specs.Reply.{refused}
 use Rattle.protocol.specs.Box.{Box, Result, box_after}
-use Rattle.protocol.specs.Plan.{landFetch, land}
+use Rattle.protocol.specs.Plan.{land_fetch, land}
 use Rattle.protocol.specs.Calls.{result_of}
 use Rattle.draws.specs.declared.Kind.{Kind}
 use Rattle.draws.specs.declared.Kind.TheVariants.{Write, Fetch}
@@ -30,7 +30,7 @@ module _ (b : Block) (page : List ℕ) (x : Box) (plain : List ℕ) (r : Result)
       (λ i. record { box = box_after r; plain = f i; refused = false })
       ∙ ap (λ (v : Bool). record { box = box_after r; plain = fed_if v b page plain; refused = v }) (sym q) ∙ write_landed e
 
-  pub fetch_landed : r ≡ result_of (landFetch b) x → record { box = box_after r; plain = plain; refused = t } ≡ landed Fetch b page x plain
+  pub fetch_landed : r ≡ result_of (land_fetch b) x → record { box = box_after r; plain = plain; refused = t } ≡ landed Fetch b page x plain
   unfolding landed
   fetch_landed e =
       (λ i. record { box = box_after r; plain = plain; refused = h i })

@@ -4,7 +4,7 @@ use Rattle.pages.specs.Pages.{put_page}
 use Rattle.layout.specs.declared.Block.{Block}
 use Rattle.protocol.specs.Reply.{refused}
 use Rattle.protocol.specs.Box.{Box, box_after}
-use Rattle.protocol.specs.Plan.{landFetch, land}
+use Rattle.protocol.specs.Plan.{land_fetch, land}
 use Rattle.protocol.specs.Calls.{result_of, box_of}
 use Rattle.draws.specs.declared.Kind.{Kind}
 use Rattle.draws.specs.declared.Kind.TheVariants.{Write, Fetch, LookUp, Flush}
@@ -29,7 +29,7 @@ landed Write b page x plain =
     let r = result_of (land b page) x in
     record { box = box_after r; plain = fed_if (refused r.said) b page plain; refused = refused r.said }
 landed Fetch b page x plain =
-    let r = result_of (landFetch b) x in
+    let r = result_of (land_fetch b) x in
     record { box = box_after r; plain = plain; refused = refused r.said }
 landed LookUp b page x plain = record { box = x; plain = plain; refused = false }
 landed Flush b page x plain = record { box = x; plain = plain; refused = false }

@@ -26,7 +26,7 @@ use Rattle.protocol.specs.Box.{Result}
 use Rattle.record.specs.Record.{label_in, window_in, record_of}
 use Rattle.protocol.specs.Plan.{format, plan}
 use Rattle.protocol.specs.Perform.{format_store, perform}
-use Rattle.protocol.specs.Judge.{lengths_test, badLimits, wrongLength, length_test, test, first_of, judged}
+use Rattle.protocol.specs.Judge.{lengths_test, bad_limits, wrong_length, length_test, test, first_of, judged}
 use Rattle.protocol.specs.Calls.{box_of, effect_of, format_of}
 use Rattle.layout.proofs.Booleans.{Told, told, told_true, told_false, and_parts}
 use Rattle.maintenance.specs.Format.{format_number, table_after}
@@ -77,7 +77,7 @@ module _ (ssd hdd table : List ℕ) (state : Record) (slots blocks : ℕ) (l : L
   abbrev answering : Reply → Record → List ℕ → Result
   answering said next after = record { said = said; stored = Nothing; state = next; table = after; ssd = ssd; hdd = hdd }
 
-  limits-judged : within_limits l ≡ false → judged (format slots blocks) (box_of ssd hdd table state) ≡ some badLimits
+  limits-judged : within_limits l ≡ false → judged (format slots blocks) (box_of ssd hdd table state) ≡ some bad_limits
   unfolding judged first_of test
   limits-judged e = rw (first_of, ← L, e)
 
@@ -87,7 +87,7 @@ module _ (ssd hdd table : List ℕ) (state : Record) (slots blocks : ℕ) (l : L
 
   module _ (e : within_limits l ≡ true) where
     length-judged : lengths_test l (length ssd) (length hdd) (length table) ≡ false
-        → judged (format slots blocks) (box_of ssd hdd table state) ≡ some wrongLength
+        → judged (format slots blocks) (box_of ssd hdd table state) ≡ some wrong_length
     unfolding judged first_of test length_test lengths_test
     length-judged t = rw (first_of, ← L, e) (rw (first_of, rw L at t))
 

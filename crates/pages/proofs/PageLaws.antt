@@ -115,13 +115,13 @@ commute image a b i j l h p q =
     let lg : length g ≡ k = length-take-le k v (omega arith) in
     let lw : length w ≡ length v - k = length-drop k v in
     let lt : length t ≡ 4096 = length-take-le 4096 w (omega arith) in
-    let i-a : (x : List ℕ) → put_page (f ++ (s ++ x)) i a ≡ f ++ (a ++ x) = λ x. put_between f s x a i lf ls in
-    let j-b : (x : List ℕ) → length x ≡ 4096 → put_page (f ++ (x ++ (g ++ (t ++ r)))) j b ≡ f ++ (x ++ (g ++ (b ++ r))) = λ x e. put_beyond f x g t r b j (omega arith) lt in
+    let i_a : (x : List ℕ) → put_page (f ++ (s ++ x)) i a ≡ f ++ (a ++ x) = λ x. put_between f s x a i lf ls in
+    let j_b : (x : List ℕ) → length x ≡ 4096 → put_page (f ++ (x ++ (g ++ (t ++ r)))) j b ≡ f ++ (x ++ (g ++ (b ++ r))) = λ x e. put_beyond f x g t r b j (omega arith) lt in
     ap (λ (x : List ℕ). put_page (put_page x i a) j b) whole
-    ∙ ap (λ (x : List ℕ). put_page x j b) (i-a (g ++ (t ++ r)))
-    ∙ j-b a p
-    ∙ sym (i-a (g ++ (b ++ r)))
-    ∙ ap (λ (x : List ℕ). put_page x i a) (sym (j-b s ls))
+    ∙ ap (λ (x : List ℕ). put_page x j b) (i_a (g ++ (t ++ r)))
+    ∙ j_b a p
+    ∙ sym (i_a (g ++ (b ++ r)))
+    ∙ ap (λ (x : List ℕ). put_page x i a) (sym (j_b s ls))
     ∙ ap (λ (x : List ℕ). put_page (put_page x j b) i a) (sym whole)
 
 -- two stores at different places commute

@@ -22,10 +22,10 @@ use Rattle.protocol.specs.Rows.{row_flags, dirty, with_writing, open_rows, all_w
 use Rattle.protocol.specs.Box.{Box, refusing}
 use Rattle.protocol.specs.Condition.{condition_of, is_open, is_cached, is_writing, has_other}
 use Rattle.protocol.specs.Sweep.{next_slot}
-use Rattle.protocol.specs.Kinds.{toWrite, toFetch}
+use Rattle.protocol.specs.Kinds.{to_write, to_fetch}
 use Rattle.protocol.specs.Plan.{Call, Move, offer, fetch, stay, opens, copies, takes_as, takes, sweeps, offering, fetching, stores_meta, plan, import_open}
 use Rattle.protocol.specs.Perform.{perform}
-use Rattle.protocol.specs.Judge.{Reason, slotOpen, hasSlot, windowFull, allOpen, stampsSpent, importFull, opens_another, test, first_of, judged}
+use Rattle.protocol.specs.Judge.{Reason, slot_open, has_slot, window_full, all_open, stamps_spent, import_full, opens_another, test, first_of, judged}
 use Rattle.protocol.specs.Calls.{effect_of, box_of}
 use Rattle.laws.proofs.refine.Tables.{Rows}
 use Rattle.sweeping.specs.declared.Swept.{Swept}
@@ -52,22 +52,22 @@ module _ (s : Slot) (flags passed : ℕ) (hand : Slot) (b : Block) (caller : ℕ
 
 -- 13 alone is left to ask of a call: it opens a slot, or it copies one out
 module _ (c : Call) (x : Box) (b : Block) (caller passed : ℕ)
-    (j : judged c x ≡ first_of (stampsSpent ∷ []) (λ q. test q c x))
-    (e : test stampsSpent c x ≡ (stores_meta (plan c x) && spent (label_in x.state) x.state.newest)) where
+    (j : judged c x ≡ first_of (stamps_spent ∷ []) (λ q. test q c x))
+    (e : test stamps_spent c x ≡ (stores_meta (plan c x) && spent (label_in x.state) x.state.newest)) where
   opening : (s : Slot) (flags : ℕ) (hand : Slot) → plan c x ≡ opens x.state s b caller flags (table_after passed x) hand
       → effect_of c x ≡ turned (Opens s flags passed hand) b caller x
   opening s flags hand p = go (told (spent (label_in x.state) x.state.newest))
     where
-      asks : test stampsSpent c x ≡ spent (label_in x.state) x.state.newest
+      asks : test stamps_spent c x ≡ spent (label_in x.state) x.state.newest
       asks = e ∙ ap (λ (m : Move). stores_meta m && spent (label_in x.state) x.state.newest) p
 
       go : Told (spent (label_in x.state) x.state.newest) → effect_of c x ≡ turned (Opens s flags passed hand) b caller x
-      go (told_true n) = refuses c x stampsSpent (j ∙ first_yes _ stampsSpent [] (asks ∙ n)) ∙ turn_spent s flags passed hand b caller x n
-      go (told_false n) = does c x _ (j ∙ first_no _ stampsSpent [] (asks ∙ n) ∙ end _) p ∙ turn_opens s flags passed hand b caller x n
+      go (told_true n) = refuses c x stamps_spent (j ∙ first_yes _ stamps_spent [] (asks ∙ n)) ∙ turn_spent s flags passed hand b caller x n
+      go (told_false n) = does c x _ (j ∙ first_no _ stamps_spent [] (asks ∙ n) ∙ end _) p ∙ turn_opens s flags passed hand b caller x n
 
   copying : (s : Slot) → plan c x ≡ copies s copied_out (table_after passed x) s → effect_of c x ≡ turned (CopiesOut s passed) b caller x
   copying s p = does c x _
-      (j ∙ first_no _ stampsSpent [] (e ∙ ap (λ (m : Move). stores_meta m && spent (label_in x.state) x.state.newest) p) ∙ end _) p
+      (j ∙ first_no _ stamps_spent [] (e ∙ ap (λ (m : Move). stores_meta m && spent (label_in x.state) x.state.newest) p) ∙ end _) p
 
 -- a call that opens another slot: 17 or 11 refuses it, whatever its turn would be, or there is room and the rest is asked
 data Crowd (c : Call) (x : Box) (b : Block) (caller : ℕ) (more : List Reason) : Type 0 where
@@ -76,8 +76,8 @@ data Crowd (c : Call) (x : Box) (b : Block) (caller : ℕ) (more : List Reason) 
       → judged c x ≡ first_of more (λ q. test q c x) → Crowd c x b caller more
 
 module _ (c : Call) (x : Box) (b : Block) (caller : ℕ) (more : List Reason)
-    (j : judged c x ≡ first_of (importFull ∷ windowFull ∷ more) (λ q. test q c x))
-    (e17 : test importFull c x ≡ import_open caller x.state) (e11 : test windowFull c x ≡ leb 63 (open_rows x.table)) where
+    (j : judged c x ≡ first_of (import_full ∷ window_full ∷ more) (λ q. test q c x))
+    (e17 : test import_full c x ≡ import_open caller x.state) (e11 : test window_full c x ≡ leb 63 (open_rows x.table)) where
   crowd : Crowd c x b caller more
   crowd = go (told (import_open caller x.state)) (told (leb 63 (open_rows x.table)))
     where
@@ -87,31 +87,31 @@ module _ (c : Call) (x : Box) (b : Block) (caller : ℕ) (more : List Reason)
 
       go : Told (import_open caller x.state) → Told (leb 63 (open_rows x.table)) → Crowd c x b caller more
       go (told_true a) f = crowded λ T.
-          refuses c x importFull (j ∙ first_yes _ importFull _ (e17 ∙ a))
+          refuses c x import_full (j ∙ first_yes _ import_full _ (e17 ∙ a))
           ∙ by 17 (λ z. omega arith) (crowd_import x.table x.state caller a) T
       go (told_false a) (told_true f) = crowded λ T.
-          refuses c x windowFull (j ∙ first_no _ importFull _ (e17 ∙ a) ∙ first_yes _ windowFull _ (e11 ∙ f))
+          refuses c x window_full (j ∙ first_no _ import_full _ (e17 ∙ a) ∙ first_yes _ window_full _ (e11 ∙ f))
           ∙ by 11 (λ z. omega arith) (crowd_full x.table x.state caller a f) T
       go (told_false a) (told_false f) = roomy
           (λ T. ap (λ (m : ℕ). turned (if_room m T) b caller x) (crowd_none x.table x.state caller a f))
-          (j ∙ first_no _ importFull _ (e17 ∙ a) ∙ first_no _ windowFull _ (e11 ∙ f))
+          (j ∙ first_no _ import_full _ (e17 ∙ a) ∙ first_no _ window_full _ (e11 ∙ f))
 
 -- a call that sweeps for a slot: 17, 11, 12 and 13 are left to ask of it
 module _ (c : Call) (x : Box) (b : Block) (caller flags : ℕ) (size : length x.table ≡ table_length (label_in x.state))
     (R : Rows (label_in x.state) x.table) (low : x.state.hand.0 < x.state.label.slots)
-    (j : judged c x ≡ first_of (importFull ∷ windowFull ∷ allOpen ∷ stampsSpent ∷ []) (λ q. test q c x))
-    (e17 : test importFull c x ≡ import_open caller x.state)
-    (e11 : test windowFull c x ≡ leb 63 (open_rows x.table)) (e12 : test allOpen c x ≡ all_writing x.table)
-    (e13 : test stampsSpent c x ≡ (stores_meta (plan c x) && spent (label_in x.state) x.state.newest))
+    (j : judged c x ≡ first_of (import_full ∷ window_full ∷ all_open ∷ stamps_spent ∷ []) (λ q. test q c x))
+    (e17 : test import_full c x ≡ import_open caller x.state)
+    (e11 : test window_full c x ≡ leb 63 (open_rows x.table)) (e12 : test all_open c x ≡ all_writing x.table)
+    (e13 : test stamps_spent c x ≡ (stores_meta (plan c x) && spent (label_in x.state) x.state.newest))
     (p : plan c x ≡ sweeps x b caller flags) where
   abbrev l : Label
   l = label_in x.state
 
   sweeping : effect_of c x ≡ turned (sweep_turn l x.table x.state.hand (crowd_of x.table x.state caller) flags) b caller x
-  sweeping = go (crowd c x b caller (allOpen ∷ stampsSpent ∷ []) j e17 e11) (swept_of l x.table x.state.hand) refl
+  sweeping = go (crowd c x b caller (all_open ∷ stamps_spent ∷ []) j e17 e11) (swept_of l x.table x.state.hand) refl
     where
       took : (s : Slot) (k : ℕ) → Told (dirty (row_flags x.table s)) → swept_of l x.table x.state.hand ≡ Took s k
-          → judged c x ≡ first_of (stampsSpent ∷ []) (λ q. test q c x)
+          → judged c x ≡ first_of (stamps_spent ∷ []) (λ q. test q c x)
           → effect_of c x ≡ turned (take_turn l x.table flags (Took s k)) b caller x
       took s k d f n =
           go d (p ∙ ap (takes x.state b caller flags) (swept_is l x.table x.state.hand s k size R low (sym f))
@@ -127,15 +127,15 @@ module _ (c : Call) (x : Box) (b : Block) (caller flags : ℕ) (size : length x.
           go (told_true d) q = copying c x b caller k n e13 s (q ∙ rw (d, takes_as)) ∙ rw (d, take_turn, turned)
           go (told_false d) q = opening c x b caller k n e13 s flags (next_slot l s) (q ∙ rw (d, takes_as)) ∙ rw (d, take_turn, turned)
 
-      swept : (w : Swept) → swept_of l x.table x.state.hand ≡ w → judged c x ≡ first_of (allOpen ∷ stampsSpent ∷ []) (λ q. test q c x)
+      swept : (w : Swept) → swept_of l x.table x.state.hand ≡ w → judged c x ≡ first_of (all_open ∷ stamps_spent ∷ []) (λ q. test q c x)
           → effect_of c x ≡ turned (take_turn l x.table flags w) b caller x
       swept Stuck f n =
-          refuses c x allOpen (n ∙ first_yes _ allOpen _ (e12 ∙ stuck_all l x.table x.state.hand size low f))
+          refuses c x all_open (n ∙ first_yes _ all_open _ (e12 ∙ stuck_all l x.table x.state.hand size low f))
       swept (Took s k) f n =
           took s k (told (dirty (row_flags x.table s))) f
-          (n ∙ first_no _ allOpen _ (e12 ∙ not-all l x.table x.state.hand s k size R low (sym f)))
+          (n ∙ first_no _ all_open _ (e12 ∙ not-all l x.table x.state.hand s k size R low (sym f)))
 
-      go : Crowd c x b caller (allOpen ∷ stampsSpent ∷ []) → (w : Swept) → swept_of l x.table x.state.hand ≡ w
+      go : Crowd c x b caller (all_open ∷ stamps_spent ∷ []) → (w : Swept) → swept_of l x.table x.state.hand ≡ w
           → effect_of c x ≡ turned (sweep_turn l x.table x.state.hand (crowd_of x.table x.state caller) flags) b caller x
       go (crowded f) w q = f _
       go (roomy f n) w q =
@@ -163,55 +163,55 @@ module _ (ssd hdd t : List ℕ) (r : Record) (b : Block) (caller : ℕ)
   unfolding test plan cleared_from
   offer_turned = go (condition_of t b) refl
     where
-      asked : judged (offer b caller) x ≡ first_of (slotOpen ∷ importFull ∷ windowFull ∷ allOpen ∷ stampsSpent ∷ []) (λ q. test q (offer b caller) x)
+      asked : judged (offer b caller) x ≡ first_of (slot_open ∷ import_full ∷ window_full ∷ all_open ∷ stamps_spent ∷ []) (λ q. test q (offer b caller) x)
       asked = judged_on (offer b caller) x _ _ (offer_judges ssd hdd t r b caller) z
 
       go : (k : Condition) → condition_of t b ≡ k → effect_of (offer b caller) x ≡ turned (offer_turn t r caller k) b caller x
-      go NotCached e = sweeping (offer b caller) x b caller 7 size R low (asked ∙ first_no _ slotOpen _ (ap is_open e))
-          (ap (λ (k : Condition). opens_another toWrite k && import_open caller r) e)
-          (ap (λ (k : Condition). opens_another toWrite k && leb 63 (open_rows t)) e)
+      go NotCached e = sweeping (offer b caller) x b caller 7 size R low (asked ∙ first_no _ slot_open _ (ap is_open e))
+          (ap (λ (k : Condition). opens_another to_write k && import_open caller r) e)
+          (ap (λ (k : Condition). opens_another to_write k && leb 63 (open_rows t)) e)
           (ap (λ (k : Condition). not (is_cached k) && all_writing t) e) refl (ap (offering x b caller) e)
-      go (Clean s) e = clean (crowd (offer b caller) x b caller (allOpen ∷ stampsSpent ∷ []) (asked ∙ first_no _ slotOpen _ (ap is_open e))
-          (ap (λ (k : Condition). opens_another toWrite k && import_open caller r) e)
-          (ap (λ (k : Condition). opens_another toWrite k && leb 63 (open_rows t)) e))
+      go (Clean s) e = clean (crowd (offer b caller) x b caller (all_open ∷ stamps_spent ∷ []) (asked ∙ first_no _ slot_open _ (ap is_open e))
+          (ap (λ (k : Condition). opens_another to_write k && import_open caller r) e)
+          (ap (λ (k : Condition). opens_another to_write k && leb 63 (open_rows t)) e))
         where
-          clean : Crowd (offer b caller) x b caller (allOpen ∷ stampsSpent ∷ [])
+          clean : Crowd (offer b caller) x b caller (all_open ∷ stamps_spent ∷ [])
               → effect_of (offer b caller) x ≡ turned (clean_turn t r.hand (crowd_of t r caller) s) b caller x
           clean (crowded f) = f _
           clean (roomy f n) =
-              opening (offer b caller) x b caller 0 (n ∙ first_no _ allOpen _ (ap (λ (k : Condition). not (is_cached k) && all_writing t) e))
+              opening (offer b caller) x b caller 0 (n ∙ first_no _ all_open _ (ap (λ (k : Condition). not (is_cached k) && all_writing t) e))
               refl s (with_writing (row_flags t s)) r.hand (ap (offering x b caller) e)
               ∙ f _
       go (Dirty s) e = does (offer b caller) x (stay overwrite)
-          (asked ∙ first_no _ slotOpen _ (ap is_open e)
-          ∙ first_no _ importFull _ (ap (λ (k : Condition). opens_another toWrite k && import_open caller r) e)
-          ∙ first_no _ windowFull _ (ap (λ (k : Condition). opens_another toWrite k && leb 63 (open_rows t)) e)
-          ∙ first_no _ allOpen _ (ap (λ (k : Condition). not (is_cached k) && all_writing t) e)
-          ∙ first_no _ stampsSpent _ (ap (λ (k : Condition). stores_meta (offering x b caller k) && spent (label_in r) r.newest) e)
+          (asked ∙ first_no _ slot_open _ (ap is_open e)
+          ∙ first_no _ import_full _ (ap (λ (k : Condition). opens_another to_write k && import_open caller r) e)
+          ∙ first_no _ window_full _ (ap (λ (k : Condition). opens_another to_write k && leb 63 (open_rows t)) e)
+          ∙ first_no _ all_open _ (ap (λ (k : Condition). not (is_cached k) && all_writing t) e)
+          ∙ first_no _ stamps_spent _ (ap (λ (k : Condition). stores_meta (offering x b caller k) && spent (label_in r) r.newest) e)
           ∙ end _)
           (ap (offering x b caller) e)
-      go (Writing s) e = refuses (offer b caller) x slotOpen (asked ∙ first_yes _ slotOpen _ (ap is_open e))
-      go (Fetching s) e = refuses (offer b caller) x slotOpen (asked ∙ first_yes _ slotOpen _ (ap is_open e))
+      go (Writing s) e = refuses (offer b caller) x slot_open (asked ∙ first_yes _ slot_open _ (ap is_open e))
+      go (Fetching s) e = refuses (offer b caller) x slot_open (asked ∙ first_yes _ slot_open _ (ap is_open e))
 
   pub fetch_turned : effect_of (fetch b caller) x ≡ turned (fetch_turn t r caller (condition_of t b)) b caller x
   unfolding test plan
   fetch_turned = go (condition_of t b) refl
     where
       asked : judged (fetch b caller) x
-          ≡ first_of (hasSlot ∷ slotOpen ∷ importFull ∷ windowFull ∷ allOpen ∷ stampsSpent ∷ []) (λ q. test q (fetch b caller) x)
+          ≡ first_of (has_slot ∷ slot_open ∷ import_full ∷ window_full ∷ all_open ∷ stamps_spent ∷ []) (λ q. test q (fetch b caller) x)
       asked = judged_on (fetch b caller) x _ _ (fetch_judges ssd hdd t r b caller) z
 
       go : (k : Condition) → condition_of t b ≡ k → effect_of (fetch b caller) x ≡ turned (fetch_turn t r caller k) b caller x
       go NotCached e = sweeping (fetch b caller) x b caller 5 size R low
-          (asked ∙ first_no _ hasSlot _ (ap has_other e) ∙ first_no _ slotOpen _ (ap is_writing e))
-          (ap (λ (k : Condition). opens_another toFetch k && import_open caller r) e)
-          (ap (λ (k : Condition). opens_another toFetch k && leb 63 (open_rows t)) e)
+          (asked ∙ first_no _ has_slot _ (ap has_other e) ∙ first_no _ slot_open _ (ap is_writing e))
+          (ap (λ (k : Condition). opens_another to_fetch k && import_open caller r) e)
+          (ap (λ (k : Condition). opens_another to_fetch k && leb 63 (open_rows t)) e)
           (ap (λ (k : Condition). not (is_cached k) && all_writing t) e) refl (ap (fetching x b caller) e)
-      go (Clean s) e = refuses (fetch b caller) x hasSlot (asked ∙ first_yes _ hasSlot _ (ap has_other e))
-      go (Dirty s) e = refuses (fetch b caller) x hasSlot (asked ∙ first_yes _ hasSlot _ (ap has_other e))
+      go (Clean s) e = refuses (fetch b caller) x has_slot (asked ∙ first_yes _ has_slot _ (ap has_other e))
+      go (Dirty s) e = refuses (fetch b caller) x has_slot (asked ∙ first_yes _ has_slot _ (ap has_other e))
       go (Writing s) e =
-          refuses (fetch b caller) x slotOpen (asked ∙ first_no _ hasSlot _ (ap has_other e) ∙ first_yes _ slotOpen _ (ap is_writing e))
-      go (Fetching s) e = refuses (fetch b caller) x hasSlot (asked ∙ first_yes _ hasSlot _ (ap has_other e))
+          refuses (fetch b caller) x slot_open (asked ∙ first_no _ has_slot _ (ap has_other e) ∙ first_yes _ slot_open _ (ap is_writing e))
+      go (Fetching s) e = refuses (fetch b caller) x has_slot (asked ∙ first_yes _ has_slot _ (ap has_other e))
 
   -- and it can be performed
   room : (T : Turn) → (leb 63 (open_rows t) ≡ false → Performable T t r) → Performable (if_room (crowd_of t r caller) T) t r

@@ -6,13 +6,13 @@ use mathlib.Core.Bool.{Bool, true, false, ◌||◌}
 use mathlib.Core.List.{List, [], ◌∷◌}
 use mathlib.Core.Option.{Option, some, none, some-injective, some-ne-none}
 use lib.Dec.{eqb}
-use Rattle.protocol.specs.Judge.{Reason, badLimits, no_label, badRecord, wrongLength, badRows, wrongPhase, blockTooHigh, slotOpen, wrongState, hasSlot, windowFull, allOpen, stampsSpent, importFull, unknownCaller, bad_scan, bad_list, sheet_short, number_of}
+use Rattle.protocol.specs.Judge.{Reason, bad_limits, no_label, bad_record, wrong_length, bad_rows, wrong_phase, block_too_high, slot_open, wrong_state, has_slot, window_full, all_open, stamps_spent, import_full, unknown_caller, bad_scan, bad_list, sheet_short, number_of}
 
 -- all reasons
 abbrev every : List Reason
 every =
-    badLimits ∷ no_label ∷ badRecord ∷ wrongLength ∷ badRows ∷ wrongPhase ∷ blockTooHigh ∷ slotOpen ∷ wrongState ∷ hasSlot ∷ windowFull
-    ∷ allOpen ∷ stampsSpent ∷ sheet_short ∷ bad_scan ∷ bad_list ∷ importFull ∷ unknownCaller ∷ []
+    bad_limits ∷ no_label ∷ bad_record ∷ wrong_length ∷ bad_rows ∷ wrong_phase ∷ block_too_high ∷ slot_open ∷ wrong_state ∷ has_slot ∷ window_full
+    ∷ all_open ∷ stamps_spent ∷ sheet_short ∷ bad_scan ∷ bad_list ∷ import_full ∷ unknown_caller ∷ []
 
 -- a number is one reason's, and 0 is none's
 unfoldable pub numbered : List Reason → ℕ → Option Reason
@@ -21,24 +21,24 @@ numbered (r ∷ rs) n = elim (eqb (number_of r) n) [ true ↦ some r | false ↦
 
 pub number_back : (r : Reason) → numbered every (number_of r) ≡ some r
 unfolding numbered
-number_back badLimits = refl
+number_back bad_limits = refl
 number_back no_label = refl
-number_back badRecord = refl
-number_back wrongLength = refl
-number_back badRows = refl
-number_back wrongPhase = refl
-number_back blockTooHigh = refl
-number_back slotOpen = refl
-number_back wrongState = refl
-number_back hasSlot = refl
-number_back windowFull = refl
-number_back allOpen = refl
-number_back stampsSpent = refl
+number_back bad_record = refl
+number_back wrong_length = refl
+number_back bad_rows = refl
+number_back wrong_phase = refl
+number_back block_too_high = refl
+number_back slot_open = refl
+number_back wrong_state = refl
+number_back has_slot = refl
+number_back window_full = refl
+number_back all_open = refl
+number_back stamps_spent = refl
 number_back sheet_short = refl
 number_back bad_scan = refl
 number_back bad_list = refl
-number_back importFull = refl
-number_back unknownCaller = refl
+number_back import_full = refl
+number_back unknown_caller = refl
 
 pub number_is : (q r : Reason) → number_of q ≡ number_of r → q ≡ r
 number_is q r e = some-injective q r (sym (number_back q) ∙ ap (numbered every) e ∙ number_back r)

@@ -24,16 +24,16 @@ use Rattle.protocol.specs.declared.Cost.TheVariants.{Refused, Counted, Met}
 use Rattle.protocol.specs.Reply.{Reply, refusal, answer, dealt, refused, announced, overwrite, copied_out, done}
 use Rattle.protocol.specs.Rows.{row_block, row_flags, valid, dirty, writing}
 use Rattle.record.specs.Callers.{open_by}
-use Rattle.record.specs.Record.{label_in, window_in, callers_in, window_of as recordWindow, with_stamp, put_window}
-use Rattle.protocol.specs.Box.{Images, Box, ssdImage, hddImage, Store, Effect, refusing, Result, box_after}
+use Rattle.record.specs.Record.{label_in, window_in, callers_in, window_of as record_window, with_stamp, put_window}
+use Rattle.protocol.specs.Box.{Images, Box, ssd_image, hdd_image, Store, Effect, refusing, Result, box_after}
 use Rattle.protocol.specs.Condition.{condition_of, is_open}
-use Rattle.protocol.specs.Plan.{Ask, slot_map, cost, Call, format, step, reopen, offer, fetch, land, landFetch, lookUp, look_up_list, offer_list, ask, format_label}
+use Rattle.protocol.specs.Plan.{Ask, slot_map, cost, Call, format, step, reopen, offer, fetch, land, land_fetch, look_up, look_up_list, offer_list, ask, format_label}
 use Rattle.protocol.specs.Kinds.{Purpose, aim}
 use Rattle.protocol.specs.Recovery.{label_at, metas_of, spent_stamp, entry_in, stored_rows, Recovered, recover_from}
 use Rattle.protocol.specs.SlotMap.{letter_of, map_lines, map_bytes, map_text}
-use Rattle.protocol.specs.Judge.{no_label, wrongLength, test}
+use Rattle.protocol.specs.Judge.{no_label, wrong_length, test}
 use Rattle.protocol.specs.Calls.{effect_of, result_of, box_of, view_of, words_left, map_of}
-use Rattle.protocol.specs.Cost.{PageKind, copyOut, metadata, data_page, page_kind, is_copied_out, cost_in}
+use Rattle.protocol.specs.Cost.{PageKind, copy_out, metadata, data_page, page_kind, is_copied_out, cost_in}
 use Rattle.protocol.specs.Events.{World, Memory, Arrival, new, Event, call, cut, lent, read_of, called, crashed, run, steps, formatted, start_of, AllFit}
 use Rattle.protocol.specs.Demand3.{stored_window, slot_said}
 
@@ -105,7 +105,7 @@ pub record MetaStored (l : Label) (p : ℕ) (bytes : List ℕ) (before : Phase) 
 abbrev pub StoresLegally : Call → Box → Type 0
 StoresLegally c x =
     refused (result_of c x).said ≡ false
-    → (s : Store) → (effect_of c x).store ≡ some s → s.image ≡ ssdImage
+    → (s : Store) → (effect_of c x).store ≡ some s → s.image ≡ ssd_image
     → (p : ℕ) → p < meta_pages (label_in x.state) → s.place ≡ meta_place (label_in x.state) p
     → MetaStored (label_in x.state) p s.bytes x.state.phase (result_of c x).state (result_of c x).table
 
@@ -142,7 +142,7 @@ recovered_to x (some r) = record { said = done; state = r.state; table = r.table
 abbrev pub ReopensFrom : Box → Type 0
 ReopensFrom x =
     let l = label_at x.images.ssd in
-    test no_label reopen x ≡ false → test wrongLength reopen x ≡ false
+    test no_label reopen x ≡ false → test wrong_length reopen x ≡ false
     → effect_of reopen x ≡ recovered_to x (recover_from l (metas_of l x.images.ssd) (spent_stamp l x.images.ssd))
 
 -- What a view hands back does not depend on where the images lie: its number, and its bytes, which are what demand 3 reads. So
@@ -204,7 +204,7 @@ pub data Landing : Type 0 where
 
 abbrev pub landing_call : Landing → Call
 landing_call (of_write b page) = land b page
-landing_call (of_fetch b) = landFetch b
+landing_call (of_fetch b) = land_fetch b
 
 abbrev pub landing_block : Landing → Block
 landing_block (of_write b page) = b
@@ -282,7 +282,7 @@ pub record Singles : Type 0 where
 unfoldable pub singles : List ℕ → Box → Singles
 singles [] x = record { words = []; box = x; taken = true }
 singles (b ∷ blocks) x =
-    let r = result_of (lookUp (record { 0 = b })) x in
+    let r = result_of (look_up (record { 0 = b })) x in
     let rest = singles blocks (box_after r) in
     record {
       words = word_said (slot_said r.said) ∷ rest.words;
@@ -306,7 +306,7 @@ LooksAlike = (blocks words : List ℕ) (x : Box) → ListAlike blocks words x
 
 -- a record, and a box, at another newest stamp
 abbrev pub stamped_at : ℕ → Record → Record
-stamped_at m r = put_window (with_stamp r m) r.unconfirmed (recordWindow r)
+stamped_at m r = put_window (with_stamp r m) r.unconfirmed (record_window r)
 
 abbrev pub at_stamp : ℕ → Box → Box
 at_stamp m x = record { images = x.images; table = x.table; state = stamped_at m x.state }
@@ -393,8 +393,8 @@ pub record Made : Type 0 where
 
 abbrev pub kinds_stored : Purpose → Stored → List PageKind
 kinds_stored p Nothing = []
-kinds_stored p (Ssd i) = page_kind p ssdImage ∷ []
-kinds_stored p (Hdd i) = page_kind p hddImage ∷ []
+kinds_stored p (Ssd i) = page_kind p ssd_image ∷ []
+kinds_stored p (Hdd i) = page_kind p hdd_image ∷ []
 
 abbrev pub makes_of : Purpose → Result → Made
 makes_of p r = record { kinds = kinds_stored p r.stored; box = box_after r; said = r.said }
@@ -441,13 +441,13 @@ import_all caller pages place (b ∷ blocks) x =
 
 -- how many pages of a kind there are
 abbrev pub is_kind : PageKind → PageKind → Bool
-is_kind copyOut copyOut = true
-is_kind copyOut metadata = false
-is_kind copyOut data_page = false
-is_kind metadata copyOut = false
+is_kind copy_out copy_out = true
+is_kind copy_out metadata = false
+is_kind copy_out data_page = false
+is_kind metadata copy_out = false
 is_kind metadata metadata = true
 is_kind metadata data_page = false
-is_kind data_page copyOut = false
+is_kind data_page copy_out = false
 is_kind data_page metadata = false
 is_kind data_page data_page = true
 
@@ -456,7 +456,7 @@ how_many k [] = 0
 how_many k (j ∷ kinds) = elim (is_kind k j) [ true ↦ suc (how_many k kinds) | false ↦ how_many k kinds ]
 
 abbrev pub counts_of : List PageKind → Counts
-counts_of kinds = record { copies = how_many copyOut kinds; metadata = how_many metadata kinds; landings = how_many data_page kinds }
+counts_of kinds = record { copies = how_many copy_out kinds; metadata = how_many metadata kinds; landings = how_many data_page kinds }
 
 abbrev pub answer_by : Option Meeting → Counts → Cost
 answer_by none counts = Counted counts
@@ -502,7 +502,7 @@ pub record UpdateFirst (l : Label) (w : World) : Type 0 where
       → (s : Slot) → condition_of w.box.table b ≡ Writing s → StoredWriting l w.box.images b s
   pub land-closed : (b : Block) (page : List ℕ) → refused (result_of (land b page) w.box).said ≡ false
       → (s : Slot) → condition_of w.box.table b ≡ Dirty s → StoredDirty l w.box.images b s
-  pub fetch_open : (b : Block) → refused (result_of (landFetch b) w.box).said ≡ false
+  pub fetch_open : (b : Block) → refused (result_of (land_fetch b) w.box).said ≡ false
       → (s : Slot) → condition_of w.box.table b ≡ Fetching s → StoredOpen l w.box.images b s
 
 abbrev pub UpdateBeforeData : Type 0

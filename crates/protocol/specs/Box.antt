@@ -18,7 +18,7 @@ pub record Box : Type 0 where
 
 -- a store: which image, which page of it, and its 4,096 bytes
 pub data Image : Type 0 where
-  ssdImage hddImage : Image
+  ssd_image hdd_image : Image
 
 pub record Store : Type 0 where
   pub image : Image
@@ -26,8 +26,8 @@ pub record Store : Type 0 where
   pub bytes : List ℕ
 
 abbrev pub stored_on : Image → ℕ → List ℕ → Images → Images
-stored_on ssdImage place bytes im = record { ssd = put_page im.ssd place bytes; hdd = im.hdd }
-stored_on hddImage place bytes im = record { ssd = im.ssd; hdd = put_page im.hdd place bytes }
+stored_on ssd_image place bytes im = record { ssd = put_page im.ssd place bytes; hdd = im.hdd }
+stored_on hdd_image place bytes im = record { ssd = im.ssd; hdd = put_page im.hdd place bytes }
 
 -- the images after a call: "Each call stores at most one page"
 abbrev pub applied : Option Store → Images → Images
@@ -47,8 +47,8 @@ refusing n x = record { said = refusal n; state = x.state; table = x.table; stor
 
 -- the page that a store is on, by its number in its image; where there is no store, none
 abbrev pub page_in : Image → ℕ → Stored
-page_in ssdImage place = Ssd place
-page_in hddImage place = Hdd place
+page_in ssd_image place = Ssd place
+page_in hdd_image place = Hdd place
 
 abbrev pub stored_of : Option Store → Stored
 stored_of none = Nothing

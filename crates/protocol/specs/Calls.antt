@@ -13,7 +13,7 @@ use Rattle.protocol.specs.declared.Condition.TheVariants.{NotCached, Clean, Dirt
 use Rattle.record.specs.Record.{label_in}
 use Rattle.protocol.specs.Box.{Box, Effect, Result, refusing, left}
 use Rattle.protocol.specs.Condition.{condition_of, words_of}
-use Rattle.protocol.specs.Plan.{Call, format, step, flush, reopen, offer, fetch, landFetch, lookUp, view, writeBack, land, look_up_list, offer_list, ask, slot_map, plan}
+use Rattle.protocol.specs.Plan.{Call, format, step, flush, reopen, offer, fetch, land_fetch, look_up, view, write_back, land, look_up_list, offer_list, ask, slot_map, plan}
 use Rattle.protocol.specs.Perform.{perform}
 use Rattle.protocol.specs.SlotMap.{map_text, map_bytes}
 use Rattle.protocol.specs.Judge.{Reason, number_of, judged}
@@ -61,13 +61,13 @@ abbrev pub fetch_of : List ℕ → List ℕ → List ℕ → Record → Block �
 fetch_of ssd hdd table state b caller = result_of (fetch b caller) (box_of ssd hdd table state)
 
 abbrev pub land_fetch_of : List ℕ → List ℕ → List ℕ → Record → Block → Result
-land_fetch_of ssd hdd table state b = result_of (landFetch b) (box_of ssd hdd table state)
+land_fetch_of ssd hdd table state b = result_of (land_fetch b) (box_of ssd hdd table state)
 
 abbrev pub look_up_of : List ℕ → List ℕ → List ℕ → Record → Block → Result
-look_up_of ssd hdd table state b = result_of (lookUp b) (box_of ssd hdd table state)
+look_up_of ssd hdd table state b = result_of (look_up b) (box_of ssd hdd table state)
 
 abbrev pub write_back_of : List ℕ → List ℕ → List ℕ → Record → Block → Result
-write_back_of ssd hdd table state b = result_of (writeBack b) (box_of ssd hdd table state)
+write_back_of ssd hdd table state b = result_of (write_back b) (box_of ssd hdd table state)
 
 abbrev pub flush_of : List ℕ → List ℕ → List ℕ → Record → Result
 flush_of ssd hdd table state = result_of flush (box_of ssd hdd table state)

@@ -8,33 +8,33 @@ use Rattle.protocol.specs.declared.Counts.{Counts}
 use Rattle.protocol.specs.declared.Cost.{Cost}
 use Rattle.protocol.specs.declared.Cost.TheVariants.{Refused, Counted, Met}
 use Rattle.protocol.specs.Reply.{Reply, refusal, answer, dealt, refused, done}
-use Rattle.protocol.specs.Box.{Box, Image, ssdImage, hddImage, Store, Effect}
+use Rattle.protocol.specs.Box.{Box, Image, ssd_image, hdd_image, Store, Effect}
 use Rattle.protocol.specs.Plan.{Call, offer, land, ask, cost}
-use Rattle.protocol.specs.Kinds.{Purpose, toServe, toSettle, toWrite, toFetch, toLandFetch, to_land, to_count, aim}
+use Rattle.protocol.specs.Kinds.{Purpose, to_serve, to_settle, to_write, to_fetch, to_land_fetch, to_land, to_count, aim}
 use Rattle.protocol.specs.Judge.{Reason, number_of, judged}
 use Rattle.protocol.specs.Calls.{effect_of, box_of}
 
 -- "the copy-outs, metadata stores and data stores": a page's kind, by the call that stores it and the image that it is on. Of a landing it
 -- is a data store, on whichever image; of any other call an HDD page is a copy-out, and an SSD page a metadata page
 pub data PageKind : Type 0 where
-  copyOut metadata data_page : PageKind
+  copy_out metadata data_page : PageKind
 
 abbrev pub image_kind : Image → PageKind
-image_kind ssdImage = metadata
-image_kind hddImage = copyOut
+image_kind ssd_image = metadata
+image_kind hdd_image = copy_out
 
 abbrev pub page_kind : Purpose → Image → PageKind
-page_kind toServe image = image_kind image
-page_kind toSettle image = image_kind image
-page_kind toWrite image = image_kind image
-page_kind toFetch image = image_kind image
-page_kind toLandFetch image = data_page
+page_kind to_serve image = image_kind image
+page_kind to_settle image = image_kind image
+page_kind to_write image = image_kind image
+page_kind to_fetch image = image_kind image
+page_kind to_land_fetch image = data_page
 page_kind (to_land page) image = data_page
 page_kind (to_count n) image = image_kind image
 
 -- one page more
 abbrev pub counts_with : PageKind → Counts → Counts
-counts_with copyOut n = record { copies = n.copies + 1; metadata = n.metadata; landings = n.landings }
+counts_with copy_out n = record { copies = n.copies + 1; metadata = n.metadata; landings = n.landings }
 counts_with metadata n = record { copies = n.copies; metadata = n.metadata + 1; landings = n.landings }
 counts_with data_page n = record { copies = n.copies; metadata = n.metadata; landings = n.landings + 1 }
 

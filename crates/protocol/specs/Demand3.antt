@@ -12,7 +12,7 @@ use Rattle.protocol.specs.Reply.{Reply, refusal, answer, names_closed, refused, 
 use Rattle.protocol.specs.Rows.{row_block, row_flags, valid, dirty, writing}
 use Rattle.protocol.specs.Box.{Images, Box}
 use Rattle.protocol.specs.Condition.{slot_of}
-use Rattle.protocol.specs.Plan.{Call, format, step, flush, reopen, lookUp, format_label}
+use Rattle.protocol.specs.Plan.{Call, format, step, flush, reopen, look_up, format_label}
 use Rattle.protocol.specs.Recovery.{label_at, metas_of, entry_in, newest_of, stored_rows}
 use Rattle.protocol.specs.Judge.{is_ready}
 use Rattle.protocol.specs.Calls.{result_of, view_of}
@@ -59,7 +59,7 @@ stored_slot false l im b = slot_of (stored_rows l (metas_of l im.ssd)) b
 -- where a block is: of a ready box, the closed slot that a look-up names and the view's page; from a cut, or the start of a
 -- reopening, till a reopening is finished, as the stored entries say
 abbrev pub place_if : Bool → Label → Box → Block → Place
-place_if true l x b = record { slot = slot_said (result_of (lookUp b) x).said; page = read_of x b }
+place_if true l x b = record { slot = slot_said (result_of (look_up b) x).said; page = read_of x b }
 place_if false l x b = entry_place l x.images b
     (stored_slot (in_window (metas_of l x.images.ssd) (stored_window l x.images) b) l x.images b)
 
@@ -137,7 +137,7 @@ pub record Safe (made : Label) (w : World) : Type 0 where
   pub reads : is_ready w.box.state.phase ≡ true → (b : Block) → b.0 < (own_label w).blocks → read_of w.box b ≡ w.disk.page b
   -- "a closed slot named by look-up holds the same"
   pub looks : is_ready w.box.state.phase ≡ true → (b : Block) → b.0 < (own_label w).blocks
-      → (s : Slot) → slot_said (result_of (lookUp b) w.box).said ≡ some s → page_at w.box.images.ssd (data_place (own_label w) s)
+      → (s : Slot) → slot_said (result_of (look_up b) w.box).said ≡ some s → page_at w.box.images.ssd (data_place (own_label w) s)
       ≡ w.disk.page b
   -- "after a finished reopening each block reads as nothing but" one of its contents
   pub allowed : (e : Event) → Fits e w → finishes e w ≡ true → (b : Block) → b.0 < (own_label w).blocks

@@ -11,7 +11,7 @@ use Rattle.protocol.specs.Reply.{refused}
 use Rattle.protocol.specs.Box.{Images, Box, Store, applied, Result, box_after}
 use Rattle.protocol.specs.Plan.{Call, format, step, reopen, format_label}
 use Rattle.protocol.specs.Recovery.{label_at}
-use Rattle.protocol.specs.Kinds.{Kind, a_format, aReopening, aStep, a_service, kind}
+use Rattle.protocol.specs.Kinds.{Kind, a_format, a_reopening, a_step, a_service, kind}
 use Rattle.protocol.specs.Judge.{is_ready}
 use Rattle.protocol.specs.Calls.{effect_of, result_of, view_of}
 use Rattle.protocol.specs.ReferenceDisk.{Disk, durable, fed}
@@ -46,8 +46,8 @@ read_of x b = (view_of (lent x.images.ssd) (lent x.images.hdd) x.table x.state b
 -- "Reopening, when finished (at once, or by the last step)": what blocks read as then
 abbrev pub may_finish : Kind → Bool
 may_finish (a_format l) = false
-may_finish aReopening = true
-may_finish aStep = true
+may_finish a_reopening = true
+may_finish a_step = true
 may_finish (a_service a) = false
 
 abbrev pub reads_if : Bool → Box → Option (Block → List ℕ)
@@ -122,8 +122,8 @@ start_of l x = record { box = x; disk = durable (λ b. page_at x.images.hdd (blo
 -- the lists of demand 3: formats are refused where they stand, and after a cut the table has the right length
 abbrev pub KindFits : Kind → Bool → Type 0
 KindFits (a_format l) r = r ≡ true
-KindFits aReopening r = Unit {0}
-KindFits aStep r = Unit {0}
+KindFits a_reopening r = Unit {0}
+KindFits a_step r = Unit {0}
 KindFits (a_service a) r = Unit {0}
 
 abbrev pub CallFits : Call → World → Type 0

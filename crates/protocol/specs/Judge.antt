@@ -24,15 +24,15 @@ use Rattle.record.specs.Record.{label_in, window_in}
 use Rattle.record.specs.Rule.{record_test}
 use Rattle.protocol.specs.Box.{Images, Box}
 use Rattle.protocol.specs.Condition.{condition_of, is_open, is_cached, is_writing, has_other, takes_write, takes_fetch}
-use Rattle.protocol.specs.Plan.{Call, format, step, flush, reopen, offer, fetch, landFetch, lookUp, view, writeBack, land, look_up_list, offer_list, ask, slot_map, cost, import_open, plan, stores_meta}
-use Rattle.protocol.specs.Kinds.{Purpose, toServe, toSettle, toWrite, toFetch, toLandFetch, to_land, to_count, Kind, a_format, aReopening, aStep, a_service, kind, aim}
+use Rattle.protocol.specs.Plan.{Call, format, step, flush, reopen, offer, fetch, land_fetch, look_up, view, write_back, land, look_up_list, offer_list, ask, slot_map, cost, import_open, plan, stores_meta}
+use Rattle.protocol.specs.Kinds.{Purpose, to_serve, to_settle, to_write, to_fetch, to_land_fetch, to_land, to_count, Kind, a_format, a_reopening, a_step, a_service, kind, aim}
 use Rattle.protocol.specs.Recovery.{label_at, metas_of, pages_test}
 use Rattle.protocol.specs.SlotMap.{map_bytes}
 
 -- the rows of document 01's table, and document 02's numbers
 pub data Reason : Type 0 where
-  badLimits no_label badRecord wrongLength badRows wrongPhase blockTooHigh : Reason
-  slotOpen wrongState hasSlot windowFull allOpen stampsSpent : Reason
+  bad_limits no_label bad_record wrong_length bad_rows wrong_phase block_too_high : Reason
+  slot_open wrong_state has_slot window_full all_open stamps_spent : Reason
   -- document 02, N1
   sheet_short : Reason
   -- document 02, N3
@@ -40,33 +40,33 @@ pub data Reason : Type 0 where
   -- document 02, N6
   bad_list : Reason
   -- document 02, N7
-  importFull unknownCaller : Reason
+  import_full unknown_caller : Reason
 
 abbrev pub number_of : Reason → ℕ
-number_of badLimits = 1
+number_of bad_limits = 1
 number_of no_label = 2
-number_of badRecord = 3
-number_of wrongLength = 4
-number_of badRows = 5
-number_of wrongPhase = 6
-number_of blockTooHigh = 7
-number_of slotOpen = 8
-number_of wrongState = 9
-number_of hasSlot = 10
-number_of windowFull = 11
-number_of allOpen = 12
-number_of stampsSpent = 13
+number_of bad_record = 3
+number_of wrong_length = 4
+number_of bad_rows = 5
+number_of wrong_phase = 6
+number_of block_too_high = 7
+number_of slot_open = 8
+number_of wrong_state = 9
+number_of has_slot = 10
+number_of window_full = 11
+number_of all_open = 12
+number_of stamps_spent = 13
 number_of sheet_short = 14
 number_of bad_scan = 15
 number_of bad_list = 16
-number_of importFull = 17
-number_of unknownCaller = 18
+number_of import_full = 17
+number_of unknown_caller = 18
 
 -- the label by which a call judges lengths: format by its arguments, reopen by the label page, others by the record
 abbrev pub label_for : Kind → Box → Label
 label_for (a_format l) x = l
-label_for aReopening x = label_at x.images.ssd
-label_for aStep x = label_in x.state
+label_for a_reopening x = label_at x.images.ssd
+label_for a_step x = label_in x.state
 label_for (a_service a) x = label_in x.state
 
 -- 2: "SSD under a page, or first page no legal label"
@@ -80,11 +80,11 @@ label_test ssd = leb 4096 (length ssd) && is_label (decode_label (page_at ssd la
 -- 4: "an image, table or data page of the wrong length"; of what is lent beside images and table, by the table's length: a data page,
 -- and a scratch table, "4 unless as long as the table" (document 02, N8)
 abbrev pub lent_test : Purpose → ℕ → Bool
-lent_test toServe rows = true
-lent_test toSettle rows = true
-lent_test toWrite rows = true
-lent_test toFetch rows = true
-lent_test toLandFetch rows = true
+lent_test to_serve rows = true
+lent_test to_settle rows = true
+lent_test to_write rows = true
+lent_test to_fetch rows = true
+lent_test to_land_fetch rows = true
 lent_test (to_land page) rows = eqb (length page) 4096
 lent_test (to_count n) rows = eqb n rows
 
@@ -120,8 +120,8 @@ rows_test r table = each_row (λ s block flags. row_test (label_in r) block flag
 -- 5 of a reopening judges the metadata pages, of any other call the table
 abbrev pub contents_test : Kind → Box → Bool
 contents_test (a_format l) x = true
-contents_test aReopening x = pages_test (label_at x.images.ssd) (metas_of (label_at x.images.ssd) x.images.ssd)
-contents_test aStep x = rows_test x.state x.table
+contents_test a_reopening x = pages_test (label_at x.images.ssd) (metas_of (label_at x.images.ssd) x.images.ssd)
+contents_test a_step x = rows_test x.state x.table
 contents_test (a_service a) x = rows_test x.state x.table
 
 -- 6: "wrong phase: step when ready, anything else before"
@@ -132,47 +132,47 @@ is_ready (Formatting d) = false
 
 abbrev pub phase_test : Kind → Phase → Bool
 phase_test (a_format l) p = true
-phase_test aReopening p = true
-phase_test aStep p = not (is_ready p)
+phase_test a_reopening p = true
+phase_test a_step p = not (is_ready p)
 phase_test (a_service a) p = is_ready p
 
 -- 8: "offer, fetch, write back: the block's slot is open"; of a fetch only "open for writing" (document 02, N9)
 abbrev pub open_test : Purpose → Condition → Bool
-open_test toServe k = is_open k
-open_test toSettle k = is_open k
-open_test toWrite k = is_open k
-open_test toFetch k = is_writing k
-open_test toLandFetch k = is_open k
+open_test to_serve k = is_open k
+open_test to_settle k = is_open k
+open_test to_write k = is_open k
+open_test to_fetch k = is_writing k
+open_test to_land_fetch k = is_open k
 open_test (to_land page) k = is_open k
 open_test (to_count n) k = is_open k
 
 -- 9: "land: block in neither state named; land a fetch: not open for fetch"
 abbrev pub state_test : Purpose → Condition → Bool
-state_test toServe k = true
-state_test toSettle k = true
-state_test toWrite k = true
-state_test toFetch k = true
-state_test toLandFetch k = takes_fetch k
+state_test to_serve k = true
+state_test to_settle k = true
+state_test to_write k = true
+state_test to_fetch k = true
+state_test to_land_fetch k = takes_fetch k
 state_test (to_land page) k = takes_write k
 state_test (to_count n) k = true
 
 -- 11: "a fetch, or an offer of a block that isn't dirty, while 63 are open"
 abbrev pub opens_another : Purpose → Condition → Bool
-opens_another toServe k = false
-opens_another toSettle k = false
-opens_another toWrite k = not (takes_write k)
-opens_another toFetch k = true
-opens_another toLandFetch k = false
+opens_another to_serve k = false
+opens_another to_settle k = false
+opens_another to_write k = not (takes_write k)
+opens_another to_fetch k = true
+opens_another to_land_fetch k = false
 opens_another (to_land page) k = false
 opens_another (to_count n) k = false
 
 -- 13: "the newest stamp is 4,294,967,295, or for an offer or fetch 4,294,967,232 or more"
 abbrev pub stamp_bound : Label → Purpose → ℕ
-stamp_bound l toServe = largest_stamp l
-stamp_bound l toSettle = largest_stamp l
-stamp_bound l toWrite = opening_bound l
-stamp_bound l toFetch = opening_bound l
-stamp_bound l toLandFetch = largest_stamp l
+stamp_bound l to_serve = largest_stamp l
+stamp_bound l to_settle = largest_stamp l
+stamp_bound l to_write = opening_bound l
+stamp_bound l to_fetch = opening_bound l
+stamp_bound l to_land_fetch = largest_stamp l
 stamp_bound l (to_land page) = largest_stamp l
 stamp_bound l (to_count n) = largest_stamp l
 
@@ -200,55 +200,55 @@ list_test listed room = ltb 0 listed && (leb listed list_most && eqb listed room
 
 -- does the condition of a row of the table hold for this call
 unfoldable pub test : Reason → Call → Box → Bool
-test badLimits c x = not (within_limits (label_for (kind c) x))
+test bad_limits c x = not (within_limits (label_for (kind c) x))
 test no_label c x = not (label_test x.images.ssd)
-test badRecord c x = not (record_test x.state)
-test wrongLength c x = not (length_test (label_for (kind c) x) x.images x.table && lent_test (aim c).purpose (length x.table))
-test badRows c x = not (contents_test (kind c) x)
-test wrongPhase c x = not (phase_test (kind c) x.state.phase)
-test blockTooHigh c x = leb x.state.label.blocks (aim c).block.0
-test slotOpen c x = open_test (aim c).purpose (condition_of x.table (aim c).block)
-test wrongState c x = not (state_test (aim c).purpose (condition_of x.table (aim c).block))
-test hasSlot c x = has_other (condition_of x.table (aim c).block)
-test windowFull c x = opens_another (aim c).purpose (condition_of x.table (aim c).block) && leb window_most (open_rows x.table)
-test allOpen c x = not (is_cached (condition_of x.table (aim c).block)) && all_writing x.table
-test stampsSpent c x = stores_meta (plan c x) && leb (stamp_bound (label_in x.state) (aim c).purpose) x.state.newest
+test bad_record c x = not (record_test x.state)
+test wrong_length c x = not (length_test (label_for (kind c) x) x.images x.table && lent_test (aim c).purpose (length x.table))
+test bad_rows c x = not (contents_test (kind c) x)
+test wrong_phase c x = not (phase_test (kind c) x.state.phase)
+test block_too_high c x = leb x.state.label.blocks (aim c).block.0
+test slot_open c x = open_test (aim c).purpose (condition_of x.table (aim c).block)
+test wrong_state c x = not (state_test (aim c).purpose (condition_of x.table (aim c).block))
+test has_slot c x = has_other (condition_of x.table (aim c).block)
+test window_full c x = opens_another (aim c).purpose (condition_of x.table (aim c).block) && leb window_most (open_rows x.table)
+test all_open c x = not (is_cached (condition_of x.table (aim c).block)) && all_writing x.table
+test stamps_spent c x = stores_meta (plan c x) && leb (stamp_bound (label_in x.state) (aim c).purpose) x.state.newest
 -- document 02, N1: "if the buffer is shorter than 67 × the number of lines"
 test sheet_short c x = ltb (aim c).room (map_bytes (label_in x.state))
 test bad_scan c x = not (scan_test (aim c).list)
 test bad_list c x = not (list_test (length (aim c).list) (aim c).room)
-test importFull c x = opens_another (aim c).purpose (condition_of x.table (aim c).block) && import_open (aim c).caller x.state
-test unknownCaller c x = ltb import_caller (aim c).caller
+test import_full c x = opens_another (aim c).purpose (condition_of x.table (aim c).block) && import_open (aim c).caller x.state
+test unknown_caller c x = ltb import_caller (aim c).caller
 
 -- the numbers that belong to each call, in the order of judging: first those of its kind ("Format and reopen judge neither that
 -- record nor the table's contents"), then its own
 abbrev pub asked_first : Kind → List Reason
-asked_first (a_format l) = badLimits ∷ wrongLength ∷ []
-asked_first aReopening = no_label ∷ wrongLength ∷ badRows ∷ []
-asked_first aStep = badRecord ∷ wrongLength ∷ badRows ∷ wrongPhase ∷ []
-asked_first (a_service a) = badRecord ∷ wrongLength ∷ badRows ∷ wrongPhase ∷ []
+asked_first (a_format l) = bad_limits ∷ wrong_length ∷ []
+asked_first a_reopening = no_label ∷ wrong_length ∷ bad_rows ∷ []
+asked_first a_step = bad_record ∷ wrong_length ∷ bad_rows ∷ wrong_phase ∷ []
+asked_first (a_service a) = bad_record ∷ wrong_length ∷ bad_rows ∷ wrong_phase ∷ []
 
 abbrev pub asked_then : Call → List Reason
 asked_then (format slots blocks) = []
 asked_then reopen = []
-asked_then step = stampsSpent ∷ []
-asked_then flush = stampsSpent ∷ []
-asked_then (offer b caller) = unknownCaller ∷ blockTooHigh ∷ slotOpen ∷ importFull ∷ windowFull ∷ allOpen ∷ stampsSpent ∷ []
-asked_then (fetch b caller) = unknownCaller ∷ blockTooHigh ∷ hasSlot ∷ slotOpen ∷ importFull ∷ windowFull ∷ allOpen ∷ stampsSpent ∷ []
-asked_then (landFetch b) = blockTooHigh ∷ wrongState ∷ []
-asked_then (lookUp b) = blockTooHigh ∷ []
-asked_then (view b) = blockTooHigh ∷ []
-asked_then (writeBack b) = blockTooHigh ∷ slotOpen ∷ []
-asked_then (land b page) = blockTooHigh ∷ wrongState ∷ []
+asked_then step = stamps_spent ∷ []
+asked_then flush = stamps_spent ∷ []
+asked_then (offer b caller) = unknown_caller ∷ block_too_high ∷ slot_open ∷ import_full ∷ window_full ∷ all_open ∷ stamps_spent ∷ []
+asked_then (fetch b caller) = unknown_caller ∷ block_too_high ∷ has_slot ∷ slot_open ∷ import_full ∷ window_full ∷ all_open ∷ stamps_spent ∷ []
+asked_then (land_fetch b) = block_too_high ∷ wrong_state ∷ []
+asked_then (look_up b) = block_too_high ∷ []
+asked_then (view b) = block_too_high ∷ []
+asked_then (write_back b) = block_too_high ∷ slot_open ∷ []
+asked_then (land b page) = block_too_high ∷ wrong_state ∷ []
 -- document 02, N1: "It refuses with 14, after 6"
 asked_then (ask (slot_map n)) = sheet_short ∷ []
 -- document 02, N8: "The bad lists of 15 and the callers of 18 are refused by that number here too"; all else is met in the run
-asked_then (ask (cost blocks caller n)) = bad_scan ∷ unknownCaller ∷ []
+asked_then (ask (cost blocks caller n)) = bad_scan ∷ unknown_caller ∷ []
 -- document 02, N6: 16 "after 6 and before 7"
-asked_then (look_up_list blocks room) = bad_list ∷ blockTooHigh ∷ []
+asked_then (look_up_list blocks room) = bad_list ∷ block_too_high ∷ []
 -- document 02, N3: 15 "after 6", "before 7" and (N7) before 18; then as an offer of the first block
 asked_then (offer_list blocks caller) =
-    bad_scan ∷ unknownCaller ∷ blockTooHigh ∷ slotOpen ∷ importFull ∷ windowFull ∷ allOpen ∷ stampsSpent ∷ []
+    bad_scan ∷ unknown_caller ∷ block_too_high ∷ slot_open ∷ import_full ∷ window_full ∷ all_open ∷ stamps_spent ∷ []
 
 abbrev pub chain : Call → List Reason
 chain c = asked_first (kind c) ++ asked_then c

@@ -2,12 +2,12 @@
 use Rattle.std.specs.Prelude.{ℕ, max, List, [], ◌∷◌}
 use Rattle.layout.specs.declared.Block.{Block}
 use Rattle.layout.specs.declared.Label.{Label}
-use Rattle.protocol.specs.Plan.{Call, format, step, flush, reopen, offer, fetch, landFetch, lookUp, view, writeBack, land, look_up_list, offer_list, ask, Ask, slot_map, cost, first_block, format_label}
+use Rattle.protocol.specs.Plan.{Call, format, step, flush, reopen, offer, fetch, land_fetch, look_up, view, write_back, land, look_up_list, offer_list, ask, Ask, slot_map, cost, first_block, format_label}
 
 -- what a call is for, as far as conditions and the plain disk differ by it
 pub data Purpose : Type 0 where
   -- to be served, no more; that what has landed lasts; a slot, to write the block or to fetch it; that its fetch lands
-  toServe toSettle toWrite toFetch toLandFetch : Purpose
+  to_serve to_settle to_write to_fetch to_land_fetch : Purpose
   -- that these bytes land
   to_land : List ℕ → Purpose
   -- that stores are counted, over a scratch table of so many words (document 02, N8)
@@ -35,45 +35,45 @@ highest (b ∷ blocks) = max b (highest blocks)
 
 -- of a list it names the highest block: "any block too high is 7" (document 02, N6)
 abbrev pub aims_all : List ℕ → ℕ → Aim
-aims_all blocks room = record { block = record { 0 = highest blocks }; purpose = toServe; caller = 0; list = blocks; room = room }
+aims_all blocks room = record { block = record { 0 = highest blocks }; purpose = to_serve; caller = 0; list = blocks; room = room }
 
 -- of a list that is offered it names the first block (document 02, N3)
 abbrev pub aims_first : List ℕ → ℕ → Aim
-aims_first blocks caller = record { block = first_block blocks; purpose = toWrite; caller = caller; list = blocks; room = 0 }
+aims_first blocks caller = record { block = first_block blocks; purpose = to_write; caller = caller; list = blocks; room = 0 }
 
 abbrev pub no_block : Block
 no_block = record { 0 = 0 }
 
 abbrev pub ask_aim : Ask → Aim
-ask_aim (slot_map n) = record { block = no_block; purpose = toServe; caller = 0; list = []; room = n }
+ask_aim (slot_map n) = record { block = no_block; purpose = to_serve; caller = 0; list = []; room = n }
 ask_aim (cost blocks caller n) = record { block = no_block; purpose = to_count n; caller = caller; list = blocks; room = 0 }
 
 -- a call begins a format of a label, reopens, makes a step, or is a service of a ready box
 pub data Kind : Type 0 where
   a_format : Label → Kind
-  aReopening aStep : Kind
+  a_reopening a_step : Kind
   a_service : Aim → Kind
 
 abbrev pub kind : Call → Kind
 kind (format slots blocks) = a_format (format_label slots blocks)
-kind reopen = aReopening
-kind step = aStep
-kind flush = a_service (aims no_block toSettle)
-kind (offer b caller) = a_service (aims_by b toWrite caller)
-kind (fetch b caller) = a_service (aims_by b toFetch caller)
-kind (landFetch b) = a_service (aims b toLandFetch)
-kind (lookUp b) = a_service (aims b toServe)
-kind (view b) = a_service (aims b toServe)
-kind (writeBack b) = a_service (aims b toServe)
+kind reopen = a_reopening
+kind step = a_step
+kind flush = a_service (aims no_block to_settle)
+kind (offer b caller) = a_service (aims_by b to_write caller)
+kind (fetch b caller) = a_service (aims_by b to_fetch caller)
+kind (land_fetch b) = a_service (aims b to_land_fetch)
+kind (look_up b) = a_service (aims b to_serve)
+kind (view b) = a_service (aims b to_serve)
+kind (write_back b) = a_service (aims b to_serve)
 kind (land b page) = a_service (aims b (to_land page))
 kind (ask a) = a_service (ask_aim a)
 kind (look_up_list blocks room) = a_service (aims_all blocks room)
 kind (offer_list blocks caller) = a_service (aims_first blocks caller)
 
 abbrev pub aim_of : Kind → Aim
-aim_of (a_format l) = aims no_block toServe
-aim_of aReopening = aims no_block toServe
-aim_of aStep = aims no_block toServe
+aim_of (a_format l) = aims no_block to_serve
+aim_of a_reopening = aims no_block to_serve
+aim_of a_step = aims no_block to_serve
 aim_of (a_service a) = a
 
 abbrev pub aim : Call → Aim

@@ -13,7 +13,7 @@ use Rattle.protocol.specs.Reply.{Reply, done}
 use Rattle.protocol.specs.Rows.{row_block, row_flags, set_flags, writing, with_used, without_writing, without_dirty}
 use Rattle.record.specs.Record.{label_in, window_in, callers_in, record_of, with_hand, with_phase, with_stamp, with_window, with_callers}
 use Rattle.record.specs.Window.{without, beside}
-use Rattle.protocol.specs.Box.{Box, ssdImage, hddImage, Store, Effect}
+use Rattle.protocol.specs.Box.{Box, ssd_image, hdd_image, Store, Effect}
 use Rattle.protocol.specs.Recovery.{label_at, metas_of, spent_stamp, recover, phase_of, off_page}
 use Rattle.protocol.specs.Metadata.{store_place, meta_bytes}
 use Rattle.protocol.specs.Plan.{grown, Move, stay, uses, uses_all, announces, lands, copies, confirms, mends, begins, formats, recovers}
@@ -27,7 +27,7 @@ confirmed p said r table ssd =
       state = with_stamp r (r.newest + 1);
       table = table;
       store = some (record {
-        image = ssdImage;
+        image = ssd_image;
         place = store_place (label_in r) ssd p;
         bytes = meta_bytes (label_in r) (r.newest + 1) (window_in r) (rows_on p table);
       });
@@ -39,7 +39,7 @@ joined s caller hand r = grown r hand (window_in r ++ (s ∷ [])) (callers_in r 
 
 -- "store its slot's page"
 abbrev pub data_store : Slot → List ℕ → Box → Store
-data_store s page x = record { image = ssdImage; place = data_place (label_in x.state) s; bytes = page }
+data_store s page x = record { image = ssd_image; place = data_place (label_in x.state) s; bytes = page }
 
 -- the flags after a landing: an open slot "loses the writing flag". Document 02, N2: not "Only a look-up sets the used flag", but
 -- "landing a write sets it too; landing a fetch doesn't", whether the slot was open or not
@@ -71,7 +71,7 @@ copied_from s said table hand x =
       state = with_hand x.state hand;
       table = set_flags table s (without_dirty (row_flags table s));
       store = some (record {
-        image = hddImage;
+        image = hdd_image;
         place = block_place (label_in x.state) (row_block table s);
         bytes = page_at x.images.ssd (data_place (label_in x.state) s);
       });
@@ -94,11 +94,11 @@ begun l =
 
 -- "then one store a step: a zero label page, the M metadata pages in order with stamp 0, the label"
 abbrev pub format_store : Label → List ℕ → List Slot → ℕ → Store
-format_store l table window zero = record { image = ssdImage; place = label_place; bytes = zero_page }
+format_store l table window zero = record { image = ssd_image; place = label_place; bytes = zero_page }
 format_store l table window (suc p) =
     elim (leb (meta_span l) p) [
-      | true ↦ record { image = ssdImage; place = label_place; bytes = encode_label l }
-      | false ↦ record { image = ssdImage; place = meta_place l p; bytes = meta_bytes l 0 window (rows_on p table) }
+      | true ↦ record { image = ssd_image; place = label_place; bytes = encode_label l }
+      | false ↦ record { image = ssd_image; place = meta_place l p; bytes = meta_bytes l 0 window (rows_on p table) }
     ]
 
 -- "M + 2 steps; then ready, with those three set so again"

@@ -34,7 +34,7 @@ pub data Call : Type 0 where
   format : ℕ → ℕ → Call
   step flush reopen : Call
   offer fetch : Block → ℕ → Call
-  landFetch lookUp view writeBack : Block → Call
+  land_fetch look_up view write_back : Block → Call
   land : Block → List ℕ → Call
   ask : Ask → Call
   look_up_list : List ℕ → ℕ → Call
@@ -272,10 +272,10 @@ plan flush x = flushing x.state.unconfirmed
 plan reopen x = recovers
 plan (offer b caller) x = offering x b caller (condition_of x.table b)
 plan (fetch b caller) x = fetching x b caller (condition_of x.table b)
-plan (landFetch b) x = landing_fetch x b (condition_of x.table b)
-plan (lookUp b) x = looking_up (condition_of x.table b)
+plan (land_fetch b) x = landing_fetch x b (condition_of x.table b)
+plan (look_up b) x = looking_up (condition_of x.table b)
 plan (view b) x = stay done
-plan (writeBack b) x = writing_back x (condition_of x.table b)
+plan (write_back b) x = writing_back x (condition_of x.table b)
 plan (land b page) x = landing page (condition_of x.table b)
 plan (ask a) x = stay done
 -- document 02, N6: "Used flags are set as by single look-ups"

@@ -4,7 +4,7 @@ use mathlib.Core.List.{List, [], ◌∷◌, Memᴰ}
 use Rattle.std.proofs.Math.Option.{Option, some, none}
 use Rattle.layout.specs.declared.Block.{Block}
 use Rattle.protocol.specs.Plan.{Call}
-use Rattle.protocol.specs.Kinds.{Purpose, toServe, toSettle, toWrite, toFetch, toLandFetch, to_land, to_count, aim}
+use Rattle.protocol.specs.Kinds.{Purpose, to_serve, to_settle, to_write, to_fetch, to_land_fetch, to_land, to_count, aim}
 
 -- "Each block has a page and the contents that may come back"
 pub record Disk : Type 0 where
@@ -28,11 +28,11 @@ written b bytes d = record {
 
 -- what a call that was not refused does to the disk: "Landing a write", "Flush", "Anything else .. no change"
 abbrev pub fed_call : Purpose → Block → Disk → Disk
-fed_call toServe b d = d
-fed_call toSettle b d = durable d.page
-fed_call toWrite b d = d
-fed_call toFetch b d = d
-fed_call toLandFetch b d = d
+fed_call to_serve b d = d
+fed_call to_settle b d = durable d.page
+fed_call to_write b d = d
+fed_call to_fetch b d = d
+fed_call to_land_fetch b d = d
 fed_call (to_land bytes) b d = written b bytes d
 fed_call (to_count n) b d = d
 

@@ -16,7 +16,7 @@ use Rattle.protocol.specs.Rows.{row_block, row_flags, valid, dirty, writing, use
 use Rattle.record.specs.Record.{label_in, window_in}
 use Rattle.record.specs.Rule.{RecordRule}
 use Rattle.protocol.specs.Box.{Box}
-use Rattle.protocol.specs.Plan.{Call, format, step, flush, reopen, offer, fetch, landFetch, lookUp, view, writeBack, land, look_up_list, offer_list, ask, slot_map, cost, first_block, plan, stores_meta, format_label}
+use Rattle.protocol.specs.Plan.{Call, format, step, flush, reopen, offer, fetch, land_fetch, look_up, view, write_back, land, look_up_list, offer_list, ask, slot_map, cost, first_block, plan, stores_meta, format_label}
 use Rattle.protocol.specs.Recovery.{label_at, metas_of, entry_in}
 
 -- 2: the first page is the page of a label within the limits
@@ -205,11 +205,11 @@ Why (fetch b caller) x =
     (3, BadRecord x) ∷ (4, BadLengths x) ∷ (5, BadRows x) ∷ (6, NotReady x) ∷ (18, UnknownCaller caller) ∷ (7, TooHigh b x)
     ∷ (10, HasOther b x) ∷ (8, OpenForWriting b x) ∷ (17, ImportFull caller x) ∷ (11, Open 63 x.table) ∷ (12, AllOpen b x)
     ∷ (13, Spent 4294967232 (fetch b caller) x) ∷ []
-Why (landFetch b) x =
+Why (land_fetch b) x =
     (3, BadRecord x) ∷ (4, BadLengths x) ∷ (5, BadRows x) ∷ (6, NotReady x) ∷ (7, TooHigh b x) ∷ (9, NotToFetch b x) ∷ []
-Why (lookUp b) x = (3, BadRecord x) ∷ (4, BadLengths x) ∷ (5, BadRows x) ∷ (6, NotReady x) ∷ (7, TooHigh b x) ∷ []
+Why (look_up b) x = (3, BadRecord x) ∷ (4, BadLengths x) ∷ (5, BadRows x) ∷ (6, NotReady x) ∷ (7, TooHigh b x) ∷ []
 Why (view b) x = (3, BadRecord x) ∷ (4, BadLengths x) ∷ (5, BadRows x) ∷ (6, NotReady x) ∷ (7, TooHigh b x) ∷ []
-Why (writeBack b) x =
+Why (write_back b) x =
     (3, BadRecord x) ∷ (4, BadLengths x) ∷ (5, BadRows x) ∷ (6, NotReady x) ∷ (7, TooHigh b x) ∷ (8, SlotOpen b x) ∷ []
 Why (land b page) x =
     (3, BadRecord x) ∷ (4, LandLengths page x → ⊥) ∷ (5, BadRows x) ∷ (6, NotReady x) ∷ (7, TooHigh b x) ∷ (9, NotToLand b x) ∷ []

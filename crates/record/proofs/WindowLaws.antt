@@ -94,9 +94,9 @@ unfolding zero_slots
 zero_slots_lem zero = refl
 zero_slots_lem (suc n) = zero_slots_lem n
 
-pub zero_past : (w : List Slot) → zero_slots (drop (length w) (array_of w)) ≡ true
+pub zero_past_lem : (w : List Slot) → zero_slots (drop (length w) (array_of w)) ≡ true
 unfolding array_of
-zero_past w = rw (drop_at w (replicate (63 - length w) (record { 0 = 0 })) (length w) refl) (zero_slots_lem (63 - length w))
+zero_past_lem w = rw (drop_at w (replicate (63 - length w) (record { 0 = 0 })) (length w) refl) (zero_slots_lem (63 - length w))
 
 -- a list in an array of 63 places, the rest of it nil: one more in it
 unfoldable pub padded : {A : Type 0} → A → List A → List A

@@ -18,7 +18,7 @@ use Rattle.protocol.specs.Box.{Box, Result, refusing, left}
 use Rattle.protocol.specs.Recovery.{label_read, label_at, metas_of, spent_stamp, pages_test, Recovered, recover}
 use Rattle.protocol.specs.Plan.{reopen, recovers, plan}
 use Rattle.protocol.specs.Perform.{perform}
-use Rattle.protocol.specs.Judge.{lengths_test, no_label, wrongLength, badRows, is_label, length_test, test, first_of, judged}
+use Rattle.protocol.specs.Judge.{lengths_test, no_label, wrong_length, bad_rows, is_label, length_test, test, first_of, judged}
 use Rattle.protocol.specs.Calls.{box_of, reopen_of}
 use Rattle.laws.proofs.Judged.{first_yes, first_no, performs, refused_as}
 use Rattle.stored.specs.Stored.{label_if}
@@ -28,7 +28,7 @@ module _ (ssd hdd t : List ℕ) (r : Record) where
   abbrev x : Box
   x = box_of ssd hdd t r
 
-  asked : judged reopen x ≡ first_of (no_label ∷ wrongLength ∷ badRows ∷ []) (λ q. test q reopen x)
+  asked : judged reopen x ≡ first_of (no_label ∷ wrong_length ∷ bad_rows ∷ []) (λ q. test q reopen x)
   unfolding judged
   asked = refl
 
@@ -40,20 +40,20 @@ module _ (ssd hdd t : List ℕ) (r : Record) where
     label_is : label_at ssd ≡ l
     label_is = ap label_read (legal-read ssd l e).1
 
-    labelled : judged reopen x ≡ first_of (wrongLength ∷ badRows ∷ []) (λ q. test q reopen x)
+    labelled : judged reopen x ≡ first_of (wrong_length ∷ bad_rows ∷ []) (λ q. test q reopen x)
     unfolding test
     labelled = asked ∙ first_no _ no_label _ (ap not (label_test_is ssd ∙ ap is_label e))
 
-    length_test_is : (b : Bool) → lengths_test l (length ssd) (length hdd) (length t) ≡ b → test wrongLength reopen x ≡ not (b && true)
+    length_test_is : (b : Bool) → lengths_test l (length ssd) (length hdd) (length t) ≡ b → test wrong_length reopen x ≡ not (b && true)
     unfolding test length_test lengths_test
     length_test_is b h = ap (λ (a : Label). not (length_test a x.images t && true)) label_is ∙ ap (λ (c : Bool). not (c && true)) h
 
-    pub wrong_length : lengths_test l (length ssd) (length hdd) (length t) ≡ false → left (refusing 4 x) x.images ≡ reopen_of ssd hdd t r
-    wrong_length h = refused_as reopen x wrongLength (labelled ∙ first_yes _ wrongLength _ (length_test_is false h))
+    pub wrong_length_is : lengths_test l (length ssd) (length hdd) (length t) ≡ false → left (refusing 4 x) x.images ≡ reopen_of ssd hdd t r
+    wrong_length_is h = refused_as reopen x wrong_length (labelled ∙ first_yes _ wrong_length _ (length_test_is false h))
 
     module _ (h : lengths_test l (length ssd) (length hdd) (length t) ≡ true) where
-      measured : judged reopen x ≡ first_of (badRows ∷ []) (λ q. test q reopen x)
-      measured = labelled ∙ first_no _ wrongLength _ (length_test_is true h)
+      measured : judged reopen x ≡ first_of (bad_rows ∷ []) (λ q. test q reopen x)
+      measured = labelled ∙ first_no _ wrong_length _ (length_test_is true h)
 
       pub sizes : (length ssd ≡ ssd_length l) × (length t ≡ table_length l)
       unfolding lengths_test
@@ -61,16 +61,16 @@ module _ (ssd hdd t : List ℕ) (r : Record) where
           let b = (and_parts (eqb (length ssd) (ssd_length l)) _ h).1 in
           (eqb-true _ _ (and_parts (eqb (length ssd) (ssd_length l)) _ h).0, eqb-true _ _ (and_parts (eqb (length hdd) (hdd_length l)) _ b).1)
 
-      pages_test_is : (b : Bool) → pages_test l (metas_of l ssd) ≡ b → test badRows reopen x ≡ not b
+      pages_test_is : (b : Bool) → pages_test l (metas_of l ssd) ≡ b → test bad_rows reopen x ≡ not b
       unfolding test
       pages_test_is b q = ap (λ (a : Label). not (pages_test a (metas_of a ssd))) label_is ∙ ap not q
 
       pub bad_pages : pages_test l (metas_of l ssd) ≡ false → left (refusing 5 x) x.images ≡ reopen_of ssd hdd t r
-      bad_pages q = refused_as reopen x badRows (measured ∙ first_yes _ badRows _ (pages_test_is false q))
+      bad_pages q = refused_as reopen x bad_rows (measured ∙ first_yes _ bad_rows _ (pages_test_is false q))
 
       none_left : pages_test l (metas_of l ssd) ≡ true → judged reopen x ≡ none
       unfolding first_of
-      none_left q = measured ∙ first_no (λ q. test q reopen x) badRows [] (pages_test_is true q)
+      none_left q = measured ∙ first_no (λ q. test q reopen x) bad_rows [] (pages_test_is true q)
 
       -- table and record from the pages
       abbrev reopened_to : Recovered → Result

@@ -25,7 +25,7 @@ use Rattle.protocol.specs.Condition.{condition_of, is_open, is_cached, is_writin
 use Rattle.protocol.specs.Sweep.{next_slot, Victim, sweep_from, sweep}
 use Rattle.protocol.specs.Plan.{Call, offer, fetch, takes_as, takes, sweeps, offering, fetching, plan}
 use Rattle.protocol.specs.Perform.{confirmed, perform}
-use Rattle.protocol.specs.Judge.{Reason, slotOpen, hasSlot, allOpen, test, judged}
+use Rattle.protocol.specs.Judge.{Reason, slot_open, has_slot, all_open, test, judged}
 use Rattle.protocol.specs.Calls.{decided, effect_of, result_of}
 use Rattle.protocol.specs.Beside.{OfferAnswer, says_announced, says_overwrite, says_copied, FetchAnswer, fetch_announced, fetch_copied, Answers}
 use Rattle.laws.proofs.refine.Sweeps.{next_low}
@@ -236,7 +236,7 @@ said-plan c x e = ap (λ (o : Option Reason). (decided o c x).said) e
 module _ (b : Block) (c : ℕ) (x : Box) where
   offered : judged (offer b c) x ≡ none → OfferAnswer (result_of (offer b c) x).said
   unfolding plan test perform confirmed
-  offered e = rw (said-plan (offer b c) x e) (go (condition_of x.table b) (passed (offer b c) x e slotOpen refl) (passed (offer b c) x e allOpen refl))
+  offered e = rw (said-plan (offer b c) x e) (go (condition_of x.table b) (passed (offer b c) x e slot_open refl) (passed (offer b c) x e all_open refl))
     where
       go : (z : Condition) → is_open z ≡ false → (not (is_cached z) && all_writing x.table) ≡ false
           → OfferAnswer (perform (offering x b c z) x).said
@@ -248,8 +248,8 @@ module _ (b : Block) (c : ℕ) (x : Box) where
 
   fetched : judged (fetch b c) x ≡ none → FetchAnswer (result_of (fetch b c) x).said
   unfolding plan test perform confirmed
-  fetched e = rw (said-plan (fetch b c) x e) (go (condition_of x.table b) (passed (fetch b c) x e hasSlot refl) (passed (fetch b c) x e slotOpen refl)
-      (passed (fetch b c) x e allOpen refl))
+  fetched e = rw (said-plan (fetch b c) x e) (go (condition_of x.table b) (passed (fetch b c) x e has_slot refl) (passed (fetch b c) x e slot_open refl)
+      (passed (fetch b c) x e all_open refl))
     where
       go : (z : Condition) → has_other z ≡ false → is_writing z ≡ false → (not (is_cached z) && all_writing x.table) ≡ false
           → FetchAnswer (perform (fetching x b c z) x).said

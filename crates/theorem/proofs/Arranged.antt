@@ -11,7 +11,7 @@ use lib.Dec.{eqb}
 use borrow.Author.Tests.{eqb-true, ne_eqb}
 use Rattle.layout.proofs.Booleans.{Told, told, told_true, told_false}
 use Rattle.protocol.specs.Box.{Box}
-use Rattle.protocol.specs.Plan.{land, landFetch}
+use Rattle.protocol.specs.Plan.{land, land_fetch}
 use Rattle.protocol.specs.ReferenceDisk.{Disk, written, fed}
 use Rattle.protocol.specs.Events.{World, new, Event, call, reads_if, called, reopened, crashed, run}
 use Rattle.protocol.specs.Beside.{Landing, of_write, of_fetch, landing_call, landing_block, LandsOpen, OtherBlock, TwoOpen, landed, AlikeAfter, OpenSet, AllLand, Arranged}
@@ -63,7 +63,7 @@ called_is (of_write b page) w O =
 called_is (of_fetch b) w O =
     ap (λ (r : Bool). record {
       box = landed (of_fetch b) w.box;
-      disk = fed (landFetch b) r (reads_if (not r && false) (landed (of_fetch b) w.box)) w.disk;
+      disk = fed (land_fetch b) r (reads_if (not r && false) (landed (of_fetch b) w.box)) w.disk;
     }) O.accepted
 
 module _ (c d : Landing) (w : World) (T : TwoOpen c d w.box) where

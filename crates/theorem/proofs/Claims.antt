@@ -14,10 +14,10 @@ use Rattle.layout.specs.declared.Label.{Label}
 use Rattle.layout.specs.Places.{data_place, table_length}
 use Rattle.protocol.specs.Reply.{refused}
 use Rattle.protocol.specs.Box.{Box, box_after}
-use Rattle.protocol.specs.Plan.{Call, format, step, flush, reopen, lookUp, flushing, plan}
+use Rattle.protocol.specs.Plan.{Call, format, step, flush, reopen, look_up, flushing, plan}
 use Rattle.protocol.specs.Kinds.{kind}
 use Rattle.protocol.specs.Perform.{confirmed, perform}
-use Rattle.protocol.specs.Judge.{Reason, wrongPhase, is_ready, judged, test}
+use Rattle.protocol.specs.Judge.{Reason, wrong_phase, is_ready, judged, test}
 use Rattle.protocol.specs.Calls.{decided, effect_of, result_of, view_of}
 use Rattle.protocol.specs.ReferenceDisk.{MayBe}
 use Rattle.protocol.specs.Events.{World, Memory, Event, call, reopens, cut, called, lent, read_of, may_finish, finished, with_memory, reopened, crashed, steps, apply, Fits}
@@ -75,9 +75,9 @@ module _ (l : Label) (w : World) (I : Inv l w) where
       ∙ sym (I.agrees.page b.0 h)) r
 
   pub looks_of : is_ready w.box.state.phase ≡ true → (b : Block) → b.0 < l.blocks → (s : Slot)
-      → slot_said (result_of (lookUp b) w.box).said ≡ some s → page_at w.box.images.ssd (data_place l s) ≡ w.disk.page b
+      → slot_said (result_of (look_up b) w.box).said ≡ some s → page_at w.box.images.ssd (data_place l s) ≡ w.disk.page b
   looks_of r b h s =
-      at_core (λ v. is_ready v.box.state.phase ≡ true → slot_said (result_of (lookUp b) v.box).said ≡ some s
+      at_core (λ v. is_ready v.box.state.phase ≡ true → slot_said (result_of (look_up b) v.box).said ≡ some s
       → page_at v.box.images.ssd (data_place l s) ≡ w.disk.page b) I
       (λ q e. let R = ready_of l I.core I.plain I.phased q in
       sym (look_page l I.core I.shape (ready_legible l I.core I.shape I.plain R) b.0 h s e)
@@ -213,7 +213,7 @@ module _ (l : Label) (v : World) (H : Held l v) (x : Box) (im : x.images ≡ v.b
 -- a ready box makes no step
 wrong : (l : Label) (k : Core) → judged step (box_of_core l k) ≡ none → not (not (is_ready (phase_for k.recovering))) ≡ false
 unfolding test
-wrong l k q = passed step (box_of_core l k) q wrongPhase refl
+wrong l k q = passed step (box_of_core l k) q wrong_phase refl
 
 step_refused : (l : Label) (k : Core) → k.recovering ≡ false → refused (result_of step (box_of_core l k)).said ≡ true
 unfolding effect_of

@@ -29,15 +29,15 @@ use Rattle.protocol.specs.declared.Stored.{Stored}
 use Rattle.protocol.specs.declared.Stored.TheVariants.{Nothing, Ssd, Hdd}
 use Rattle.protocol.specs.Reply.{Reply, refusal, answer, dealt, refused}
 use Rattle.protocol.specs.Rows.{row_block, row_flags}
-use Rattle.protocol.specs.Box.{Images, Box, Image, ssdImage, hddImage, Store, applied, stored_of, Effect, refusing}
+use Rattle.protocol.specs.Box.{Images, Box, Image, ssd_image, hdd_image, Store, applied, stored_of, Effect, refusing}
 use Rattle.protocol.specs.Condition.{condition_of, takes_write}
 use Rattle.protocol.specs.Plan.{Call, offer, land, ask, cost, Move, offering, landing, plan, stores_meta}
 use Rattle.protocol.specs.Metadata.{store_place}
 use Rattle.protocol.specs.Perform.{confirmed, perform}
-use Rattle.protocol.specs.Kinds.{Purpose, toWrite, to_land, aim}
-use Rattle.protocol.specs.Judge.{Reason, number_of, slotOpen, windowFull, importFull, unknownCaller, blockTooHigh, wrongState, length_test, lengths_test, test, chain, first_of, judged}
+use Rattle.protocol.specs.Kinds.{Purpose, to_write, to_land, aim}
+use Rattle.protocol.specs.Judge.{Reason, number_of, slot_open, window_full, import_full, unknown_caller, block_too_high, wrong_state, length_test, lengths_test, test, chain, first_of, judged}
 use Rattle.protocol.specs.Calls.{decided, effect_of, result_of}
-use Rattle.protocol.specs.Cost.{PageKind, copyOut, metadata, data_page, image_kind, page_kind, counts_with, no_stores, counts_after, Tally, tallied, tallies, is_copied_out, repeats, offers_to, lands_unless, imports, CostLeft, met_or, cost_from, not_started, cost_by, cost_in}
+use Rattle.protocol.specs.Cost.{PageKind, copy_out, metadata, data_page, image_kind, page_kind, counts_with, no_stores, counts_after, Tally, tallied, tallies, is_copied_out, repeats, offers_to, lands_unless, imports, CostLeft, met_or, cost_from, not_started, cost_by, cost_in}
 use Rattle.protocol.specs.Beside.{Made, kinds_stored, makes_of, makes, joins, makes_if, offers_really, imports_really, Meeting, Import, import_then, import_all, is_kind, how_many, counts_of, answer_by, AsDoing, CostIsDoing}
 use Rattle.laws.proofs.refine.Flags.{dirty_holds}
 use Rattle.laws.proofs.refine.Conditions.{Stands, absent, is_clean, is_dirty, is_writing_is, is_fetching}
@@ -180,8 +180,8 @@ module _ (im jm : Images) (z : Sizes im jm) (t : List ℕ) (r : Record) where
             let ey : effect_of (offer b c) y ≡ perform m y = does (offer b c) y m e refl in
             rw (does (offer b c) x m (offer_judged ∙ e) (offering-alike (condition_of t b)), ey)
             (by_turn L
-            (offers y (fit L) b c (q unknownCaller refl) (leb-false _ _ (q blockTooHigh refl)) (here y (fit L) b) (q slotOpen refl)
-            (q importFull refl) (q windowFull refl))
+            (offers y (fit L) b c (q unknown_caller refl) (leb-false _ _ (q block_too_high refl)) (here y (fit L) b) (q slot_open refl)
+            (q import_full refl) (q window_full refl))
             (λ s h. stores_whole (offer b c) y s (ap (λ (f : Effect). f.store) ey ∙ h)))
 
   -- a landing, whatever its page
@@ -192,7 +192,7 @@ module _ (im jm : Images) (z : Sizes im jm) (t : List ℕ) (r : Record) where
         (refl, (rw (lengths_alike, p-size, q-size), (refl, (refl, (refl, (refl, tt))))))
 
     landed : (s : ℕ) → s < r.label.slots → Legal y
-        → Sizes im (applied (some (record { image = ssdImage; place = data_place l (record { 0 = s }); bytes = q })) jm)
+        → Sizes im (applied (some (record { image = ssd_image; place = data_place l (record { 0 = s }); bytes = q })) jm)
     landed s h L = record {
       ssd-size = z.ssd-size ∙ sym (length_put jm.ssd q (data_place l (record { 0 = s }))
           (rw L.ssd-size (data_within l (record { 0 = s }) h)) q-size);
@@ -220,7 +220,7 @@ module _ (im jm : Images) (z : Sizes im jm) (t : List ℕ) (r : Record) where
             rw (
               does (land b p) x (landing p (condition_of t b)) (land-judged ∙ e) refl,
               does (land b q) y (landing q (condition_of t b)) e refl,
-            ) (by_condition L (here y (fit L) b) (not-false _ (passed (land b q) y e wrongState refl)))
+            ) (by_condition L (here y (fit L) b) (not-false _ (passed (land b q) y e wrong_state refl)))
 
 -- boxes with the same table and record, and images of the same lengths
 record Twin (x y : Box) : Type 0 where
@@ -251,7 +251,7 @@ many_append k (j ∷ xs) ys = go (is_kind k j) (many_append k xs ys)
 
 counts-append : (n : Counts) (xs ys : List PageKind) → plus (plus n (counts_of xs)) (counts_of ys) ≡ plus n (counts_of (xs ++ ys))
 counts-append n xs ys = counts_same
-    (omega (arith, many_append copyOut xs ys)) (omega (arith, many_append metadata xs ys)) (omega (arith, many_append data_page xs ys))
+    (omega (arith, many_append copy_out xs ys)) (omega (arith, many_append metadata xs ys)) (omega (arith, many_append data_page xs ys))
 
 counts_none : (n : Counts) → n ≡ plus n (counts_of [])
 unfolding how_many
@@ -259,7 +259,7 @@ counts_none n = counts_same (omega arith) (omega arith) (omega arith)
 
 counts-one : (k : PageKind) (n : Counts) → counts_with k n ≡ plus n (counts_of (k ∷ []))
 unfolding how_many
-counts-one copyOut n = counts_same refl (omega arith) (omega arith)
+counts-one copy_out n = counts_same refl (omega arith) (omega arith)
 counts-one metadata n = counts_same (omega arith) refl (omega arith)
 counts-one data_page n = counts_same (omega arith) (omega arith) refl
 
@@ -269,8 +269,8 @@ counts-stored p none n = counts_none n
 counts-stored p (some s) n = go s.image
   where
     go : (i : Image) → counts_with (page_kind p i) n ≡ plus n (counts_of (kinds_stored p (stored_of (some (record { image = i; place = s.place; bytes = s.bytes })))))
-    go ssdImage = counts-one (page_kind p ssdImage) n
-    go hddImage = counts-one (page_kind p hddImage) n
+    go ssd_image = counts-one (page_kind p ssd_image) n
+    go hdd_image = counts-one (page_kind p hdd_image) n
 
 -- what calls in memory leave, and what they leave really made, from so many counted
 record Kept (n : Counts) (w : Tally) (d : Made) : Type 0 where

@@ -110,19 +110,19 @@ module _ (l : Label) (x y : Box) (F : Formatted l x y) where
   unfolding read_meta meta_bytes
   page_is p h = metas_at l F.ssd p h ∙ F.meta_pages_is p (page-place l p h)
 
-  stamp_zero : (p : ℕ) → p < meta_pages l → stamp_of (get_or (metas_of l F.ssd) p []) ≡ 0
-  stamp_zero p h = ap stamp_of (page_is p h)
+  stamp_zero_is : (p : ℕ) → p < meta_pages l → stamp_of (get_or (metas_of l F.ssd) p []) ≡ 0
+  stamp_zero_is p h = ap stamp_of (page_is p h)
       ∙ page-stamp l F.limits (free_table l) (free-size l) (free-rows l) 0 (omega arith) [] none_open p
 
   pages : Pages l (metas_of l F.ssd)
   pages = record {
     each = λ p h. rw (page_is p h) (page-legal l F.limits (free_table l) (free-size l) (free-rows l) 0 (omega arith) [] none_open p
         (λ _. refl));
-    apart = λ p q h k n z. absurd (z (stamp_zero p h));
+    apart = λ p q h k n z. absurd (z (stamp_zero_is p h));
   }
 
   newest_is : newest_of (metas_of l F.ssd) ≡ record { stamp = 0; window = [] }
-  newest_is = newest_none (metas_of l F.ssd) (λ p h. stamp_zero p (omega (arith, length_metas l F.ssd)))
+  newest_is = newest_none (metas_of l F.ssd) (λ p h. stamp_zero_is p (omega (arith, length_metas l F.ssd)))
 
   entry_is : (s : ℕ) → s < l.slots → entry_in (metas_of l F.ssd) (record { 0 = s }) ≡ record { block = record { 0 = 0 }; flags = 0 }
   unfolding entry_in

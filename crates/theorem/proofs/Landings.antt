@@ -29,10 +29,10 @@ use Rattle.protocol.specs.declared.Condition.TheVariants.{NotCached, Clean, Dirt
 use Rattle.protocol.specs.Rows.{writing}
 use Rattle.protocol.specs.Box.{Box, Store, Effect, left, box_after}
 use Rattle.protocol.specs.Condition.{open_as, condition_of, is_open, takes_write, takes_fetch}
-use Rattle.protocol.specs.Plan.{land, landFetch, lands, landing, landing_fetch, plan}
+use Rattle.protocol.specs.Plan.{land, land_fetch, lands, landing, landing_fetch, plan}
 use Rattle.protocol.specs.Perform.{landed_flags, landed_state, data_store, perform}
-use Rattle.protocol.specs.Kinds.{Purpose, toLandFetch, to_land, aims, a_service, kind}
-use Rattle.protocol.specs.Judge.{wrongLength, blockTooHigh, wrongState, length_test, state_test, test, judged}
+use Rattle.protocol.specs.Kinds.{Purpose, to_land_fetch, to_land, aims, a_service, kind}
+use Rattle.protocol.specs.Judge.{wrong_length, block_too_high, wrong_state, length_test, state_test, test, judged}
 use Rattle.protocol.specs.Calls.{effect_of}
 use Rattle.protocol.specs.Beside.{Landing, of_write, of_fetch, landing_call, landing_block, LandsOpen, OtherBlock, TwoOpen, landed, EitherOrder, StillOpen}
 use Rattle.laws.proofs.refine.Flags.{changed_landed}
@@ -52,7 +52,7 @@ is_write (of_fetch b) = false
 
 abbrev purpose_of : Landing → Purpose
 purpose_of (of_write b page) = to_land page
-purpose_of (of_fetch b) = toLandFetch
+purpose_of (of_fetch b) = to_land_fetch
 
 abbrev bytes_of : Landing → Box → List ℕ
 bytes_of (of_write b page) x = page
@@ -70,8 +70,8 @@ record Goes (c : Landing) (x : Box) (s : Slot) : Type 0 where
 takes_it : (c : Landing) (x : Box) → judged (landing_call c) x ≡ none
     → state_test (purpose_of c) (condition_of x.table (landing_block c)) ≡ true
 unfolding test
-takes_it (of_write b page) x e = not-false _ (passed (land b page) x e wrongState refl)
-takes_it (of_fetch b) x e = not-false _ (passed (landFetch b) x e wrongState refl)
+takes_it (of_write b page) x e = not-false _ (passed (land b page) x e wrong_state refl)
+takes_it (of_fetch b) x e = not-false _ (passed (land_fetch b) x e wrong_state refl)
 
 open_at : (c : Landing) (z : Condition) → is_open z ≡ true → state_test (purpose_of c) z ≡ true → (s : Slot) × (z ≡ open_as (is_write c) s)
 open_at c NotCached o t = clash {b = false} o refl
@@ -149,13 +149,13 @@ module _ (c : Landing) (x : Box) (s : Slot) (G : Goes c x s) where
   unfolding test
   still_judged (of_write b page) n e =
       let q = passed (land b page) x e in
-      let size = (and_parts (length_test (label_in x.state) x.images x.table) _ (not-false _ (q wrongLength refl))).1 in
+      let size = (and_parts (length_test (label_in x.state) x.images x.table) _ (not-false _ (q wrong_length refl))).1 in
       accepted (land b page) shut (legal-first shut shut_legal box-ready (land b page) refl size)
-      (q blockTooHigh refl, (ap (λ (z : Condition). not (takes_write z)) (other-kept b n) ∙ q wrongState refl, tt))
+      (q block_too_high refl, (ap (λ (z : Condition). not (takes_write z)) (other-kept b n) ∙ q wrong_state refl, tt))
   still_judged (of_fetch b) n e =
-      let q = passed (landFetch b) x e in
-      accepted (landFetch b) shut (legal-first shut shut_legal box-ready (landFetch b) refl refl)
-      (q blockTooHigh refl, (ap (λ (z : Condition). not (takes_fetch z)) (other-kept b n) ∙ q wrongState refl, tt))
+      let q = passed (land_fetch b) x e in
+      accepted (land_fetch b) shut (legal-first shut shut_legal box-ready (land_fetch b) refl refl)
+      (q block_too_high refl, (ap (λ (z : Condition). not (takes_fetch z)) (other-kept b n) ∙ q wrong_state refl, tt))
 
   still_goes : (d : Landing) (t : Slot) → OtherBlock c d → Goes d x t → Goes d shut t
   still_goes d t n H = record {
@@ -228,8 +228,8 @@ module _ (c d : Landing) (x : Box) (T : TwoOpen c d x) where
       ∙ landed_is d (shut c x at.0 at.1) at'.0 (still_goes c x at.0 at.1 d at'.0 T.different at'.1)
       ∙ ap (λ (p : List ℕ). closed (is_write d) at'.0 p (shut c x at.0 at.1)) (bytes-kept c x at.0 at.1 d)
 
-  slots_apart : at.0.0 ≢ at'.0.0
-  slots_apart e =
+  slots_apart_is : at.0.0 ≢ at'.0.0
+  slots_apart_is e =
       T.different (sym (in_slot c x at.0 at.1).0.block ∙ ap (λ (u : ℕ). get_or x.table (2 * u) 0) e
       ∙ (in_slot d x at'.0 at'.1).0.block)
 
@@ -251,7 +251,7 @@ either_order c d x T =
     let G = goes c x T.one in
     let H = goes d x T.other in
     both_closed c d x T
-    ∙ closed_comm x (box-legal c x G.0 G.1) (is_write c) (is_write d) G.0 H.0 (slots_apart c d x T)
+    ∙ closed_comm x (box-legal c x G.0 G.1) (is_write c) (is_write d) G.0 H.0 (slots_apart_is c d x T)
     (in_slot c x G.0 G.1).0.low (in_slot d x H.0 H.1).0.low (bytes_of c x) (bytes_of d x) (whole c x G.0 G.1)
     (whole d x H.0 H.1)
     ∙ sym (both_closed d c x (turned T))

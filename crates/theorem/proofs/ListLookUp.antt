@@ -17,10 +17,10 @@ use Rattle.protocol.specs.declared.Condition.TheVariants.{NotCached, Clean, Dirt
 use Rattle.protocol.specs.Reply.{refused}
 use Rattle.protocol.specs.Box.{Box, Result, left, box_after}
 use Rattle.protocol.specs.Condition.{condition_of, word_of, words_of, closed_slot, closed_slots}
-use Rattle.protocol.specs.Plan.{Call, lookUp, look_up_list, looking_up, plan}
+use Rattle.protocol.specs.Plan.{Call, look_up, look_up_list, looking_up, plan}
 use Rattle.protocol.specs.Perform.{used_all, perform}
 use Rattle.protocol.specs.Kinds.{highest}
-use Rattle.protocol.specs.Judge.{Reason, blockTooHigh, test, judged}
+use Rattle.protocol.specs.Judge.{Reason, block_too_high, test, judged}
 use Rattle.protocol.specs.Calls.{decided, effect_of, result_of, words_by, words_left}
 use Rattle.protocol.specs.Demand3.{slot_said}
 use Rattle.protocol.specs.Beside.{word_said, Singles, singles, LooksAlike}
@@ -82,13 +82,13 @@ module _ (x : Box) (L : Legal x) (on : x.state.phase ≡ Ready) (b : Block) (low
   abbrev v : List ℕ
   v = used_all (closed_slot z) x.table
 
-  goes : judged (lookUp b) x ≡ none
+  goes : judged (look_up b) x ≡ none
   unfolding test
-  goes = accepted (lookUp b) x (legal-first x L on (lookUp b) refl refl) (lt-leb _ _ low, tt)
+  goes = accepted (look_up b) x (legal-first x L on (look_up b) refl refl) (lt-leb _ _ low, tt)
 
-  result_is : result_of (lookUp b) x ≡ left (perform (looking_up z) x) x.images
+  result_is : result_of (look_up b) x ≡ left (perform (looking_up z) x) x.images
   unfolding plan
-  result_is = sym (performs (lookUp b) x (looking_up z) goes refl)
+  result_is = sym (performs (look_up b) x (looking_up z) goes refl)
 
   held : AllValid (label_in x.state) x.table (closed_slot z)
   held = closed-valid (label_in x.state) x.table L.table-size b
@@ -101,11 +101,11 @@ module _ (x : Box) (L : Legal x) (on : x.state.phase ≡ Ready) (b : Block) (low
   kept : (c : Block) → condition_of v c ≡ condition_of x.table c
   kept c = conditions_used (label_in x.state) x.table x.table L.table-size held c
 
-  looked_at : Looks x z (result_of (lookUp b) x)
+  looked_at : Looks x z (result_of (look_up b) x)
   looked_at = subst (Looks x z) (sym result_is) (looks x z)
 
   -- the first of a list and then the rest of it
-  more : (blocks : List ℕ) → before (result_of (lookUp b) x) (listed blocks (tabled x v)) ≡ listed (b.0 ∷ blocks) x
+  more : (blocks : List ℕ) → before (result_of (look_up b) x) (listed blocks (tabled x v)) ≡ listed (b.0 ∷ blocks) x
   unfolding closed_slots
   more blocks =
       let w = looked_at.word in
@@ -121,8 +121,8 @@ unfolding singles closed_slots used_all
 singles_are [] x L on low = refl
 singles_are (b ∷ blocks) x L on low =
     let c : Block = record { 0 = b } in
-    ap (λ (y : Box). before (result_of (lookUp c) x) (singles blocks y)) (looked_at x L on c low.0).box
-    ∙ ap (before (result_of (lookUp c) x)) (singles_are blocks (tabled x (v x L on c low.0)) (next_legal x L on c low.0) on low.1)
+    ap (λ (y : Box). before (result_of (look_up c) x) (singles blocks y)) (looked_at x L on c low.0).box
+    ∙ ap (before (result_of (look_up c) x)) (singles_are blocks (tabled x (v x L on c low.0)) (next_legal x L on c low.0) on low.1)
     ∙ more x L on c low.0 blocks
 
 module _ (blocks words : List ℕ) (x : Box) where
@@ -136,7 +136,7 @@ module _ (blocks words : List ℕ) (x : Box) where
     all-singles : singles blocks x ≡ listed blocks x
     unfolding test
     all-singles = singles_are blocks x (service_legal c x refl e) (service_ready c x refl e)
-        (below-highest _ blocks (leb-false _ _ (passed c x e blockTooHigh refl)))
+        (below-highest _ blocks (leb-false _ _ (passed c x e block_too_high refl)))
 
     words_are : words_left blocks words x ≡ (singles blocks x).words
     unfolding words_left

@@ -18,7 +18,7 @@ use Rattle.protocol.specs.Box.{Box, Effect, left, box_after, stored_of}
 use Rattle.protocol.specs.Condition.{condition_of, takes_write}
 use Rattle.protocol.specs.Plan.{offer, offer_list, Move, stay, import_open, offering, Offered, not_yet, offered_box, declines, dealt_with, placed_as, placed, offers_from, together, plan, stores_meta}
 use Rattle.protocol.specs.Perform.{confirmed, perform}
-use Rattle.protocol.specs.Judge.{Reason, badRecord, wrongLength, badRows, wrongPhase, unknownCaller, blockTooHigh, slotOpen, importFull, windowFull, allOpen, stampsSpent, bad_scan, names, names_once, test, first_of, judged}
+use Rattle.protocol.specs.Judge.{Reason, bad_record, wrong_length, bad_rows, wrong_phase, unknown_caller, block_too_high, slot_open, import_full, window_full, all_open, stamps_spent, bad_scan, names, names_once, test, first_of, judged}
 use Rattle.protocol.specs.Calls.{effect_of}
 use Rattle.protocol.specs.Beside.{is_taken, ListOfOne}
 use Rattle.laws.proofs.Judged.{NoneHold, none_hold, first_none, first_yes, first_no, does, refuses}
@@ -69,7 +69,7 @@ appended (q ∷ qs) rs t = go (t q) (appended qs rs t)
     go false ih = ih
 
 early : List Reason
-early = badRecord ∷ wrongLength ∷ badRows ∷ wrongPhase ∷ unknownCaller ∷ blockTooHigh ∷ slotOpen ∷ importFull ∷ windowFull ∷ allOpen ∷ []
+early = bad_record ∷ wrong_length ∷ bad_rows ∷ wrong_phase ∷ unknown_caller ∷ block_too_high ∷ slot_open ∷ import_full ∷ window_full ∷ all_open ∷ []
 
 module _ (b : Block) (caller : ℕ) (x : Box) where
   abbrev t : Reason → Bool
@@ -82,13 +82,13 @@ module _ (b : Block) (caller : ℕ) (x : Box) where
   unfolding early test
   first_asked = agree-first early u t (refl, (refl, (refl, (refl, (refl, (refl, (refl, (refl, (refl, (refl, tt))))))))))
 
-  offer_judged : judged (offer b caller) x ≡ first_of (early ++ (stampsSpent ∷ [])) t
+  offer_judged : judged (offer b caller) x ≡ first_of (early ++ (stamps_spent ∷ [])) t
   unfolding judged early
   offer_judged = refl
 
-  list-judged : judged (offer_list (b.0 ∷ []) caller) x ≡ first_of (early ++ (stampsSpent ∷ [])) u
+  list-judged : judged (offer_list (b.0 ∷ []) caller) x ≡ first_of (early ++ (stamps_spent ∷ [])) u
   unfolding judged early test names names_once
-  list-judged = skip (badRecord ∷ wrongLength ∷ badRows ∷ wrongPhase ∷ []) bad_scan _ u refl
+  list-judged = skip (bad_record ∷ wrong_length ∷ bad_rows ∷ wrong_phase ∷ []) bad_scan _ u refl
 
   -- refused alike
   refused-alike : (r : Reason) → judged (offer b caller) x ≡ some r → judged (offer_list (b.0 ∷ []) caller) x ≡ some r
@@ -142,12 +142,12 @@ module _ (b : Block) (caller : ℕ) (x : Box) where
         ∙ ap (λ (v : Move). together (dealt_or (dealt_with (not_yet x) v)).places v (dealt_or (dealt_with (not_yet x) v))) e
 
     -- 13 is left to ask of both
-    asked_last : judged (offer b caller) x ≡ first_of (stampsSpent ∷ []) t
-    asked_last = offer_judged ∙ appended early (stampsSpent ∷ []) t ∙ ap (λ (o : Option Reason). or_else o (first_of (stampsSpent ∷ []) t)) (first_none early t N)
+    asked_last : judged (offer b caller) x ≡ first_of (stamps_spent ∷ []) t
+    asked_last = offer_judged ∙ appended early (stamps_spent ∷ []) t ∙ ap (λ (o : Option Reason). or_else o (first_of (stamps_spent ∷ []) t)) (first_none early t N)
 
-    list_last : judged (offer_list (b.0 ∷ []) caller) x ≡ first_of (stampsSpent ∷ []) u
-    list_last = list-judged ∙ appended early (stampsSpent ∷ []) u
-        ∙ ap (λ (o : Option Reason). or_else o (first_of (stampsSpent ∷ []) u)) (first_asked ∙ first_none early t N)
+    list_last : judged (offer_list (b.0 ∷ []) caller) x ≡ first_of (stamps_spent ∷ []) u
+    list_last = list-judged ∙ appended early (stamps_spent ∷ []) u
+        ∙ ap (λ (o : Option Reason). or_else o (first_of (stamps_spent ∷ []) u)) (first_asked ∙ first_none early t N)
 
     -- by both moves
     moved : {v w : Move} → offering x b caller k ≡ v → plan (offer_list (b.0 ∷ []) caller) x ≡ w → stores_meta w ≡ stores_meta v
@@ -156,20 +156,20 @@ module _ (b : Block) (caller : ℕ) (x : Box) where
     unfolding test plan first_of
     moved {v} {w} e f g h = go (told (stores_meta v && leb (opening_bound (label_in x.state)) x.state.newest))
       where
-        t13 : test stampsSpent (offer b caller) x ≡ (stores_meta v && leb (opening_bound (label_in x.state)) x.state.newest)
+        t13 : test stamps_spent (offer b caller) x ≡ (stores_meta v && leb (opening_bound (label_in x.state)) x.state.newest)
         t13 = ap (λ (m : Move). stores_meta m && leb (opening_bound (label_in x.state)) x.state.newest) e
 
-        u13 : test stampsSpent (offer_list (b.0 ∷ []) caller) x
+        u13 : test stamps_spent (offer_list (b.0 ∷ []) caller) x
             ≡ (stores_meta v && leb (opening_bound (label_in x.state)) x.state.newest)
         u13 = ap (λ (m : Move). stores_meta m && leb (opening_bound (label_in x.state)) x.state.newest) f
             ∙ ap (λ (m : Bool). m && leb (opening_bound (label_in x.state)) x.state.newest) g
 
         go : Told (stores_meta v && leb (opening_bound (label_in x.state)) x.state.newest)
             → Alike (effect_of (offer_list (b.0 ∷ []) caller) x) (effect_of (offer b caller) x)
-        go (told_true d) = refused-alike stampsSpent (asked_last ∙ first_yes t stampsSpent [] (t13 ∙ d)) (list_last ∙ first_yes u stampsSpent [] (u13 ∙ d))
+        go (told_true d) = refused-alike stamps_spent (asked_last ∙ first_yes t stamps_spent [] (t13 ∙ d)) (list_last ∙ first_yes u stamps_spent [] (u13 ∙ d))
         go (told_false d) =
-            let j = asked_last ∙ first_no t stampsSpent [] (t13 ∙ d) in
-            let i = list_last ∙ first_no u stampsSpent [] (u13 ∙ d) in
+            let j = asked_last ∙ first_no t stamps_spent [] (t13 ∙ d) in
+            let i = list_last ∙ first_no u stamps_spent [] (u13 ∙ d) in
             rw (does (offer_list (b.0 ∷ []) caller) x w i f, does (offer b caller) x v j e) (h j)
 
     nothing : judged (offer b caller) x ≡ none → offering x b caller k ≡ stay nothing_to_do → ⊥
@@ -194,8 +194,8 @@ module _ (b : Block) (caller : ℕ) (x : Box) where
     where
       go : (o : Option Reason) → first_of early t ≡ o → Alike (effect_of (offer_list (b.0 ∷ []) caller) x) (effect_of (offer b caller) x)
       go (some r) e = refused-alike r
-          (offer_judged ∙ appended early (stampsSpent ∷ []) t ∙ ap (λ (o : Option Reason). or_else o (first_of (stampsSpent ∷ []) t)) e)
-          (list-judged ∙ appended early (stampsSpent ∷ []) u ∙ ap (λ (o : Option Reason). or_else o (first_of (stampsSpent ∷ []) u)) (first_asked ∙ e))
+          (offer_judged ∙ appended early (stamps_spent ∷ []) t ∙ ap (λ (o : Option Reason). or_else o (first_of (stamps_spent ∷ []) t)) e)
+          (list-judged ∙ appended early (stamps_spent ∷ []) u ∙ ap (λ (o : Option Reason). or_else o (first_of (stamps_spent ∷ []) u)) (first_asked ∙ e))
       go none e = let N = none_hold early t e in by_turn N (T N) refl
 
 pub list_of_one : ListOfOne

@@ -34,7 +34,7 @@ use Rattle.protocol.specs.Plan.{offer, offer_list, grown, Move, takes_as, takes,
 use Rattle.protocol.specs.Sweep.{Victim, sweep}
 use Rattle.protocol.specs.Metadata.{store_place}
 use Rattle.protocol.specs.Perform.{confirmed, perform}
-use Rattle.protocol.specs.Judge.{Reason, number_of, blockTooHigh, slotOpen, windowFull, allOpen, importFull, unknownCaller, agree_test, test, judged}
+use Rattle.protocol.specs.Judge.{Reason, number_of, block_too_high, slot_open, window_full, all_open, import_full, unknown_caller, agree_test, test, judged}
 use Rattle.protocol.specs.Calls.{effect_of, result_of}
 use Rattle.protocol.specs.Beside.{OfferAnswer, says_announced, says_overwrite, says_copied, stamped_at, at_stamp, is_taken, Offers, stored_pages, one_by_one, EndsList, by_refusal, by_copy, by_page, AsOffers, ListAsOffers}
 use Rattle.laws.proofs.model.Base.{Window}
@@ -231,10 +231,10 @@ module _ (x : Box) (on : x.state.phase ≡ Ready) (caller : ℕ) (known : ltb 1 
     not_declined e =
         let q = passed (offer b caller) y e in
         rw (
-          q blockTooHigh refl,
-          q slotOpen refl,
-          one_of (not (takes_write k)) (import_open caller (offered_box x z).state) (leb 63 (open_rows z.table)) (q importFull refl) (q windowFull refl),
-        ) (q allOpen refl)
+          q block_too_high refl,
+          q slot_open refl,
+          one_of (not (takes_write k)) (import_open caller (offered_box x z).state) (leb 63 (open_rows z.table)) (q import_full refl) (q window_full refl),
+        ) (q all_open refl)
 
     taken : Asked → Taken (offered_box x z) (offering (offered_box x z) b caller k)
     taken A = offers (offered_box x z) (fit L) b caller known (leb-false _ _ A.low) (here (offered_box x z) (fit L) b) A.shut
@@ -397,8 +397,8 @@ module _ (x : Box) (L : Legal x) (on : x.state.phase ≡ Ready) (caller : ℕ) (
   first_taken blocks e =
       let q = passed (offer_list blocks caller) x e in
       let b : Block = first_block blocks in
-      offers x (fit L) b caller known (leb-false _ _ (q blockTooHigh refl)) (here x (fit L) b) (q slotOpen refl) (q importFull refl)
-      (q windowFull refl)
+      offers x (fit L) b caller known (leb-false _ _ (q block_too_high refl)) (here x (fit L) b) (q slot_open refl) (q import_full refl)
+      (q window_full refl)
 
   starts : offered_box x (not_yet x) ≡ x
   starts = λ i. record { images = x.images; table = x.table; state = grown_self x L i }
@@ -477,4 +477,4 @@ unfolding test
 list_as_offers blocks caller n m x said h =
     let j = none_of (offer_list blocks caller) x (ap refused said) in
     as_offers x (service_legal (offer_list blocks caller) x refl j) (service_ready (offer_list blocks caller) x refl j) caller
-    (passed (offer_list blocks caller) x j unknownCaller refl) blocks n m j said h
+    (passed (offer_list blocks caller) x j unknown_caller refl) blocks n m j said h

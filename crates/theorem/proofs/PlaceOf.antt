@@ -164,9 +164,9 @@ module _ (l : Label) (k : Core) (S : Shape l k) (p : Plain) (St : Stored (abs l 
             → entry_place l (record { ssd = k.ssd; hdd = k.hdd }) (record { 0 = b })
             (stored_slot r l (record { ssd = k.ssd; hdd = k.hdd }) (record { 0 = b })) ≡ model_place l k b
         go (inside s h e) =
-            let in-stored-window : has (abs l k).stored_window s.0 ≡ true = unfold abs in (has_nums (newest_of (metas_of l k.ssd)).window s.0 ∙ h) in
+            let in_stored_window : has (abs l k).stored_window s.0 ≡ true = unfold abs in (has_nums (newest_of (metas_of l k.ssd)).window s.0 ∙ h) in
             let blocked : block_of ((abs l k).entry s.0) ≡ b = unfold abs in (window-block l k p S.images St s.0 h ∙ e) in
-            let d = down_inside (abs l k) p St rows b s.0 in-stored-window blocked in
+            let d = down_inside (abs l k) p St rows b s.0 in_stored_window blocked in
             none_is d.0 (d.1 ∙ hdd_is)
         go (outside h) =
             let d : places.slot_of (abs l k) b ≡ seen.find (abs l k).entry (abs l k).slots b =

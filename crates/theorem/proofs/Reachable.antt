@@ -15,7 +15,7 @@ use Rattle.protocol.specs.Reply.{refused}
 use Rattle.protocol.specs.Box.{Images, Box, Store, applied}
 use Rattle.protocol.specs.Plan.{Call, format, step, reopen, plan}
 use Rattle.protocol.specs.Perform.{perform}
-use Rattle.protocol.specs.Judge.{Reason, wrongLength, wrongPhase, test, lengths_test, length_test, judged}
+use Rattle.protocol.specs.Judge.{Reason, wrong_length, wrong_phase, test, lengths_test, length_test, judged}
 use Rattle.protocol.specs.Calls.{decided, effect_of, result_of}
 use Rattle.protocol.specs.ReferenceDisk.{Disk}
 use Rattle.protocol.specs.Events.{World, Memory, Arrival, old, new, Event, call, reopens, cut, called, with_memory, taken_if, reopened, survived, made, crashed, apply, run, CallFits, RightLength, Fits, AllFit}
@@ -55,7 +55,7 @@ mendable l k d on c = go (sorted c)
     go is_step f e = steps
     go is_reopen f e = reopens_it
     go (is_service {c} q _) f e =
-        clash {b = true} refl (unfold test in (rw (q, on) at (passed_first c (box_of_core l k) e q wrongPhase refl)))
+        clash {b = true} refl (unfold test in (rw (q, on) at (passed_first c (box_of_core l k) e q wrong_phase refl)))
 
 -- a call that is not refused
 module _ (l : Label) (k : Core) (S : Shape l k) (d : Disk) (p : Plain) (A : Agrees l d p) where
@@ -73,7 +73,7 @@ module _ (l : Label) (k : Core) (S : Shape l k) (d : Disk) (p : Plain) (A : Agre
 
     ready_call : {c : Call} → Sorted c → CallFits c (world_of l k d) → judged c (box_of_core l k) ≡ none → Inv l (called c (world_of l k d))
     ready_call (is_format slots blocks) f e = no_format slots blocks (world_of l k d) f e
-    ready_call is_step f e = clash {b = true} refl (unfold test in (rw on at (passed step (box_of_core l k) e wrongPhase refl)))
+    ready_call is_step f e = clash {b = true} refl (unfold test in (rw on at (passed step (box_of_core l k) e wrong_phase refl)))
     ready_call is_reopen f e = reopen_call (phased_stored (abs l k) p (is_ready_is R))
     ready_call (is_service {c} K does) f e = rw (made_as c e) (service_next l k S d p A R c K (does (box_of_core l k) e))
 
@@ -125,7 +125,7 @@ module _ (l : Label) (k : Core) (p : Plain) (K : ImagesKept l k.ssd k.hdd) (St :
       let i = eqb (length x.images.ssd) (ssd_length a) in
       let j = eqb (length x.images.hdd) (hdd_length a) in
       let t = eqb (length x.table) (table_length a) in
-      let q = not-false _ (passed reopen x e wrongLength refl) in
+      let q = not-false _ (passed reopen x e wrong_length refl) in
       let r : t ≡ true = (and_parts j t (and_parts i (j && t) (and_parts (i && (j && t)) true q).0).1).1 in
       eqb-true _ _ r ∙ ap table_length label_there
 

@@ -9,12 +9,12 @@ use Rattle.protocol.specs.Box.{Box}
 use Rattle.protocol.specs.Plan.{reopen, plan}
 use Rattle.protocol.specs.Recovery.{label_at, metas_of, spent_stamp, pages_test, recover_if, recover_from}
 use Rattle.protocol.specs.Perform.{perform}
-use Rattle.protocol.specs.Judge.{Reason, no_label, wrongLength, badRows, test, first_of, judged}
+use Rattle.protocol.specs.Judge.{Reason, no_label, wrong_length, bad_rows, test, first_of, judged}
 use Rattle.protocol.specs.Calls.{decided, effect_of}
 use Rattle.protocol.specs.Beside.{recovered_to, ReopensFrom}
 
 decided_from : (x : Box) (l : Label) (pages : List (List ℕ)) → l ≡ label_at x.images.ssd → pages ≡ metas_of l x.images.ssd → (t : Bool)
-    → decided (elim (not t) [ true ↦ some badRows | false ↦ none ]) reopen x
+    → decided (elim (not t) [ true ↦ some bad_rows | false ↦ none ]) reopen x
     ≡ recovered_to x (recover_if t l pages (spent_stamp l x.images.ssd))
 unfolding plan perform
 decided_from x l pages e f true = rw (f, e) refl
@@ -29,6 +29,6 @@ third p q r h a b = rw (first_of, a) (rw (first_of, b) refl)
 pub reopens_from_lem : (x : Box) → ReopensFrom x
 unfolding effect_of judged test recover_from
 reopens_from_lem x a b =
-    ap (λ (o : Option Reason). decided o reopen x) (third no_label wrongLength badRows (λ r. test r reopen x) a b)
+    ap (λ (o : Option Reason). decided o reopen x) (third no_label wrong_length bad_rows (λ r. test r reopen x) a b)
     ∙ decided_from x (label_at x.images.ssd) (metas_of (label_at x.images.ssd) x.images.ssd) refl refl
     (pages_test (label_at x.images.ssd) (metas_of (label_at x.images.ssd) x.images.ssd))

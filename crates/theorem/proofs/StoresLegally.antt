@@ -28,11 +28,11 @@ use Rattle.record.specs.declared.Phase.{Phase}
 use Rattle.record.specs.declared.Phase.TheVariants.{Formatting, Recovering, Ready}
 use Rattle.protocol.specs.Reply.{Reply, done}
 use Rattle.record.specs.Record.{label_in, window_in, with_hand, with_phase, with_stamp}
-use Rattle.protocol.specs.Box.{Box, Image, ssdImage, hddImage, Store, Effect}
+use Rattle.protocol.specs.Box.{Box, Image, ssd_image, hdd_image, Store, Effect}
 use Rattle.protocol.specs.Recovery.{off_page}
 use Rattle.protocol.specs.Plan.{Call, step, grown, announces, lands, mends, formats, lowest_page, stepping, plan, stores_meta, Move}
 use Rattle.protocol.specs.Perform.{confirmed, landed_in, mended_at, format_store, format_state, perform}
-use Rattle.protocol.specs.Judge.{Reason, is_empty, agree_test, test, judged, stampsSpent}
+use Rattle.protocol.specs.Judge.{Reason, is_empty, agree_test, test, judged, stamps_spent}
 use Rattle.protocol.specs.Calls.{decided, effect_of}
 use Rattle.protocol.specs.Beside.{stamp_stored, MetaStored, StoresLegally}
 use Rattle.layout.proofs.Booleans.{Told, told, told_true, told_false, clash, and_parts}
@@ -75,7 +75,7 @@ abbrev Stores : Label → Phase → Effect → Type 0
 Stores l ph e =
     (s : Store) → e.store ≡ some s
     → (length s.bytes ≡ 4096)
-    × (s.image ≡ ssdImage → (p : ℕ) → p < meta_pages l → s.place ≡ meta_place l p → MetaStored l p s.bytes ph e.state e.table)
+    × (s.image ≡ ssd_image → (p : ℕ) → p < meta_pages l → s.place ≡ meta_place l p → MetaStored l p s.bytes ph e.state e.table)
 
 no_store : {A : Type 0} {s : Store} → none ≡ some s → A
 no_store {s = s} q = absurd (none-ne-some s q)
@@ -88,24 +88,24 @@ sized q n = ap (λ (u : Store). length u.bytes) (sym q) ∙ n
 
 -- a store on the HDD is none on the SSD
 is_ssd : Image → Bool
-is_ssd ssdImage = true
-is_ssd hddImage = false
+is_ssd ssd_image = true
+is_ssd hdd_image = false
 
-hdd-not : {A : Type 0} {pl : ℕ} {by : List ℕ} {s : Store} → record { image = hddImage; place = pl; bytes = by } ≡ s → s.image ≡ ssdImage
+hdd-not : {A : Type 0} {pl : ℕ} {by : List ℕ} {s : Store} → record { image = hdd_image; place = pl; bytes = by } ≡ s → s.image ≡ ssd_image
     → A
 unfolding is_ssd
 hdd-not q i = clash {b = true} refl (sym (ap is_ssd (ap (λ (t : Store). t.image) q ∙ i)))
 
 -- an effect with this one metadata store
 one_store : (l : Label) (ph : Phase) (e : Effect) (q : ℕ) (bytes : List ℕ)
-    → e.store ≡ some (record { image = ssdImage; place = meta_place l q; bytes = bytes }) → MetaStored l q bytes ph e.state e.table
+    → e.store ≡ some (record { image = ssd_image; place = meta_place l q; bytes = bytes }) → MetaStored l q bytes ph e.state e.table
     → Stores l ph e
 one_store l ph e q bytes f M s g = (sized same M.is_page.size, at)
   where
-    same : record { image = ssdImage; place = meta_place l q; bytes = bytes } ≡ s
+    same : record { image = ssd_image; place = meta_place l q; bytes = bytes } ≡ s
     same = the_store (sym f ∙ g)
 
-    at : s.image ≡ ssdImage → (p : ℕ) → p < meta_pages l → s.place ≡ meta_place l p → MetaStored l p s.bytes ph e.state e.table
+    at : s.image ≡ ssd_image → (p : ℕ) → p < meta_pages l → s.place ≡ meta_place l p → MetaStored l p s.bytes ph e.state e.table
     at i p h pl =
         subst (λ (m : ℕ). MetaStored l m s.bytes ph e.state e.table)
         (metas_one l q p (ap (λ (t : Store). t.place) same ∙ pl))
@@ -131,7 +131,7 @@ unfolding confirmed store_place meta_bytes
 confirmed_stores l K r e table size R n W ph v q said ssd =
     one_store l ph (confirmed q said r table ssd) q _
     (ap (λ (k : Label). some (record {
-      image = ssdImage;
+      image = ssd_image;
       place = meta_place k q;
       bytes = encode_meta (r.newest + 1) (window_in r) (rows_on q table);
     })) e)
@@ -246,7 +246,7 @@ module _ (x : Box) (L : Legal x) where
 
       go : Told (leb (meta_span (label_in x.state)) q) → Stores (label_in x.state) x.state.phase (perform (formats (suc q)) x)
       go (told_true e) = elsewhere (label_in x.state) x.state.phase (perform (formats (suc q)) x)
-          (record { image = ssdImage; place = 0; bytes = encode_label (label_in x.state) }) (rw (format_store, e))
+          (record { image = ssd_image; place = 0; bytes = encode_label (label_in x.state) }) (rw (format_store, e))
           (length_encode (label_in x.state)) (λ p h z. meta_not-label (label_in x.state) p (sym z))
       go (told_false e) = one_store (label_in x.state) x.state.phase (perform (formats (suc q)) x) q _ (rw (format_store, e)) meta
 
@@ -263,7 +263,7 @@ made_stores : {c : Call} → Sorted c → (x : Box) → judged c x ≡ none → 
 made_stores (is_format slots blocks) x e = unfold plan perform in λ s g. no_store g
 made_stores is_reopen x e = unfold plan perform in λ s g. no_store g
 made_stores is_step x e =
-    unfold test plan in (step_stores x (step_legal x e) x.state.phase refl (passed step x e stampsSpent refl))
+    unfold test plan in (step_stores x (step_legal x e) x.state.phase refl (passed step x e stamps_spent refl))
 made_stores (is_service {c} k does) x e = does_stores x (service_legal c x k e) (service_ready c x k e) (does x e)
 
 pub stores_legally : (c : Call) (x : Box) → StoresLegally c x

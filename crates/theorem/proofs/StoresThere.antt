@@ -11,7 +11,7 @@ use Rattle.layout.proofs.Booleans.{clash}
 use Rattle.protocol.specs.declared.Stored.{Stored}
 use Rattle.protocol.specs.declared.Stored.TheVariants.{Nothing, Ssd, Hdd}
 use Rattle.protocol.specs.Reply.{refused}
-use Rattle.protocol.specs.Box.{Images, Box, Image, ssdImage, hddImage, Store, stored_on, applied, page_in, stored_of}
+use Rattle.protocol.specs.Box.{Images, Box, Image, ssd_image, hdd_image, Store, stored_on, applied, page_in, stored_of}
 use Rattle.protocol.specs.Plan.{Call}
 use Rattle.protocol.specs.Judge.{Reason, judged}
 use Rattle.protocol.specs.Calls.{decided, effect_of, result_of}
@@ -39,18 +39,18 @@ put_there image bytes n e = record { bytes = bytes; size = n; stored = ap (λ (k
 -- by the image of a store
 module _ (im : Images) (p : ℕ) (bytes : List ℕ) (n : length bytes ≡ 4096) where
   some_nowhere : (k : Image) → page_in k p ≡ Nothing → ((stored_on k p bytes im).ssd ≡ im.ssd) × ((stored_on k p bytes im).hdd ≡ im.hdd)
-  some_nowhere ssdImage e = apart e (λ q. omega (arith, q))
-  some_nowhere hddImage e = apart e (λ q. omega (arith, q))
+  some_nowhere ssd_image e = apart e (λ q. omega (arith, q))
+  some_nowhere hdd_image e = apart e (λ q. omega (arith, q))
 
   some_ssd : (k : Image) (i : ℕ) → page_in k p ≡ Ssd i
       → OnePage im.ssd (stored_on k p bytes im).ssd i × ((stored_on k p bytes im).hdd ≡ im.hdd)
-  some_ssd ssdImage i e = (put_there im.ssd bytes n (ap page_of e), refl)
-  some_ssd hddImage i e = apart e (λ q. omega (arith, q))
+  some_ssd ssd_image i e = (put_there im.ssd bytes n (ap page_of e), refl)
+  some_ssd hdd_image i e = apart e (λ q. omega (arith, q))
 
   some_hdd : (k : Image) (i : ℕ) → page_in k p ≡ Hdd i
       → ((stored_on k p bytes im).ssd ≡ im.ssd) × OnePage im.hdd (stored_on k p bytes im).hdd i
-  some_hdd ssdImage i e = apart e (λ q. omega (arith, q))
-  some_hdd hddImage i e = (refl, put_there im.hdd bytes n (ap page_of e))
+  some_hdd ssd_image i e = apart e (λ q. omega (arith, q))
+  some_hdd hdd_image i e = (refl, put_there im.hdd bytes n (ap page_of e))
 
 abbrev Whole : Option Store → Type 0
 Whole o = (s : Store) → o ≡ some s → length s.bytes ≡ 4096

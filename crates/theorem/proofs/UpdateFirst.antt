@@ -13,7 +13,7 @@ use Rattle.protocol.specs.declared.Condition.TheVariants.{Dirty, Writing, Fetchi
 use Rattle.protocol.specs.Reply.{refused}
 use Rattle.protocol.specs.Rows.{valid, dirty, writing}
 use Rattle.protocol.specs.Box.{Box}
-use Rattle.protocol.specs.Plan.{Call, land, landFetch}
+use Rattle.protocol.specs.Plan.{Call, land, land_fetch}
 use Rattle.protocol.specs.Kinds.{kind}
 use Rattle.protocol.specs.Recovery.{metas_of, entry_in, newest_of}
 use Rattle.protocol.specs.Judge.{Reason, judged}
@@ -102,7 +102,7 @@ module _ (l : Label) (k : Core) (S : Shape l k) (p : Plain) (P : Phased (abs l k
         (subst (λ (z : Condition). Stands l k.table b.0 z) e (stands l k.table S.table-size b));
     land-closed = λ b page r s e. go_closed b s (ready_at (land b page) refl tt r)
         (subst (λ (z : Condition). Stands l k.table b.0 z) e (stands l k.table S.table-size b));
-    fetch_open = λ b r s e. go_fetch b s (ready_at (landFetch b) refl tt r)
+    fetch_open = λ b r s e. go_fetch b s (ready_at (land_fetch b) refl tt r)
         (subst (λ (z : Condition). Stands l k.table b.0 z) e (stands l k.table S.table-size b));
   }
     where

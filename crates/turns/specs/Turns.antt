@@ -18,7 +18,7 @@ use Rattle.protocol.specs.Box.{Box, Effect, refusing}
 use Rattle.protocol.specs.Sweep.{next_slot}
 use Rattle.protocol.specs.Plan.{stay, opens, copies}
 use Rattle.protocol.specs.Perform.{perform}
-use Rattle.protocol.specs.Judge.{slotOpen, hasSlot, windowFull, allOpen, stampsSpent, importFull, number_of}
+use Rattle.protocol.specs.Judge.{slot_open, has_slot, window_full, all_open, stamps_spent, import_full, number_of}
 use Rattle.sweeping.specs.declared.Swept.{Swept}
 use Rattle.sweeping.specs.declared.Swept.TheVariants.{Took, Stuck}
 use Rattle.table.specs.Scan.{legal_rows}
@@ -56,8 +56,8 @@ held_by caller r = elim (eqb caller import_caller) [ true ↦ open_by import_cal
 abbrev pub crowd_by : ℕ → ℕ → ℕ
 crowd_by all mine =
     elim (leb import_most mine) [
-      | true ↦ number_of importFull
-      | false ↦ elim (leb window_most all) [ true ↦ number_of windowFull | false ↦ 0 ]
+      | true ↦ number_of import_full
+      | false ↦ elim (leb window_most all) [ true ↦ number_of window_full | false ↦ 0 ]
     ]
 
 abbrev pub crowd_of : List ℕ → Record → ℕ → ℕ
@@ -73,7 +73,7 @@ if_room (suc n) t = Refused (suc n)
 abbrev pub take_turn : Label → List ℕ → ℕ → Swept → Turn
 take_turn l table flags (Took s passed) =
     elim (dirty (row_flags table s)) [ true ↦ CopiesOut s passed | false ↦ Opens s flags passed (next_slot l s) ]
-take_turn l table flags Stuck = Refused (number_of allOpen)
+take_turn l table flags Stuck = Refused (number_of all_open)
 
 -- with the hand here, and the number that refuses another slot: a block not cached is swept for, its row to have these flags
 abbrev pub sweep_turn : Label → List ℕ → Slot → ℕ → ℕ → Turn
@@ -88,16 +88,16 @@ abbrev pub offer_turn_at : Label → List ℕ → Slot → ℕ → Condition →
 offer_turn_at l table hand n NotCached = sweep_turn l table hand n 7
 offer_turn_at l table hand n (Clean s) = clean_turn table hand n s
 offer_turn_at l table hand n (Dirty s) = Passes
-offer_turn_at l table hand n (Writing s) = Refused (number_of slotOpen)
-offer_turn_at l table hand n (Fetching s) = Refused (number_of slotOpen)
+offer_turn_at l table hand n (Writing s) = Refused (number_of slot_open)
+offer_turn_at l table hand n (Fetching s) = Refused (number_of slot_open)
 
 -- "Fetch a block not cached: as an offer by sweep, with flags 5"
 abbrev pub fetch_turn_at : Label → List ℕ → Slot → ℕ → Condition → Turn
 fetch_turn_at l table hand n NotCached = sweep_turn l table hand n 5
-fetch_turn_at l table hand n (Clean s) = Refused (number_of hasSlot)
-fetch_turn_at l table hand n (Dirty s) = Refused (number_of hasSlot)
-fetch_turn_at l table hand n (Writing s) = Refused (number_of slotOpen)
-fetch_turn_at l table hand n (Fetching s) = Refused (number_of hasSlot)
+fetch_turn_at l table hand n (Clean s) = Refused (number_of has_slot)
+fetch_turn_at l table hand n (Dirty s) = Refused (number_of has_slot)
+fetch_turn_at l table hand n (Writing s) = Refused (number_of slot_open)
+fetch_turn_at l table hand n (Fetching s) = Refused (number_of has_slot)
 
 -- a caller's, of a table and a record
 abbrev pub offer_turn : List ℕ → Record → ℕ → Condition → Turn
@@ -134,7 +134,7 @@ turned (Refused n) b caller x = refusing n x
 turned Passes b caller x = perform (stay overwrite) x
 turned (Opens s flags passed hand) b caller x =
     elim (spent (label_in x.state) x.state.newest) [
-      | true ↦ refusing (number_of stampsSpent) x
+      | true ↦ refusing (number_of stamps_spent) x
       | false ↦ perform (opens x.state s b caller flags (table_after passed x) hand) x
     ]
 turned (CopiesOut s passed) b caller x = perform (copies s copied_out (table_after passed x) s) x

@@ -5,14 +5,14 @@ use borrow.Author.Tests.{not-true, not-false}
 use Rattle.record.specs.Record.{label_in}
 use Rattle.record.specs.Rule.{record_test}
 use Rattle.protocol.specs.Judge.{lengths_test}
-use Rattle.judging.proofs.JudgingLaws.{bad_record, bad_length, bad_page, by_rows, lengths_table}
+use Rattle.judging.proofs.JudgingLaws.{bad_record_is, bad_length, bad_page, by_rows, lengths_table}
 use Rattle.judging.proofs.judge_box.Goals as goal
 use Rattle.judging.proofs.judge_box.Goals.{After-lengths_ok, Else-not-lengths_ok, Else-not-record_ok}
 
 pub returns-then-not-record_ok : goal.returns-then-not-record_ok
 returns-then-not-record_ok c =
     let a = c.args in
-    rw (bad_record a.ssd a.hdd a.page a.table.now a.state 0
+    rw (bad_record_is a.ssd a.hdd a.page a.table.now a.state 0
     (sym c.record_ok.ensures ∙ c.if-not-record_ok.true))
     c.refused.ensures
 

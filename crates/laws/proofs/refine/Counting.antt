@@ -48,7 +48,7 @@ window-count (s ∷ w) t d h =
   where
     later : has w s ≡ false → (u : ℕ) → has w u ≡ true
         → (2 * u + 1 < length (set t (2 * s + 1) 0)) × (writing (get_or (set t (2 * s + 1) 0) (2 * u + 1) 0) ≡ true)
-    later no-s u k =
+    later no_s u k =
         let g = h u (rw k (or-true (eqb u s))) in
-        let n : 2 * u + 1 ≢ 2 * s + 1 = λ q. clash k (let q2 : u ≡ s = omega arith in rw q2 no-s) in
+        let n : 2 * u + 1 ≢ 2 * s + 1 = λ q. clash k (let q2 : u ≡ s = omega arith in rw q2 no_s) in
         (rw length-set g.0, rw (get_or-set_other t (2 * s + 1) (2 * u + 1) 0 0 n) g.1)

@@ -218,11 +218,11 @@ none_twice_lem (x ∷ f ∷ t) h = rw (first (told (valid f)), none_twice_lem t 
         let j = h (suc s) (suc u) (omega arith) (omega arith) in
         rw ((at_suc s).1, (at_suc s).0, (at_suc u).1, (at_suc u).0) at j
 
-pub all_open : (pages : List (List ℕ)) (w : List Slot)
+pub all_open_lem : (pages : List (List ℕ)) (w : List Slot)
     → ((s : Slot) → listed s w ≡ true → (valid (entry_in pages s).flags ≡ true) × (writing (entry_in pages s).flags ≡ true))
     → all_open_in pages w ≡ true
 unfolding all_open_in listed
-all_open pages [] h = refl
-all_open pages (s ∷ w) h =
+all_open_lem pages [] h = refl
+all_open_lem pages (s ∷ w) h =
     let f = h s (rw (eqb_same s.0)) in
-    rw (f.0, f.1, all_open pages w (λ t q. h t (rw q (or-true (eqb t.0 s.0)))))
+    rw (f.0, f.1, all_open_lem pages w (λ t q. h t (rw q (or-true (eqb t.0 s.0)))))

@@ -111,17 +111,17 @@ flags_zero f11 = refl
 flags_zero f13 = refl
 flags_zero f15 = refl
 
-pub flags_legal : {f : ℕ} → Flags f → (legal_flags (f % 8) ≡ true) × (ltb f 16 ≡ true) × ((not (used f) || valid f) ≡ true)
+pub flags_legal_lem : {f : ℕ} → Flags f → (legal_flags (f % 8) ≡ true) × (ltb f 16 ≡ true) × ((not (used f) || valid f) ≡ true)
 unfolding legal_flags
-flags_legal f0 = (refl, refl, refl)
-flags_legal f1 = (refl, refl, refl)
-flags_legal f3 = (refl, refl, refl)
-flags_legal f5 = (refl, refl, refl)
-flags_legal f7 = (refl, refl, refl)
-flags_legal f9 = (refl, refl, refl)
-flags_legal f11 = (refl, refl, refl)
-flags_legal f13 = (refl, refl, refl)
-flags_legal f15 = (refl, refl, refl)
+flags_legal_lem f0 = (refl, refl, refl)
+flags_legal_lem f1 = (refl, refl, refl)
+flags_legal_lem f3 = (refl, refl, refl)
+flags_legal_lem f5 = (refl, refl, refl)
+flags_legal_lem f7 = (refl, refl, refl)
+flags_legal_lem f9 = (refl, refl, refl)
+flags_legal_lem f11 = (refl, refl, refl)
+flags_legal_lem f13 = (refl, refl, refl)
+flags_legal_lem f15 = (refl, refl, refl)
 
 -- a dirty row holds a block
 pub dirty_holds : {f : ℕ} → Flags f → dirty f ≡ true → valid f ≡ true
@@ -174,7 +174,7 @@ legal-row l b f e =
 pub row-legal : (l : Label) (b f : ℕ) → LegalRow l b f → row_test l b f ≡ true
 unfolding row_test pair_test
 row-legal l b f r =
-    let k = flags_legal r.flags in
+    let k = flags_legal_lem r.flags in
     rw (k.0, k.1, k.2, pair (eqb (f % 8) 0) (flags_zero r.flags))
   where
     pair : (t : Bool) → t ≡ not (valid f) → ((not t || eqb b 0) && (t || ltb b l.blocks)) ≡ true

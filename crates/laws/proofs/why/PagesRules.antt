@@ -239,12 +239,12 @@ pages-same l pages = (
         each = each;
         stamps = stamps;
         once = (once-same l pages).0 c.0;
-        newest = (newest-same pages (λ p q. (each p q).count.stamp_zero) stamps).0 c.1;
+        newest = (newest-same pages (λ p q. (each p q).count.stamp_zero_is) stamps).0 c.1;
       },
   λ r.
       and_of
       (each_legal_lem l 0 pages (λ p q. rw zero-add ((page-rule l p (get_or pages p [])).1 (r.each p q))))
       (and_of
       (stamps_differ_lem pages r.stamps)
-      (and_of ((once-same l pages).1 r.once) ((newest-same pages (λ p q. (r.each p q).count.stamp_zero) r.stamps).1 r.newest))),
+      (and_of ((once-same l pages).1 r.once) ((newest-same pages (λ p q. (r.each p q).count.stamp_zero_is) r.stamps).1 r.newest))),
 )

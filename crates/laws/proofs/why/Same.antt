@@ -21,7 +21,7 @@ use Rattle.record.specs.Rule.{record_test}
 use Rattle.protocol.specs.Rows.{writing, all_writing}
 use Rattle.protocol.specs.Box.{Box}
 use Rattle.protocol.specs.Condition.{condition_of, is_open, is_cached}
-use Rattle.protocol.specs.Plan.{Call, format, step, flush, reopen, offer, fetch, landFetch, lookUp, view, writeBack, land, look_up_list, offer_list, first_block, ask, slot_map, cost, plan, stores_meta, import_open}
+use Rattle.protocol.specs.Plan.{Call, format, step, flush, reopen, offer, fetch, land_fetch, look_up, view, write_back, land, look_up_list, offer_list, first_block, ask, slot_map, cost, plan, stores_meta, import_open}
 use Rattle.protocol.specs.Recovery.{label_at, metas_of}
 use Rattle.protocol.specs.SlotMap.{map_lines, map_bytes}
 use Rattle.protocol.specs.Judge.{Reason, number_of, length_test, rows_test, is_ready, test, chain}
@@ -131,11 +131,11 @@ same (fetch b caller) x =
     record_asked x ▸ lengths_asked x ▸ rows_asked x ▸ phase_asked x ▸ caller_asked caller ▸ high_asked x b ▸ other-same x.table b
     ▸ writing-same x.table b ▸ import_asked x caller ▸ count_same 63 x.table ▸ all_asked x b
     ▸ stamps_asked x 4294967232 (fetch b caller) ▸ end
-same (landFetch b) x =
+same (land_fetch b) x =
     record_asked x ▸ lengths_asked x ▸ rows_asked x ▸ phase_asked x ▸ high_asked x b ▸ none_same (fetch_same x.table b) ▸ end
-same (lookUp b) x = record_asked x ▸ lengths_asked x ▸ rows_asked x ▸ phase_asked x ▸ high_asked x b ▸ end
+same (look_up b) x = record_asked x ▸ lengths_asked x ▸ rows_asked x ▸ phase_asked x ▸ high_asked x b ▸ end
 same (view b) x = record_asked x ▸ lengths_asked x ▸ rows_asked x ▸ phase_asked x ▸ high_asked x b ▸ end
-same (writeBack b) x =
+same (write_back b) x =
     record_asked x ▸ lengths_asked x ▸ rows_asked x ▸ phase_asked x ▸ high_asked x b ▸ open_asked x b ▸ end
 same (land b page) x =
     record_asked x ▸ none_same (land_lengths_same page x) ▸ rows_asked x ▸ phase_asked x ▸ high_asked x b
@@ -161,10 +161,10 @@ in_order flush x = refl
 in_order reopen x = refl
 in_order (offer b caller) x = refl
 in_order (fetch b caller) x = refl
-in_order (landFetch b) x = refl
-in_order (lookUp b) x = refl
+in_order (land_fetch b) x = refl
+in_order (look_up b) x = refl
 in_order (view b) x = refl
-in_order (writeBack b) x = refl
+in_order (write_back b) x = refl
 in_order (land b page) x = refl
 in_order (ask (slot_map n)) x = refl
 in_order (ask (cost blocks caller n)) x = refl

@@ -10,7 +10,7 @@ use Rattle.layout.specs.MetaPage.{rows_on}
 use Rattle.protocol.specs.Metadata.{store_place, meta_bytes}
 use Rattle.protocol.specs.Rows.{row_block}
 use Rattle.record.specs.Record.{label_in, window_in}
-use Rattle.protocol.specs.Box.{Box, ssdImage, hddImage, Store}
+use Rattle.protocol.specs.Box.{Box, ssd_image, hdd_image, Store}
 use Rattle.protocol.specs.Plan.{grown, Move, stay, uses, uses_all, announces, lands, copies, confirms, mends, begins, formats, recovers, stores_meta}
 use Rattle.protocol.specs.Perform.{confirmed, mended_at, format_store, perform}
 
@@ -18,15 +18,15 @@ use Rattle.protocol.specs.Perform.{confirmed, mended_at, format_store, perform}
 pub data Stored (x : Box) : Bool → Option Store → Type 0 where
   metadata : (p : ℕ) (w : List Slot) (rows : List ℕ)
       → Stored x true (some (record {
-        image = ssdImage;
+        image = ssd_image;
         place = store_place (label_in x.state) x.images.ssd p;
         bytes =
             meta_bytes (label_in x.state) (x.state.newest + 1) w rows;
       }))
   nothing : Stored x false none
   slot_page : (s : Slot) (page : List ℕ) → Stored x false
-      (some (record { image = ssdImage; place = data_place (label_in x.state) s; bytes = page }))
-  disk_page : (place : ℕ) (page : List ℕ) → Stored x false (some (record { image = hddImage; place = place; bytes = page }))
+      (some (record { image = ssd_image; place = data_place (label_in x.state) s; bytes = page }))
+  disk_page : (place : ℕ) (page : List ℕ) → Stored x false (some (record { image = hdd_image; place = place; bytes = page }))
   format_page : (d : ℕ) → Stored x false (some (format_store (label_in x.state) x.table (window_in x.state) d))
 
 pub stored : (v : Move) (x : Box) → Stored x (stores_meta v) (perform v x).store

@@ -14,7 +14,7 @@ use Rattle.protocol.specs.Reply.{announced, copied_out, looked, done}
 use Rattle.protocol.specs.declared.Condition.TheVariants.{Clean}
 use Rattle.record.specs.Record.{record_of}
 use Rattle.protocol.specs.Box.{Box, box_after}
-use Rattle.protocol.specs.Plan.{format, step, flush, offer, land, fetch, landFetch, lookUp}
+use Rattle.protocol.specs.Plan.{format, step, flush, offer, land, fetch, land_fetch, look_up}
 use Rattle.protocol.specs.Calls.{result_of}
 use Rattle.protocol.specs.Events.{World, Event, call, called, run, steps, formatted, start_of}
 use Rattle.protocol.proofs.cases.Report.{nothing, label, meta, slot, block, Line, line, Report, report, disk_of, lost, unformatted, start, filled, meta_page, label_page, pages}
@@ -197,10 +197,10 @@ abbrev pub p9 : Script
 p9 =
     scripted two (start two)
     (call (fetch (record { 0 = 0 }) 0)
-    ∷ call (landFetch (record { 0 = 0 }))
+    ∷ call (land_fetch (record { 0 = 0 }))
     ∷ call (fetch (record { 0 = 1 }) 0)
-    ∷ call (landFetch (record { 0 = 1 }))
-    ∷ call (lookUp (record { 0 = 0 }))
+    ∷ call (land_fetch (record { 0 = 1 }))
+    ∷ call (look_up (record { 0 = 0 }))
     ∷ call (offer (record { 0 = 2 }) 0) ∷ [])
     (record { 0 = 0 } ∷ record { 0 = 2 } ∷ [])
     (record {

@@ -18,7 +18,7 @@ use Rattle.record.specs.declared.Phase.TheVariants.{Recovering}
 use Rattle.record.specs.Record.{record_of}
 use Rattle.protocol.specs.Reply.{refused, nothing_to_do}
 use Rattle.protocol.specs.Box.{Box, Store, Result, box_after}
-use Rattle.protocol.specs.Plan.{Call, format, step, flush, reopen, offer, fetch, landFetch, lookUp, view, writeBack, land, ask, Ask, slot_map, cost}
+use Rattle.protocol.specs.Plan.{Call, format, step, flush, reopen, offer, fetch, land_fetch, look_up, view, write_back, land, ask, Ask, slot_map, cost}
 use Rattle.protocol.specs.Kinds.{kind, aim}
 use Rattle.protocol.specs.Judge.{is_ready}
 use Rattle.protocol.specs.Calls.{effect_of, result_of}
@@ -94,14 +94,14 @@ module _ (w : World) where
   Unfed c = after c ≡ w.disk
 
   pub others_unfed : (b : Block) (caller : ℕ)
-      → Unfed (offer b caller) × Unfed (fetch b caller) × Unfed (landFetch b) × Unfed (lookUp b) × Unfed (view b) × Unfed (writeBack b)
+      → Unfed (offer b caller) × Unfed (fetch b caller) × Unfed (land_fetch b) × Unfed (look_up b) × Unfed (view b) × Unfed (write_back b)
   others_unfed b caller = (
     unfed (offer b caller) refl refl,
     unfed (fetch b caller) refl refl,
-    unfed (landFetch b) refl refl,
-    unfed (lookUp b) refl refl,
+    unfed (land_fetch b) refl refl,
+    unfed (look_up b) refl refl,
     unfed (view b) refl refl,
-    unfed (writeBack b) refl refl,
+    unfed (write_back b) refl refl,
   )
 
   -- and a slot map (document 02, N1)
@@ -127,8 +127,8 @@ module _ (w : World) where
 
   -- "Calls that later requests add to the box join it, as do refused formats"
   pub calls_join : (b : Block) (caller : ℕ) (page : List ℕ) (a : Ask)
-      → CallFits step w × CallFits flush w × CallFits reopen w × CallFits (offer b caller) w × CallFits (fetch b caller) w × CallFits (landFetch b) w
-      × CallFits (lookUp b) w × CallFits (view b) w × CallFits (writeBack b) w × CallFits (land b page) w × CallFits (ask a) w
+      → CallFits step w × CallFits flush w × CallFits reopen w × CallFits (offer b caller) w × CallFits (fetch b caller) w × CallFits (land_fetch b) w
+      × CallFits (look_up b) w × CallFits (view b) w × CallFits (write_back b) w × CallFits (land b page) w × CallFits (ask a) w
   calls_join b caller page a = (tt, tt, tt, tt, tt, tt, tt, tt, tt, tt, tt)
 
   pub refused-format-joins : (slots blocks : ℕ) → refused (R (format slots blocks)).said ≡ true

@@ -16,7 +16,7 @@ use Rattle.layout.specs.declared.Block.{Block}
 use Rattle.layout.specs.declared.Label.{Label}
 use Rattle.layout.specs.Places.{label_place, meta_pages, meta_span, meta_place, data_place, ssd_length, hdd_length, table_length, within_limits}
 use Rattle.protocol.specs.Reply.{refused}
-use Rattle.protocol.specs.Box.{Images, Box, Image, ssdImage, hddImage, Store, applied, Effect}
+use Rattle.protocol.specs.Box.{Images, Box, Image, ssd_image, hdd_image, Store, applied, Effect}
 use Rattle.protocol.specs.Condition.{condition_of, slot_from, closed_slots}
 use Rattle.protocol.specs.Plan.{Call, reopen, view, lowest_from, placed, offers_from, plan}
 use Rattle.protocol.specs.Kinds.{kind, aim, highest}
@@ -25,7 +25,7 @@ use Rattle.record.specs.Callers.{open_by, caller_array}
 use Rattle.layout.specs.Window.{array_of}
 use Rattle.record.specs.Window.{without, beside, each_place, zero_slots}
 use Rattle.protocol.specs.Rows.{each_row, open_rows}
-use Rattle.protocol.specs.Judge.{names, names_once, Reason, no_label, wrongLength, number_of, is_label, label_for, lengths_test, length_test, lent_test, test, chain, first_of, judged, label_test, row_test, rows_test}
+use Rattle.protocol.specs.Judge.{names, names_once, Reason, no_label, wrong_length, number_of, is_label, label_for, lengths_test, length_test, lent_test, test, chain, first_of, judged, label_test, row_test, rows_test}
 use Rattle.record.specs.Rule.{record_test}
 use Rattle.protocol.specs.Calls.{decided, effect_of, viewed, view_of}
 use Rattle.protocol.specs.Events.{World, Memory, Arrival, old, new, Event, call, reopens, cut, lent, read_of, with_memory, survived, made}
@@ -50,8 +50,8 @@ pub record Sized (l : Label) (im : Images) : Type 0 where
 
 -- a store is a page within its image
 unfoldable pub within : Label → Image → ℕ → List ℕ → Bool
-within l ssdImage p bytes = leb (4096 * p + 4096) (ssd_length l) && eqb (length bytes) 4096
-within l hddImage p bytes = leb (4096 * p + 4096) (hdd_length l) && eqb (length bytes) 4096
+within l ssd_image p bytes = leb (4096 * p + 4096) (ssd_length l) && eqb (length bytes) 4096
+within l hdd_image p bytes = leb (4096 * p + 4096) (hdd_length l) && eqb (length bytes) 4096
 
 unfoldable pub store_within : Label → Option Store → Bool
 store_within l none = true
@@ -63,12 +63,12 @@ holds image n p e h = omega (arith, e)
 stored-size : (l : Label) (i : Image) (p : ℕ) (bytes : List ℕ) (im : Images) → Sized l im → within l i p bytes ≡ true
     → Sized l (applied (some (record { image = i; place = p; bytes = bytes })) im)
 unfolding within
-stored-size l ssdImage p bytes im z h =
+stored-size l ssd_image p bytes im z h =
     let n : ℕ = ssd_length l in
     let hs = and_parts (leb (4096 * p + 4096) n) (eqb (length bytes) 4096) h in
     let h : Holds im.ssd p = holds im.ssd n p z.ssd-size (leb-true (4096 * p + 4096) n hs.0) in
     record { ssd-size = length_put im.ssd bytes p h (eqb-true (length bytes) 4096 hs.1) ∙ z.ssd-size; hdd-size = z.hdd-size }
-stored-size l hddImage p bytes im z h =
+stored-size l hdd_image p bytes im z h =
     let n : ℕ = hdd_length l in
     let hs = and_parts (leb (4096 * p + 4096) n) (eqb (length bytes) 4096) h in
     let h : Holds im.hdd p = holds im.hdd n p z.hdd-size (leb-true (4096 * p + 4096) n hs.0) in
@@ -107,7 +107,7 @@ test_known_lem l c x z e r = go (told (eqb (number_of r) 2)) (told (eqb (number_
     label-known = unfold test label_test in
         (ap (λ (n : ℕ). not (leb 4096 n && is_label (decode_label (page_at x.images.ssd label_place)))) z.ssd-size)
 
-    sizes-known : test wrongLength c x ≡ not (eqb (length x.table) (table_length l) && lent_test (aim c).purpose (length x.table))
+    sizes-known : test wrong_length c x ≡ not (eqb (length x.table) (table_length l) && lent_test (aim c).purpose (length x.table))
     sizes-known = unfold test in
         (ap (λ (k : Label). not (length_test k x.images x.table && lent_test (aim c).purpose (length x.table))) e
         ∙ ap (λ (b : Bool). not (b && lent_test (aim c).purpose (length x.table))) (length-known l x.images x.table z))
@@ -117,7 +117,7 @@ test_known_lem l c x z e r = go (told (eqb (number_of r) 2)) (told (eqb (number_
 
     go : Told (eqb (number_of r) 2) → Told (eqb (number_of r) 4) → test r c x ≡ test_known l c x r
     go (told_true p) q = rw (test_known, p) (at no_label p ∙ label-known)
-    go (told_false p) (told_true q) = rw (test_known, p, q) (at wrongLength q ∙ sizes-known)
+    go (told_false p) (told_true q) = rw (test_known, p, q) (at wrong_length q ∙ sizes-known)
     go (told_false p) (told_false q) = rw (test_known, p, q)
 
 first-same : (rs : List Reason) (f g : Reason → Bool) → ((r : Reason) → f r ≡ g r) → first_of rs f ≡ first_of rs g

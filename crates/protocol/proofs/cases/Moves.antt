@@ -11,8 +11,8 @@ use Rattle.protocol.specs.Reply.{answer, announced, copied_out, looked, done, no
 use Rattle.protocol.specs.declared.Condition.TheVariants.{NotCached, Clean, Dirty}
 use Rattle.record.specs.Record.{record_of, with_callers}
 use Rattle.protocol.specs.declared.Stored.TheVariants.{Nothing, Ssd, Hdd}
-use Rattle.protocol.specs.Box.{Box, ssdImage, hddImage}
-use Rattle.protocol.specs.Plan.{step, flush, offer, land, fetch, landFetch, lookUp, writeBack, look_up_list}
+use Rattle.protocol.specs.Box.{Box, ssd_image, hdd_image}
+use Rattle.protocol.specs.Plan.{step, flush, offer, land, fetch, land_fetch, look_up, write_back, look_up_list}
 use Rattle.protocol.proofs.cases.Report.{disk_of, filled, meta_page, label_page, pages}
 use Rattle.protocol.proofs.cases.Known.{known}
 use Rattle.layout.specs.declared.Slot.{Slot}
@@ -34,31 +34,31 @@ held table newest unconfirmed window = record {
 
 abbrev pub moves : List Case
 moves =
-    move (lookUp (record { 0 = 1 })) (held (1 ∷ 1 ∷ 0 ∷ 0 ∷ []) 1 true [])
+    move (look_up (record { 0 = 1 })) (held (1 ∷ 1 ∷ 0 ∷ 0 ∷ []) 1 true [])
     (leaving (looked (Clean (record { 0 = 0 }))) none (held (1 ∷ 9 ∷ 0 ∷ 0 ∷ []) 1 true []))
-    ∷ move (lookUp (record { 0 = 0 })) (held (1 ∷ 1 ∷ 0 ∷ 0 ∷ []) 1 true []) (leaving (looked NotCached) none (held (1 ∷ 1 ∷ 0 ∷ 0 ∷ []) 1 true []))
+    ∷ move (look_up (record { 0 = 0 })) (held (1 ∷ 1 ∷ 0 ∷ 0 ∷ []) 1 true []) (leaving (looked NotCached) none (held (1 ∷ 1 ∷ 0 ∷ 0 ∷ []) 1 true []))
     ∷ move (offer (record { 0 = 1 }) 0) (held (1 ∷ 9 ∷ 0 ∷ 0 ∷ []) 1 true [])
     (leaving (announced (record { 0 = 0 }))
-    (stores ssdImage 1 (meta_page (2 ∷ 0 ∷ 0 ∷ 0 ∷ 1 ∷ 0 ∷ []) (0 ∷ 0 ∷ 0 ∷ 0 ∷ []) (1 ∷ 0 ∷ 0 ∷ 0 ∷ 7 ∷ 0 ∷ 0 ∷ 0 ∷ [])))
+    (stores ssd_image 1 (meta_page (2 ∷ 0 ∷ 0 ∷ 0 ∷ 1 ∷ 0 ∷ []) (0 ∷ 0 ∷ 0 ∷ 0 ∷ []) (1 ∷ 0 ∷ 0 ∷ 0 ∷ 7 ∷ 0 ∷ 0 ∷ 0 ∷ [])))
     (held (1 ∷ 15 ∷ 0 ∷ 0 ∷ []) 2 false (record { 0 = 0 } ∷ [])))
     ∷ move (land (record { 0 = 1 }) (filled 9)) (held (1 ∷ 15 ∷ 0 ∷ 0 ∷ []) 2 false (record { 0 = 0 } ∷ []))
-    (leaving done (stores ssdImage 2 (filled 9)) (held (1 ∷ 11 ∷ 0 ∷ 0 ∷ []) 2 true []))
+    (leaving done (stores ssd_image 2 (filled 9)) (held (1 ∷ 11 ∷ 0 ∷ 0 ∷ []) 2 true []))
     ∷ move (land (record { 0 = 1 }) (filled 9)) (held (1 ∷ 11 ∷ 0 ∷ 0 ∷ []) 2 false [])
-    (leaving done (stores ssdImage 2 (filled 9)) (held (1 ∷ 11 ∷ 0 ∷ 0 ∷ []) 2 false []))
-    ∷ move (writeBack (record { 0 = 1 })) (held (1 ∷ 11 ∷ 0 ∷ 0 ∷ []) 2 true [])
-    (leaving done (stores hddImage 1 (filled 3)) (held (1 ∷ 9 ∷ 0 ∷ 0 ∷ []) 2 true []))
-    ∷ move (writeBack (record { 0 = 1 })) (held (1 ∷ 9 ∷ 0 ∷ 0 ∷ []) 2 true [])
+    (leaving done (stores ssd_image 2 (filled 9)) (held (1 ∷ 11 ∷ 0 ∷ 0 ∷ []) 2 false []))
+    ∷ move (write_back (record { 0 = 1 })) (held (1 ∷ 11 ∷ 0 ∷ 0 ∷ []) 2 true [])
+    (leaving done (stores hdd_image 1 (filled 3)) (held (1 ∷ 9 ∷ 0 ∷ 0 ∷ []) 2 true []))
+    ∷ move (write_back (record { 0 = 1 })) (held (1 ∷ 9 ∷ 0 ∷ 0 ∷ []) 2 true [])
     (leaving nothing_to_do none (held (1 ∷ 9 ∷ 0 ∷ 0 ∷ []) 2 true []))
-    ∷ move (writeBack (record { 0 = 0 })) (held (1 ∷ 11 ∷ 0 ∷ 0 ∷ []) 2 true [])
+    ∷ move (write_back (record { 0 = 0 })) (held (1 ∷ 11 ∷ 0 ∷ 0 ∷ []) 2 true [])
     (leaving nothing_to_do none (held (1 ∷ 11 ∷ 0 ∷ 0 ∷ []) 2 true []))
     ∷ move flush (held (1 ∷ 11 ∷ 0 ∷ 0 ∷ []) 2 false []) (leaving nothing_to_do none (held (1 ∷ 11 ∷ 0 ∷ 0 ∷ []) 2 false []))
     -- a sweep of two used slots clears both flags, and takes the one under the hand; being dirty, it is copied out
     ∷ move (fetch (record { 0 = 2 }) 0) (held (1 ∷ 9 ∷ 0 ∷ 11 ∷ []) 2 false [])
-    (leaving copied_out (stores hddImage 0 (filled 4)) (held (1 ∷ 1 ∷ 0 ∷ 1 ∷ []) 2 false []))
+    (leaving copied_out (stores hdd_image 0 (filled 4)) (held (1 ∷ 1 ∷ 0 ∷ 1 ∷ []) 2 false []))
     -- an open slot is passed with its used flag
     ∷ move (fetch (record { 0 = 2 }) 0) (held (1 ∷ 9 ∷ 0 ∷ 15 ∷ []) 2 false (record { 0 = 1 } ∷ []))
     (leaving (announced (record { 0 = 0 }))
-    (stores ssdImage 1
+    (stores ssd_image 1
     (meta_page (3 ∷ 0 ∷ 0 ∷ 0 ∷ 2 ∷ 0 ∷ []) (1 ∷ 0 ∷ 0 ∷ 0 ∷ 0 ∷ 0 ∷ 0 ∷ 0 ∷ [])
     (2 ∷ 0 ∷ 0 ∷ 0 ∷ 5 ∷ 0 ∷ 0 ∷ 0 ∷ 0 ∷ 0 ∷ 0 ∷ 0 ∷ 7 ∷ 0 ∷ 0 ∷ 0 ∷ [])))
     (held (2 ∷ 5 ∷ 0 ∷ 15 ∷ []) 3 false (record { 0 = 1 } ∷ record { 0 = 0 } ∷ [])))
@@ -74,29 +74,29 @@ wide =
     -- three slots are open, and the first or the second lands: the others stay, in their order
     move (land (record { 0 = 5 }) (filled 9))
     (four (5 ∷ 7 ∷ 6 ∷ 7 ∷ 7 ∷ 7 ∷ 0 ∷ 0 ∷ []) 3 3 Ready false (record { 0 = 0 } ∷ record { 0 = 1 } ∷ record { 0 = 2 } ∷ []))
-    (leaving done (stores ssdImage 2 (filled 9))
+    (leaving done (stores ssd_image 2 (filled 9))
     (four (5 ∷ 11 ∷ 6 ∷ 7 ∷ 7 ∷ 7 ∷ 0 ∷ 0 ∷ []) 3 3 Ready true (record { 0 = 1 } ∷ record { 0 = 2 } ∷ [])))
     ∷ move (land (record { 0 = 6 }) (filled 9))
     (four (5 ∷ 7 ∷ 6 ∷ 7 ∷ 7 ∷ 7 ∷ 0 ∷ 0 ∷ []) 3 3 Ready false (record { 0 = 0 } ∷ record { 0 = 1 } ∷ record { 0 = 2 } ∷ []))
-    (leaving done (stores ssdImage 3 (filled 9))
+    (leaving done (stores ssd_image 3 (filled 9))
     (four (5 ∷ 7 ∷ 6 ∷ 11 ∷ 7 ∷ 7 ∷ 0 ∷ 0 ∷ []) 3 3 Ready true (record { 0 = 0 } ∷ record { 0 = 2 } ∷ [])))
     -- from the hand on slot 1, which is used, the sweep goes on to slot 2
     ∷ move (fetch (record { 0 = 7 }) 0) (four (3 ∷ 1 ∷ 4 ∷ 9 ∷ 6 ∷ 1 ∷ 0 ∷ 0 ∷ []) 1 2 Ready false [])
     (leaving (announced (record { 0 = 2 }))
-    (stores ssdImage 1
+    (stores ssd_image 1
     (meta_page (3 ∷ 0 ∷ 0 ∷ 0 ∷ 1 ∷ 0 ∷ []) (2 ∷ 0 ∷ 0 ∷ 0 ∷ [])
     (3 ∷ 0 ∷ 0 ∷ 0 ∷ 1 ∷ 0 ∷ 0 ∷ 0 ∷ 4 ∷ 0 ∷ 0 ∷ 0 ∷ 1 ∷ 0 ∷ 0 ∷ 0 ∷ 7 ∷ 0 ∷ 0 ∷ 0 ∷ 5 ∷ 0 ∷ 0 ∷ 0 ∷ [])))
     (four (3 ∷ 1 ∷ 4 ∷ 1 ∷ 7 ∷ 5 ∷ 0 ∷ 0 ∷ []) 3 3 Ready false (record { 0 = 2 } ∷ [])))
     -- a flush beside an open slot stores the window with it
     ∷ move flush (four (5 ∷ 7 ∷ 6 ∷ 3 ∷ 0 ∷ 0 ∷ 0 ∷ 0 ∷ []) 2 2 Ready true (record { 0 = 0 } ∷ []))
     (leaving done
-    (stores ssdImage 1
+    (stores ssd_image 1
     (meta_page (3 ∷ 0 ∷ 0 ∷ 0 ∷ 1 ∷ 0 ∷ []) (0 ∷ 0 ∷ 0 ∷ 0 ∷ [])
     (5 ∷ 0 ∷ 0 ∷ 0 ∷ 7 ∷ 0 ∷ 0 ∷ 0 ∷ 6 ∷ 0 ∷ 0 ∷ 0 ∷ 3 ∷ 0 ∷ 0 ∷ 0 ∷ [])))
     (four (5 ∷ 7 ∷ 6 ∷ 3 ∷ 0 ∷ 0 ∷ 0 ∷ 0 ∷ []) 2 3 Ready false (record { 0 = 0 } ∷ [])))
     -- a format's last step sets hand 0, newest stamp 0 and settled, whatever they were
     ∷ move step (four (replicate 8 0) 1 5 (Formatting 2) true [])
-    (leaving done (stores ssdImage 0 (label_page (text_of 52 56))) (four (replicate 8 0) 0 0 Ready false []))
+    (leaving done (stores ssd_image 0 (label_page (text_of 52 56))) (four (replicate 8 0) 0 0 Ready false []))
     ∷ []
 
 -- Moves of a box of two slots: a second look-up leaves the used flag set, that of a dirty block sets it too; a fetch that lands sets
@@ -104,18 +104,18 @@ wide =
 -- its own block's page, with another slot opened after it (N11).
 abbrev pub narrow : List Case
 narrow =
-    move (lookUp (record { 0 = 1 })) (held (1 ∷ 9 ∷ 0 ∷ 0 ∷ []) 1 true [])
+    move (look_up (record { 0 = 1 })) (held (1 ∷ 9 ∷ 0 ∷ 0 ∷ []) 1 true [])
     (leaving (looked (Clean (record { 0 = 0 }))) none (held (1 ∷ 9 ∷ 0 ∷ 0 ∷ []) 1 true []))
-    ∷ move (lookUp (record { 0 = 1 })) (held (1 ∷ 3 ∷ 0 ∷ 0 ∷ []) 1 true [])
+    ∷ move (look_up (record { 0 = 1 })) (held (1 ∷ 3 ∷ 0 ∷ 0 ∷ []) 1 true [])
     (leaving (looked (Dirty (record { 0 = 0 }))) none (held (1 ∷ 11 ∷ 0 ∷ 0 ∷ []) 1 true []))
-    ∷ move (landFetch (record { 0 = 1 })) (held (1 ∷ 5 ∷ 0 ∷ 0 ∷ []) 2 false (record { 0 = 0 } ∷ []))
-    (leaving done (stores ssdImage 2 (filled 65)) (held (1 ∷ 1 ∷ 0 ∷ 0 ∷ []) 2 true []))
-    ∷ move (landFetch (record { 0 = 1 })) (held (1 ∷ 13 ∷ 0 ∷ 0 ∷ []) 2 false (record { 0 = 0 } ∷ []))
-    (leaving done (stores ssdImage 2 (filled 65)) (held (1 ∷ 9 ∷ 0 ∷ 0 ∷ []) 2 true []))
+    ∷ move (land_fetch (record { 0 = 1 })) (held (1 ∷ 5 ∷ 0 ∷ 0 ∷ []) 2 false (record { 0 = 0 } ∷ []))
+    (leaving done (stores ssd_image 2 (filled 65)) (held (1 ∷ 1 ∷ 0 ∷ 0 ∷ []) 2 true []))
+    ∷ move (land_fetch (record { 0 = 1 })) (held (1 ∷ 13 ∷ 0 ∷ 0 ∷ []) 2 false (record { 0 = 0 } ∷ []))
+    (leaving done (stores ssd_image 2 (filled 65)) (held (1 ∷ 9 ∷ 0 ∷ 0 ∷ []) 2 true []))
     ∷ move (land (record { 0 = 1 }) (filled 9)) (held (1 ∷ 3 ∷ 0 ∷ 0 ∷ []) 2 false [])
-    (leaving done (stores ssdImage 2 (filled 9)) (held (1 ∷ 11 ∷ 0 ∷ 0 ∷ []) 2 false []))
-    ∷ move (landFetch (record { 0 = 1 })) (held (1 ∷ 5 ∷ 2 ∷ 7 ∷ []) 2 false (record { 0 = 0 } ∷ record { 0 = 1 } ∷ []))
-    (leaving done (stores ssdImage 2 (filled 65)) (held (1 ∷ 1 ∷ 2 ∷ 7 ∷ []) 2 true (record { 0 = 1 } ∷ [])))
+    (leaving done (stores ssd_image 2 (filled 9)) (held (1 ∷ 11 ∷ 0 ∷ 0 ∷ []) 2 false []))
+    ∷ move (land_fetch (record { 0 = 1 })) (held (1 ∷ 5 ∷ 2 ∷ 7 ∷ []) 2 false (record { 0 = 0 } ∷ record { 0 = 1 } ∷ []))
+    (leaving done (stores ssd_image 2 (filled 65)) (held (1 ∷ 1 ∷ 2 ∷ 7 ∷ []) 2 true (record { 0 = 1 } ∷ [])))
     ∷ []
 
 -- document 02, N5, on one box, by code and slot: block 0 is "not cached", 1 is clean in slot 0, 2 dirty in slot 1, 3 open for writing
@@ -129,20 +129,20 @@ doubled f₀ f₁ window = four (0 ∷ 0 ∷ 6 ∷ f₀ ∷ 6 ∷ f₁ ∷ 0 ∷
 
 abbrev pub conditions : List Case
 conditions =
-    move (lookUp (record { 0 = 0 })) (rowed 1 3 7 5) (leaving (answer 107 []) none (rowed 1 3 7 5))
-    ∷ move (lookUp (record { 0 = 1 })) (rowed 1 3 7 5) (leaving (answer 108 (record { 0 = 0 } ∷ [])) none (rowed 9 3 7 5))
-    ∷ move (lookUp (record { 0 = 2 })) (rowed 1 3 7 5) (leaving (answer 109 (record { 0 = 1 } ∷ [])) none (rowed 1 11 7 5))
-    ∷ move (lookUp (record { 0 = 3 })) (rowed 1 3 7 5) (leaving (answer 110 (record { 0 = 2 } ∷ [])) none (rowed 1 3 7 5))
-    ∷ move (lookUp (record { 0 = 4 })) (rowed 1 3 7 5) (leaving (answer 111 (record { 0 = 3 } ∷ [])) none (rowed 1 3 7 5))
-    ∷ move (lookUp (record { 0 = 6 })) (doubled 7 3 (record { 0 = 1 } ∷ []))
+    move (look_up (record { 0 = 0 })) (rowed 1 3 7 5) (leaving (answer 107 []) none (rowed 1 3 7 5))
+    ∷ move (look_up (record { 0 = 1 })) (rowed 1 3 7 5) (leaving (answer 108 (record { 0 = 0 } ∷ [])) none (rowed 9 3 7 5))
+    ∷ move (look_up (record { 0 = 2 })) (rowed 1 3 7 5) (leaving (answer 109 (record { 0 = 1 } ∷ [])) none (rowed 1 11 7 5))
+    ∷ move (look_up (record { 0 = 3 })) (rowed 1 3 7 5) (leaving (answer 110 (record { 0 = 2 } ∷ [])) none (rowed 1 3 7 5))
+    ∷ move (look_up (record { 0 = 4 })) (rowed 1 3 7 5) (leaving (answer 111 (record { 0 = 3 } ∷ [])) none (rowed 1 3 7 5))
+    ∷ move (look_up (record { 0 = 6 })) (doubled 7 3 (record { 0 = 1 } ∷ []))
     (leaving (answer 110 (record { 0 = 1 } ∷ [])) none (doubled 7 3 (record { 0 = 1 } ∷ [])))
-    ∷ move (lookUp (record { 0 = 6 })) (doubled 1 7 (record { 0 = 2 } ∷ []))
+    ∷ move (look_up (record { 0 = 6 })) (doubled 1 7 (record { 0 = 2 } ∷ []))
     (leaving (answer 108 (record { 0 = 1 } ∷ [])) none (doubled 9 7 (record { 0 = 2 } ∷ [])))
-    ∷ closed (lookUp (record { 0 = 0 })) (rowed 1 3 7 5) none
-    ∷ closed (lookUp (record { 0 = 1 })) (rowed 1 3 7 5) (some (record { 0 = 0 }))
-    ∷ closed (lookUp (record { 0 = 2 })) (rowed 1 3 7 5) (some (record { 0 = 1 }))
-    ∷ closed (lookUp (record { 0 = 3 })) (rowed 1 3 7 5) none
-    ∷ closed (lookUp (record { 0 = 4 })) (rowed 1 3 7 5) none
+    ∷ closed (look_up (record { 0 = 0 })) (rowed 1 3 7 5) none
+    ∷ closed (look_up (record { 0 = 1 })) (rowed 1 3 7 5) (some (record { 0 = 0 }))
+    ∷ closed (look_up (record { 0 = 2 })) (rowed 1 3 7 5) (some (record { 0 = 1 }))
+    ∷ closed (look_up (record { 0 = 3 })) (rowed 1 3 7 5) none
+    ∷ closed (look_up (record { 0 = 4 })) (rowed 1 3 7 5) none
     ∷ []
 
 -- document 02, N6, on the same boxes: a word for each place of the list, a block listed twice in two; the used flags of clean and
@@ -161,8 +161,8 @@ listed =
 abbrev pub named : List Case
 named =
     names (land (record { 0 = 1 }) (filled 9)) (held (1 ∷ 7 ∷ 0 ∷ 0 ∷ []) 2 false (record { 0 = 0 } ∷ [])) (Ssd 2)
-    ∷ names (writeBack (record { 0 = 1 })) (held (1 ∷ 3 ∷ 0 ∷ 0 ∷ []) 2 true []) (Hdd 1)
-    ∷ names (lookUp (record { 0 = 1 })) (held (1 ∷ 3 ∷ 0 ∷ 0 ∷ []) 2 true []) Nothing
+    ∷ names (write_back (record { 0 = 1 })) (held (1 ∷ 3 ∷ 0 ∷ 0 ∷ []) 2 true []) (Hdd 1)
+    ∷ names (look_up (record { 0 = 1 })) (held (1 ∷ 3 ∷ 0 ∷ 0 ∷ []) 2 true []) Nothing
     ∷ []
 
 -- document 02, N7: a slot joins the window with its caller, swept for or not, and leaves it with its caller; a copy-out and a store
@@ -174,31 +174,31 @@ abbrev pub shared : List Case
 shared =
     move (offer (record { 0 = 6 }) 1) (by (0 ∷ []) (four (5 ∷ 7 ∷ 6 ∷ 1 ∷ 0 ∷ 0 ∷ 0 ∷ 0 ∷ []) 2 2 Ready false (record { 0 = 0 } ∷ [])))
     (leaving (announced (record { 0 = 1 }))
-    (stores ssdImage 1
+    (stores ssd_image 1
     (meta_page (3 ∷ 0 ∷ 0 ∷ 0 ∷ 2 ∷ 0 ∷ []) (0 ∷ 0 ∷ 0 ∷ 0 ∷ 1 ∷ 0 ∷ 0 ∷ 0 ∷ [])
     (5 ∷ 0 ∷ 0 ∷ 0 ∷ 7 ∷ 0 ∷ 0 ∷ 0 ∷ 6 ∷ 0 ∷ 0 ∷ 0 ∷ 7 ∷ 0 ∷ 0 ∷ 0 ∷ [])))
     (by (0 ∷ 1 ∷ []) (four (5 ∷ 7 ∷ 6 ∷ 7 ∷ 0 ∷ 0 ∷ 0 ∷ 0 ∷ []) 2 3 Ready false (record { 0 = 0 } ∷ record { 0 = 1 } ∷ []))))
     ∷ move (land (record { 0 = 5 }) (filled 9))
     (by (0 ∷ 1 ∷ []) (four (5 ∷ 7 ∷ 6 ∷ 7 ∷ 0 ∷ 0 ∷ 0 ∷ 0 ∷ []) 2 3 Ready false (record { 0 = 0 } ∷ record { 0 = 1 } ∷ [])))
-    (leaving done (stores ssdImage 2 (filled 9))
+    (leaving done (stores ssd_image 2 (filled 9))
     (by (1 ∷ []) (four (5 ∷ 11 ∷ 6 ∷ 7 ∷ 0 ∷ 0 ∷ 0 ∷ 0 ∷ []) 2 3 Ready true (record { 0 = 1 } ∷ []))))
     ∷ move (fetch (record { 0 = 7 }) 1) (by (0 ∷ []) (four (5 ∷ 7 ∷ 6 ∷ 1 ∷ 0 ∷ 0 ∷ 0 ∷ 0 ∷ []) 1 2 Ready false (record { 0 = 0 } ∷ [])))
     (leaving (announced (record { 0 = 1 }))
-    (stores ssdImage 1
+    (stores ssd_image 1
     (meta_page (3 ∷ 0 ∷ 0 ∷ 0 ∷ 2 ∷ 0 ∷ []) (0 ∷ 0 ∷ 0 ∷ 0 ∷ 1 ∷ 0 ∷ 0 ∷ 0 ∷ [])
     (5 ∷ 0 ∷ 0 ∷ 0 ∷ 7 ∷ 0 ∷ 0 ∷ 0 ∷ 7 ∷ 0 ∷ 0 ∷ 0 ∷ 5 ∷ 0 ∷ 0 ∷ 0 ∷ [])))
     (by (0 ∷ 1 ∷ []) (four (5 ∷ 7 ∷ 7 ∷ 5 ∷ 0 ∷ 0 ∷ 0 ∷ 0 ∷ []) 2 3 Ready false (record { 0 = 0 } ∷ record { 0 = 1 } ∷ []))))
     ∷ move (offer (record { 0 = 7 }) 1) (by (0 ∷ []) (four (5 ∷ 7 ∷ 6 ∷ 1 ∷ 0 ∷ 0 ∷ 0 ∷ 0 ∷ []) 1 2 Ready false (record { 0 = 0 } ∷ [])))
     (leaving (announced (record { 0 = 1 }))
-    (stores ssdImage 1
+    (stores ssd_image 1
     (meta_page (3 ∷ 0 ∷ 0 ∷ 0 ∷ 2 ∷ 0 ∷ []) (0 ∷ 0 ∷ 0 ∷ 0 ∷ 1 ∷ 0 ∷ 0 ∷ 0 ∷ [])
     (5 ∷ 0 ∷ 0 ∷ 0 ∷ 7 ∷ 0 ∷ 0 ∷ 0 ∷ 7 ∷ 0 ∷ 0 ∷ 0 ∷ 7 ∷ 0 ∷ 0 ∷ 0 ∷ [])))
     (by (0 ∷ 1 ∷ []) (four (5 ∷ 7 ∷ 7 ∷ 7 ∷ 0 ∷ 0 ∷ 0 ∷ 0 ∷ []) 2 3 Ready false (record { 0 = 0 } ∷ record { 0 = 1 } ∷ []))))
     ∷ move (fetch (record { 0 = 2 }) 0) (by (1 ∷ []) (held (1 ∷ 7 ∷ 0 ∷ 3 ∷ []) 2 false (record { 0 = 0 } ∷ [])))
-    (leaving copied_out (stores hddImage 0 (filled 4)) (by (1 ∷ []) (held (1 ∷ 7 ∷ 0 ∷ 1 ∷ []) 2 false (record { 0 = 0 } ∷ []))))
+    (leaving copied_out (stores hdd_image 0 (filled 4)) (by (1 ∷ []) (held (1 ∷ 7 ∷ 0 ∷ 1 ∷ []) 2 false (record { 0 = 0 } ∷ []))))
     ∷ move flush (by (1 ∷ []) (four (5 ∷ 7 ∷ 6 ∷ 3 ∷ 0 ∷ 0 ∷ 0 ∷ 0 ∷ []) 2 2 Ready true (record { 0 = 0 } ∷ [])))
     (leaving done
-    (stores ssdImage 1
+    (stores ssd_image 1
     (meta_page (3 ∷ 0 ∷ 0 ∷ 0 ∷ 1 ∷ 0 ∷ []) (0 ∷ 0 ∷ 0 ∷ 0 ∷ [])
     (5 ∷ 0 ∷ 0 ∷ 0 ∷ 7 ∷ 0 ∷ 0 ∷ 0 ∷ 6 ∷ 0 ∷ 0 ∷ 0 ∷ 3 ∷ 0 ∷ 0 ∷ 0 ∷ [])))
     (by (1 ∷ []) (four (5 ∷ 7 ∷ 6 ∷ 3 ∷ 0 ∷ 0 ∷ 0 ∷ 0 ∷ []) 2 3 Ready false (record { 0 = 0 } ∷ []))))

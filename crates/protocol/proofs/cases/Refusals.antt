@@ -11,8 +11,8 @@ use Rattle.record.specs.declared.Phase.TheVariants.{Formatting, Recovering, Read
 use Rattle.record.specs.Record.{record_of, with_callers}
 use Rattle.protocol.specs.Reply.{done}
 use Rattle.protocol.specs.Box.{Box, Effect, refusing}
-use Rattle.protocol.specs.Plan.{Call, format, step, flush, offer, land, fetch, landFetch, lookUp, view, reopen, writeBack, look_up_list, offer_list, ask, slot_map, cost}
-use Rattle.protocol.specs.Judge.{Reason, number_of, chain, first_of, windowFull, allOpen, label_for, lengths_test, length_test, judged, stampsSpent, importFull, unknownCaller, bad_list}
+use Rattle.protocol.specs.Plan.{Call, format, step, flush, offer, land, fetch, land_fetch, look_up, view, reopen, write_back, look_up_list, offer_list, ask, slot_map, cost}
+use Rattle.protocol.specs.Judge.{Reason, number_of, chain, first_of, window_full, all_open, label_for, lengths_test, length_test, judged, stamps_spent, import_full, unknown_caller, bad_list}
 use Rattle.protocol.specs.Calls.{effect_of}
 use Rattle.protocol.proofs.cases.Report.{disk_of, filled, meta_page, label_page}
 use Rattle.protocol.proofs.cases.Known.{Sized, known, effect_known, effect_known_lem}
@@ -37,10 +37,10 @@ unsettled_at newest = record_of one (record { 0 = 0 }) newest Ready true []
 -- the last stamps, of an offer and of a fetch
 abbrev pub stamps : List Case
 stamps =
-    condition stampsSpent (offer (record { 0 = 0 }) 0) (boxed (0 ∷ 0 ∷ []) (settled_at 4294967231)) false
-    ∷ condition stampsSpent (offer (record { 0 = 0 }) 0) (boxed (0 ∷ 0 ∷ []) (settled_at 4294967232)) true
-    ∷ condition stampsSpent (fetch (record { 0 = 0 }) 0) (boxed (0 ∷ 0 ∷ []) (settled_at 4294967231)) false
-    ∷ condition stampsSpent (fetch (record { 0 = 0 }) 0) (boxed (0 ∷ 0 ∷ []) (settled_at 4294967232)) true
+    condition stamps_spent (offer (record { 0 = 0 }) 0) (boxed (0 ∷ 0 ∷ []) (settled_at 4294967231)) false
+    ∷ condition stamps_spent (offer (record { 0 = 0 }) 0) (boxed (0 ∷ 0 ∷ []) (settled_at 4294967232)) true
+    ∷ condition stamps_spent (fetch (record { 0 = 0 }) 0) (boxed (0 ∷ 0 ∷ []) (settled_at 4294967231)) false
+    ∷ condition stamps_spent (fetch (record { 0 = 0 }) 0) (boxed (0 ∷ 0 ∷ []) (settled_at 4294967232)) true
     ∷ []
 
 -- 62 open of 63 are not refused by 11, 63 are: a fetch, a clean and an uncached block; a dirty one is not
@@ -53,14 +53,14 @@ of_rows table = imageless (record { table = table; state = settled_at 0 })
 
 abbrev pub windows : List Case
 windows =
-    condition windowFull (offer (record { 0 = 99 }) 0) (of_rows (open_rows_from 0 62 ++ (0 ∷ 0 ∷ []))) false
-    ∷ condition windowFull (offer (record { 0 = 99 }) 0) (of_rows (open_rows_from 0 63)) true
-    ∷ condition windowFull (fetch (record { 0 = 99 }) 0) (of_rows (open_rows_from 0 62 ++ (0 ∷ 0 ∷ []))) false
-    ∷ condition windowFull (fetch (record { 0 = 99 }) 0) (of_rows (open_rows_from 0 63)) true
-    ∷ condition windowFull (offer (record { 0 = 99 }) 0) (of_rows (open_rows_from 0 63 ++ (99 ∷ 1 ∷ []))) true
-    ∷ condition windowFull (offer (record { 0 = 99 }) 0) (of_rows (open_rows_from 0 63 ++ (99 ∷ 3 ∷ []))) false
-    ∷ condition allOpen (offer (record { 0 = 99 }) 0) (of_rows (open_rows_from 0 62 ++ (0 ∷ 0 ∷ []))) false
-    ∷ condition allOpen (offer (record { 0 = 99 }) 0) (of_rows (open_rows_from 0 63)) true
+    condition window_full (offer (record { 0 = 99 }) 0) (of_rows (open_rows_from 0 62 ++ (0 ∷ 0 ∷ []))) false
+    ∷ condition window_full (offer (record { 0 = 99 }) 0) (of_rows (open_rows_from 0 63)) true
+    ∷ condition window_full (fetch (record { 0 = 99 }) 0) (of_rows (open_rows_from 0 62 ++ (0 ∷ 0 ∷ []))) false
+    ∷ condition window_full (fetch (record { 0 = 99 }) 0) (of_rows (open_rows_from 0 63)) true
+    ∷ condition window_full (offer (record { 0 = 99 }) 0) (of_rows (open_rows_from 0 63 ++ (99 ∷ 1 ∷ []))) true
+    ∷ condition window_full (offer (record { 0 = 99 }) 0) (of_rows (open_rows_from 0 63 ++ (99 ∷ 3 ∷ []))) false
+    ∷ condition all_open (offer (record { 0 = 99 }) 0) (of_rows (open_rows_from 0 62 ++ (0 ∷ 0 ∷ []))) false
+    ∷ condition all_open (offer (record { 0 = 99 }) 0) (of_rows (open_rows_from 0 63)) true
     ∷ []
 
 -- document 02, N6: lists of 0, 1, 64 and 65 blocks, and answer lists that are shorter and longer by one
@@ -152,12 +152,12 @@ call-refusals =
     -- the block's slot is open
     ∷ refuses_by 8 (offer (record { 0 = 0 }) 0) (boxed (0 ∷ 7 ∷ []) (open_at 1))
     ∷ refuses_by 8 (fetch (record { 0 = 0 }) 0) (boxed (0 ∷ 7 ∷ []) (open_at 1))
-    ∷ refuses_by 8 (writeBack (record { 0 = 0 })) (boxed (0 ∷ 15 ∷ []) (open_at 1))
+    ∷ refuses_by 8 (write_back (record { 0 = 0 })) (boxed (0 ∷ 15 ∷ []) (open_at 1))
     -- land 1, uncached; landed on a clean row, and on one open for fetch; a fetch landed on a write
     ∷ refuses_by 9 (land (record { 0 = 1 }) (filled 9)) (boxed (0 ∷ 0 ∷ []) (settled_at 0))
     ∷ refuses_by 9 (land (record { 0 = 0 }) (filled 9)) (boxed (0 ∷ 1 ∷ []) (settled_at 0))
     ∷ refuses_by 9 (land (record { 0 = 0 }) (filled 9)) (boxed (0 ∷ 5 ∷ []) (open_at 1))
-    ∷ refuses_by 9 (landFetch (record { 0 = 0 })) (boxed (0 ∷ 7 ∷ []) (open_at 1))
+    ∷ refuses_by 9 (land_fetch (record { 0 = 0 })) (boxed (0 ∷ 7 ∷ []) (open_at 1))
     -- fetch 0 when cached
     ∷ refuses_by 10 (fetch (record { 0 = 0 }) 0) (boxed (0 ∷ 3 ∷ []) (settled_at 1))
     -- it is being fetched (document 02, N9)
@@ -174,11 +174,11 @@ call-refusals =
 -- all slots open; a map into 66 bytes, and while mending into none
 abbrev pub edge_refusals : List Case
 edge_refusals =
-    refuses_by 6 (lookUp (record { 0 = 0 })) (boxed (0 ∷ 0 ∷ []) (record_of one (record { 0 = 0 }) 1 Recovering false (record { 0 = 0 } ∷ [])))
-    ∷ refuses_by 7 (landFetch (record { 0 = 2 })) (boxed (0 ∷ 5 ∷ []) (open_at 1))
+    refuses_by 6 (look_up (record { 0 = 0 })) (boxed (0 ∷ 0 ∷ []) (record_of one (record { 0 = 0 }) 1 Recovering false (record { 0 = 0 } ∷ [])))
+    ∷ refuses_by 7 (land_fetch (record { 0 = 2 })) (boxed (0 ∷ 5 ∷ []) (open_at 1))
     ∷ refuses_by 7 (view (record { 0 = 2 })) (boxed (0 ∷ 1 ∷ []) (settled_at 1))
-    ∷ refuses_by 7 (writeBack (record { 0 = 2 })) (boxed (0 ∷ 1 ∷ []) (settled_at 1))
-    ∷ refuses_by 8 (writeBack (record { 0 = 1 })) (boxed (1 ∷ 7 ∷ []) (open_at 1))
+    ∷ refuses_by 7 (write_back (record { 0 = 2 })) (boxed (0 ∷ 1 ∷ []) (settled_at 1))
+    ∷ refuses_by 8 (write_back (record { 0 = 1 })) (boxed (1 ∷ 7 ∷ []) (open_at 1))
     ∷ refuses_by 12 (fetch (record { 0 = 1 }) 0) (boxed (0 ∷ 7 ∷ []) (open_at 1))
     -- block 2 of 2 from caller 2 (document 02, N7)
     ∷ refuses_by 18 (offer (record { 0 = 2 }) 2) (boxed (0 ∷ 0 ∷ []) (settled_at 0))
@@ -228,20 +228,20 @@ open_both count callers table =
 
 abbrev pub imports : List Case
 imports =
-    condition importFull (fetch (record { 0 = 99 }) 1) (open_both 7 (replicate 7 1) []) false
-    ∷ condition importFull (fetch (record { 0 = 99 }) 1) (open_both 8 (replicate 8 1) []) true
-    ∷ condition importFull (fetch (record { 0 = 99 }) 1) (open_both 9 (replicate 9 1) []) true
-    ∷ condition importFull (fetch (record { 0 = 99 }) 1) (open_both 9 (0 ∷ replicate 8 1) []) true
-    ∷ condition importFull (fetch (record { 0 = 99 }) 1) (open_both 8 (0 ∷ replicate 7 1) []) false
-    ∷ condition importFull (fetch (record { 0 = 99 }) 0) (open_both 8 (replicate 8 1) []) false
-    ∷ condition importFull (offer (record { 0 = 99 }) 1) (open_both 8 (replicate 8 1) []) true
-    ∷ condition importFull (offer (record { 0 = 99 }) 1) (open_both 8 (replicate 8 1) (99 ∷ 1 ∷ [])) true
-    ∷ condition importFull (offer (record { 0 = 99 }) 1) (open_both 8 (replicate 8 1) (99 ∷ 3 ∷ [])) false
-    ∷ condition importFull (fetch (record { 0 = 99 }) 1) (open_both 7 (replicate 8 1) []) false
-    ∷ condition unknownCaller (offer (record { 0 = 0 }) 0) (of_rows []) false
-    ∷ condition unknownCaller (offer (record { 0 = 0 }) 1) (of_rows []) false
-    ∷ condition unknownCaller (offer (record { 0 = 0 }) 2) (of_rows []) true
-    ∷ condition unknownCaller (fetch (record { 0 = 0 }) 2) (of_rows []) true
+    condition import_full (fetch (record { 0 = 99 }) 1) (open_both 7 (replicate 7 1) []) false
+    ∷ condition import_full (fetch (record { 0 = 99 }) 1) (open_both 8 (replicate 8 1) []) true
+    ∷ condition import_full (fetch (record { 0 = 99 }) 1) (open_both 9 (replicate 9 1) []) true
+    ∷ condition import_full (fetch (record { 0 = 99 }) 1) (open_both 9 (0 ∷ replicate 8 1) []) true
+    ∷ condition import_full (fetch (record { 0 = 99 }) 1) (open_both 8 (0 ∷ replicate 7 1) []) false
+    ∷ condition import_full (fetch (record { 0 = 99 }) 0) (open_both 8 (replicate 8 1) []) false
+    ∷ condition import_full (offer (record { 0 = 99 }) 1) (open_both 8 (replicate 8 1) []) true
+    ∷ condition import_full (offer (record { 0 = 99 }) 1) (open_both 8 (replicate 8 1) (99 ∷ 1 ∷ [])) true
+    ∷ condition import_full (offer (record { 0 = 99 }) 1) (open_both 8 (replicate 8 1) (99 ∷ 3 ∷ [])) false
+    ∷ condition import_full (fetch (record { 0 = 99 }) 1) (open_both 7 (replicate 8 1) []) false
+    ∷ condition unknown_caller (offer (record { 0 = 0 }) 0) (of_rows []) false
+    ∷ condition unknown_caller (offer (record { 0 = 0 }) 1) (of_rows []) false
+    ∷ condition unknown_caller (offer (record { 0 = 0 }) 2) (of_rows []) true
+    ∷ condition unknown_caller (fetch (record { 0 = 0 }) 2) (of_rows []) true
     ∷ []
 
 Stamps : AllHold stamps
@@ -266,7 +266,7 @@ Imports =
 abbrev crowded : Call → Option Reason
 crowded c = first_of (chain c) (λ r. eqb (number_of r) 11 || eqb (number_of r) 17)
 
-Crowded : (crowded (offer (record { 0 = 0 }) 1) ≡ some importFull) × ((crowded (fetch (record { 0 = 0 }) 1) ≡ some importFull) × (crowded (offer_list (0 ∷ []) 1) ≡ some importFull))
+Crowded : (crowded (offer (record { 0 = 0 }) 1) ≡ some import_full) × ((crowded (fetch (record { 0 = 0 }) 1) ≡ some import_full) × (crowded (offer_list (0 ∷ []) 1) ≡ some import_full))
 unfolding first_of
 Crowded = Imports first (refl, (refl, refl))
 

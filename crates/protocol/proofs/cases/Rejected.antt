@@ -22,7 +22,7 @@ use Rattle.record.specs.Record.{record_of}
 use Rattle.record.specs.Rule.{record_test}
 use Rattle.protocol.specs.Rows.{row_flags, valid}
 use Rattle.protocol.specs.Box.{Box}
-use Rattle.protocol.specs.Plan.{step, flush, reopen, offer, land, lookUp}
+use Rattle.protocol.specs.Plan.{step, flush, reopen, offer, land, look_up}
 use Rattle.protocol.specs.Kinds.{kind}
 use Rattle.protocol.specs.Judge.{is_ready, label_test, test, first_of, judged}
 use Rattle.protocol.specs.Calls.{effect_of, result_of, view_of}
@@ -154,14 +154,14 @@ showing lines table newest = record {
 
 -- a look-up names slot 0; a reopening leaves what a format does, and then a look-up names none
 abbrev found : Script
-found = scripted one (start_of one unstored) (call (lookUp (record { 0 = 1 })) ∷ []) []
+found = scripted one (start_of one unstored) (call (look_up (record { 0 = 1 })) ∷ []) []
     (showing (line (looked (Dirty (record { 0 = 0 }))) nothing Ready ∷ []) (1 ∷ 11 ∷ []) 1)
 
 abbrev forgotten : Script
 forgotten = scripted one (start_of one unstored) (call reopen ∷ []) [] (showing (line done nothing Ready ∷ []) (0 ∷ 0 ∷ []) 0)
 
 abbrev missed : Script
-missed = scripted one (start_of one (fresh one (text_of 49 50))) (call (lookUp (record { 0 = 1 })) ∷ []) []
+missed = scripted one (start_of one (fresh one (text_of 49 50))) (call (look_up (record { 0 = 1 })) ∷ []) []
     (showing (line (looked NotCached) nothing Ready ∷ []) (0 ∷ 0 ∷ []) 0)
 
 computed_found : Computed found unstored
@@ -179,11 +179,11 @@ computed_missed = refl
 first_said : Report → Reply
 first_said r = (get_or r.lines 0 (line done nothing Ready)).said
 
-slot_said_lem : (result_of (lookUp (record { 0 = 1 })) unstored).said ≡ looked (Dirty (record { 0 = 0 }))
+slot_said_lem : (result_of (look_up (record { 0 = 1 })) unstored).said ≡ looked (Dirty (record { 0 = 0 }))
 unfolding report lines_of first_said
 slot_said_lem = ap first_said (shows found unstored refl sized_one computed_found)
 
-none_said : (result_of (lookUp (record { 0 = 1 })) (fresh one (text_of 49 50))).said ≡ looked NotCached
+none_said : (result_of (look_up (record { 0 = 1 })) (fresh one (text_of 49 50))).said ≡ looked NotCached
 unfolding report lines_of first_said
 none_said = ap first_said (shows missed (fresh one (text_of 49 50)) refl sized_one computed_missed)
 
@@ -209,7 +209,7 @@ window_none : stored_window one unstored.images ≡ []
 unfolding known text_of
 window_none = refl
 
-place-slot : (x : Box) (b : Block) → is_ready x.state.phase ≡ true → (place x b).slot ≡ slot_said (result_of (lookUp b) x).said
+place-slot : (x : Box) (b : Block) → is_ready x.state.phase ≡ true → (place x b).slot ≡ slot_said (result_of (look_up b) x).said
 unfolding place
 place-slot x b h = rw h
 

@@ -15,7 +15,7 @@ use Rattle.record.specs.declared.Record.{Record}
 use Rattle.record.specs.declared.Phase.{Phase}
 use Rattle.record.specs.declared.Phase.TheVariants.{Recovering}
 use Rattle.protocol.specs.Reply.{Reply}
-use Rattle.protocol.specs.Box.{Box, Image, ssdImage, hddImage, Store, Effect}
+use Rattle.protocol.specs.Box.{Box, Image, ssd_image, hdd_image, Store, Effect}
 use Rattle.protocol.specs.Plan.{reopen}
 use Rattle.protocol.specs.Calls.{effect_of}
 use Rattle.protocol.specs.Events.{World, Memory, Event, call, reopens, cut, read_of, with_memory, crashed, apply, run, formatted, start_of}
@@ -26,8 +26,8 @@ pub data Stored : Type 0 where
   meta slot block : ℕ → Stored
 
 abbrev pub stored_at : Label → Image → ℕ → Stored
-stored_at l hddImage p = block p
-stored_at l ssdImage p =
+stored_at l hdd_image p = block p
+stored_at l ssd_image p =
     elim (eqb p 0) [ true ↦ label | false ↦ elim (leb p (meta_pages l)) [ true ↦ meta (p - 1) | false ↦ slot (p - 1 - meta_pages l) ] ]
 
 abbrev pub stored_of : Label → Option Store → Stored

@@ -11,9 +11,9 @@ use Rattle.layout.specs.Places.{label_of}
 use Rattle.record.specs.declared.Phase.TheVariants.{Ready}
 use Rattle.record.specs.Record.{record_of, with_callers}
 use Rattle.protocol.specs.Reply.{dealt, copied_out}
-use Rattle.protocol.specs.Box.{Box, ssdImage, hddImage}
+use Rattle.protocol.specs.Box.{Box, ssd_image, hdd_image}
 use Rattle.protocol.specs.Plan.{offer_list}
-use Rattle.protocol.specs.Judge.{bad_scan, stampsSpent}
+use Rattle.protocol.specs.Judge.{bad_scan, stamps_spent}
 use Rattle.protocol.proofs.cases.Report.{filled, meta_page, pages}
 use Rattle.protocol.proofs.cases.Known.{known}
 use Rattle.protocol.proofs.cases.Case.{Case, AllHold, ◌first◌, one, two, many, imageless, leaving, stores, move, condition}
@@ -51,21 +51,21 @@ scans =
     -- three blocks go out in one store; the stamp rises by one, and the hand is on slot 3
     move (offer_list (5 ∷ 6 ∷ 7 ∷ []) 0) (four (replicate 8 0) 0 0 Ready true [])
     (leaving (dealt 3)
-    (stores ssdImage 1
+    (stores ssd_image 1
     (meta_page (1 ∷ 0 ∷ 0 ∷ 0 ∷ 3 ∷ 0 ∷ []) (0 ∷ 0 ∷ 0 ∷ 0 ∷ 1 ∷ 0 ∷ 0 ∷ 0 ∷ 2 ∷ 0 ∷ 0 ∷ 0 ∷ [])
     (5 ∷ 0 ∷ 0 ∷ 0 ∷ 7 ∷ 0 ∷ 0 ∷ 0 ∷ 6 ∷ 0 ∷ 0 ∷ 0 ∷ 7 ∷ 0 ∷ 0 ∷ 0 ∷ 7 ∷ 0 ∷ 0 ∷ 0 ∷ 7 ∷ 0 ∷ 0 ∷ 0 ∷ [])))
     (four (5 ∷ 7 ∷ 6 ∷ 7 ∷ 7 ∷ 7 ∷ 0 ∷ 0 ∷ []) 3 1 Ready false (slots_from 0 3)))
     -- five for four slots: 12 ends the list
     ∷ move (offer_list (blocks_from 0 5) 0) (four (replicate 8 0) 0 0 Ready false [])
     (leaving (dealt 4)
-    (stores ssdImage 1
+    (stores ssd_image 1
     (meta_page (1 ∷ 0 ∷ 0 ∷ 0 ∷ 4 ∷ 0 ∷ []) (0 ∷ 0 ∷ 0 ∷ 0 ∷ 1 ∷ 0 ∷ 0 ∷ 0 ∷ 2 ∷ 0 ∷ 0 ∷ 0 ∷ 3 ∷ 0 ∷ 0 ∷ 0 ∷ [])
     (0 ∷ 0 ∷ 0 ∷ 0 ∷ 7 ∷ 0 ∷ 0 ∷ 0 ∷ 1 ∷ 0 ∷ 0 ∷ 0 ∷ 7 ∷ 0 ∷ 0 ∷ 0 ∷ 2 ∷ 0 ∷ 0 ∷ 0 ∷ 7 ∷ 0 ∷ 0 ∷ 0 ∷ 3 ∷ 0 ∷ 0 ∷ 0 ∷ 7 ∷ 0 ∷ 0 ∷ 0 ∷ [])))
     (four (writing_from 0 4) 0 1 Ready false (slots_from 0 4)))
     -- P2, landed and flushed: 5 answers "overwrite" and is passed, 6 is announced
     ∷ move (offer_list (5 ∷ 6 ∷ []) 0) (four (5 ∷ 11 ∷ 0 ∷ 0 ∷ 0 ∷ 0 ∷ 0 ∷ 0 ∷ []) 1 2 Ready false [])
     (leaving (dealt 2)
-    (stores ssdImage 1
+    (stores ssd_image 1
     (meta_page (3 ∷ 0 ∷ 0 ∷ 0 ∷ 1 ∷ 0 ∷ []) (1 ∷ 0 ∷ 0 ∷ 0 ∷ [])
     (5 ∷ 0 ∷ 0 ∷ 0 ∷ 3 ∷ 0 ∷ 0 ∷ 0 ∷ 6 ∷ 0 ∷ 0 ∷ 0 ∷ 7 ∷ 0 ∷ 0 ∷ 0 ∷ [])))
     (four (5 ∷ 11 ∷ 6 ∷ 7 ∷ 0 ∷ 0 ∷ 0 ∷ 0 ∷ []) 2 3 Ready false (slots_from 1 1)))
@@ -80,13 +80,13 @@ scans =
     -- a clean block whose slot an earlier place takes is swept for; one that is listed first keeps its slot, and used flags
     ∷ move (offer_list (5 ∷ 3 ∷ []) 0) (four (3 ∷ 1 ∷ 4 ∷ 1 ∷ 6 ∷ 1 ∷ 7 ∷ 1 ∷ []) 0 2 Ready false [])
     (leaving (dealt 2)
-    (stores ssdImage 1
+    (stores ssd_image 1
     (meta_page (3 ∷ 0 ∷ 0 ∷ 0 ∷ 2 ∷ 0 ∷ []) (0 ∷ 0 ∷ 0 ∷ 0 ∷ 1 ∷ 0 ∷ 0 ∷ 0 ∷ [])
     (5 ∷ 0 ∷ 0 ∷ 0 ∷ 7 ∷ 0 ∷ 0 ∷ 0 ∷ 3 ∷ 0 ∷ 0 ∷ 0 ∷ 7 ∷ 0 ∷ 0 ∷ 0 ∷ 6 ∷ 0 ∷ 0 ∷ 0 ∷ 1 ∷ 0 ∷ 0 ∷ 0 ∷ 7 ∷ 0 ∷ 0 ∷ 0 ∷ 1 ∷ 0 ∷ 0 ∷ 0 ∷ [])))
     (four (5 ∷ 7 ∷ 3 ∷ 7 ∷ 6 ∷ 1 ∷ 7 ∷ 1 ∷ []) 2 3 Ready false (slots_from 0 2)))
     ∷ move (offer_list (3 ∷ 5 ∷ []) 0) (four (3 ∷ 9 ∷ 4 ∷ 9 ∷ 6 ∷ 1 ∷ 7 ∷ 1 ∷ []) 0 2 Ready false [])
     (leaving (dealt 2)
-    (stores ssdImage 1
+    (stores ssd_image 1
     (meta_page (3 ∷ 0 ∷ 0 ∷ 0 ∷ 2 ∷ 0 ∷ []) (0 ∷ 0 ∷ 0 ∷ 0 ∷ 2 ∷ 0 ∷ 0 ∷ 0 ∷ [])
     (3 ∷ 0 ∷ 0 ∷ 0 ∷ 7 ∷ 0 ∷ 0 ∷ 0 ∷ 4 ∷ 0 ∷ 0 ∷ 0 ∷ 1 ∷ 0 ∷ 0 ∷ 0 ∷ 5 ∷ 0 ∷ 0 ∷ 0 ∷ 7 ∷ 0 ∷ 0 ∷ 0 ∷ 7 ∷ 0 ∷ 0 ∷ 0 ∷ 1 ∷ 0 ∷ 0 ∷ 0 ∷ [])))
     (four (3 ∷ 15 ∷ 4 ∷ 1 ∷ 5 ∷ 7 ∷ 7 ∷ 1 ∷ []) 3 3 Ready false (record { 0 = 0 } ∷ record { 0 = 2 } ∷ [])))
@@ -97,7 +97,7 @@ abbrev pub traces : List Case
 traces =
     move (offer_list (1 ∷ 2 ∷ []) 0) (boxed two (0 ∷ 11 ∷ 0 ∷ 0 ∷ []) 1 2 [])
     (leaving (dealt 1)
-    (stores ssdImage 1
+    (stores ssd_image 1
     (meta_page (3 ∷ 0 ∷ 0 ∷ 0 ∷ 1 ∷ 0 ∷ []) (1 ∷ 0 ∷ 0 ∷ 0 ∷ []) (0 ∷ 0 ∷ 0 ∷ 0 ∷ 3 ∷ 0 ∷ 0 ∷ 0 ∷ 1 ∷ 0 ∷ 0 ∷ 0 ∷ 7 ∷ 0 ∷ 0 ∷ 0 ∷ [])))
     (boxed two (0 ∷ 11 ∷ 1 ∷ 7 ∷ []) 0 3 (slots_from 1 1)))
     -- a first place that copies out does that, as a single offer
@@ -107,7 +107,7 @@ traces =
       table = 0 ∷ 11 ∷ [];
       state = (boxed one [] 0 2 []).state;
     })
-    (leaving copied_out (stores hddImage 0 (filled 3)) (boxed one (0 ∷ 1 ∷ []) 0 2 []))
+    (leaving copied_out (stores hdd_image 0 (filled 3)) (boxed one (0 ∷ 1 ∷ []) 0 2 []))
     ∷ []
 
 -- slots 239 and 240 are on two metadata pages: the list ends before the second; an "overwrite" there is passed
@@ -115,12 +115,12 @@ abbrev pub paged : List Case
 paged =
     move (offer_list (5 ∷ 6 ∷ []) 0) (boxed many (replicate 482 0) 239 2 [])
     (leaving (dealt 1)
-    (stores ssdImage 1
+    (stores ssd_image 1
     (meta_page (3 ∷ 0 ∷ 0 ∷ 0 ∷ 1 ∷ 0 ∷ []) (239 ∷ 0 ∷ 0 ∷ 0 ∷ []) (replicate 1912 0 ++ (5 ∷ 0 ∷ 0 ∷ 0 ∷ 7 ∷ 0 ∷ 0 ∷ 0 ∷ []))))
     (boxed many (replicate 478 0 ++ (5 ∷ 7 ∷ 0 ∷ 0 ∷ [])) 240 3 (slots_from 239 1)))
     ∷ move (offer_list (5 ∷ 3 ∷ []) 0) (boxed many (replicate 480 0 ++ (3 ∷ 3 ∷ [])) 239 2 [])
     (leaving (dealt 2)
-    (stores ssdImage 1
+    (stores ssd_image 1
     (meta_page (3 ∷ 0 ∷ 0 ∷ 0 ∷ 1 ∷ 0 ∷ []) (239 ∷ 0 ∷ 0 ∷ 0 ∷ []) (replicate 1912 0 ++ (5 ∷ 0 ∷ 0 ∷ 0 ∷ 7 ∷ 0 ∷ 0 ∷ 0 ∷ []))))
     (boxed many (replicate 478 0 ++ (5 ∷ 7 ∷ 3 ∷ 3 ∷ [])) 240 3 (slots_from 239 1)))
     ∷ []
@@ -130,11 +130,11 @@ abbrev pub crowded : List Case
 crowded =
     move (offer_list (blocks_from 20 10) 1) (boxed (label_of 12 32) (writing_from 0 1 ++ replicate 22 0) 1 2 (slots_from 0 1))
     (leaving (dealt 8)
-    (stores ssdImage 1 (meta_page (3 ∷ 0 ∷ 0 ∷ 0 ∷ 9 ∷ 0 ∷ []) (words_from 0 9) (entries_from 0 1 ++ entries_from 20 8)))
+    (stores ssd_image 1 (meta_page (3 ∷ 0 ∷ 0 ∷ 0 ∷ 9 ∷ 0 ∷ []) (words_from 0 9) (entries_from 0 1 ++ entries_from 20 8)))
     (by (0 ∷ replicate 8 1) (boxed (label_of 12 32) (writing_from 0 1 ++ (writing_from 20 8 ++ replicate 6 0)) 9 3 (slots_from 0 9))))
     ∷ move (offer_list (80 ∷ 81 ∷ []) 0) (boxed (label_of 65 90) (writing_from 0 62 ++ replicate 6 0) 62 2 (slots_from 0 62))
     (leaving (dealt 1)
-    (stores ssdImage 1 (meta_page (3 ∷ 0 ∷ 0 ∷ 0 ∷ 63 ∷ 0 ∷ []) (words_from 0 63) (entries_from 0 62 ++ entries_from 80 1)))
+    (stores ssd_image 1 (meta_page (3 ∷ 0 ∷ 0 ∷ 0 ∷ 63 ∷ 0 ∷ []) (words_from 0 63) (entries_from 0 62 ++ entries_from 80 1)))
     (boxed (label_of 65 90) (writing_from 0 62 ++ (80 ∷ 7 ∷ 0 ∷ 0 ∷ 0 ∷ 0 ∷ [])) 63 3 (slots_from 0 63)))
     ∷ []
 
@@ -149,10 +149,10 @@ bad_scans =
     ∷ condition bad_scan (offer_list (7 ∷ 8 ∷ 9 ∷ 8 ∷ []) 0) (boxed one [] 0 2 []) true
     ∷ condition bad_scan (offer_list (blocks_from 0 63) 0) (boxed one [] 0 2 []) false
     ∷ condition bad_scan (offer_list (blocks_from 0 64) 0) (boxed one [] 0 2 []) true
-    ∷ condition stampsSpent (offer_list (5 ∷ []) 0) (four (5 ∷ 3 ∷ 0 ∷ 0 ∷ 0 ∷ 0 ∷ 0 ∷ 0 ∷ []) 1 4294967232 Ready false []) false
-    ∷ condition stampsSpent (offer_list (5 ∷ 6 ∷ []) 0) (four (5 ∷ 3 ∷ 0 ∷ 0 ∷ 0 ∷ 0 ∷ 0 ∷ 0 ∷ []) 1 4294967232 Ready false []) true
-    ∷ condition stampsSpent (offer_list (5 ∷ 6 ∷ []) 0) (four (5 ∷ 3 ∷ 0 ∷ 0 ∷ 0 ∷ 0 ∷ 0 ∷ 0 ∷ []) 1 4294967231 Ready false []) false
-    ∷ condition stampsSpent (offer_list (1 ∷ []) 0) (boxed one (0 ∷ 3 ∷ []) 0 4294967232 []) false
+    ∷ condition stamps_spent (offer_list (5 ∷ []) 0) (four (5 ∷ 3 ∷ 0 ∷ 0 ∷ 0 ∷ 0 ∷ 0 ∷ 0 ∷ []) 1 4294967232 Ready false []) false
+    ∷ condition stamps_spent (offer_list (5 ∷ 6 ∷ []) 0) (four (5 ∷ 3 ∷ 0 ∷ 0 ∷ 0 ∷ 0 ∷ 0 ∷ 0 ∷ []) 1 4294967232 Ready false []) true
+    ∷ condition stamps_spent (offer_list (5 ∷ 6 ∷ []) 0) (four (5 ∷ 3 ∷ 0 ∷ 0 ∷ 0 ∷ 0 ∷ 0 ∷ 0 ∷ []) 1 4294967231 Ready false []) false
+    ∷ condition stamps_spent (offer_list (1 ∷ []) 0) (boxed one (0 ∷ 3 ∷ []) 0 4294967232 []) false
     ∷ []
 
 Scans : AllHold scans

@@ -7,7 +7,7 @@ use Rattle.protocol.specs.Reply.{announced, dealt, done, refusal, overwrite, loo
 use Rattle.protocol.specs.declared.Condition.TheVariants.{NotCached, Clean, Dirty, Writing, Fetching}
 use Rattle.record.specs.Record.{record_of}
 use Rattle.protocol.specs.Box.{Box}
-use Rattle.protocol.specs.Plan.{step, flush, offer, land, fetch, lookUp, view, landFetch, look_up_list, offer_list}
+use Rattle.protocol.specs.Plan.{step, flush, offer, land, fetch, look_up, view, land_fetch, look_up_list, offer_list}
 use Rattle.protocol.specs.Events.{call, start_of, cut, old, new}
 use Rattle.protocol.proofs.cases.Report.{nothing, meta, slot, line, disk_of, lost, start, filled, meta_page, label_page, pages, rubbish}
 use Rattle.protocol.proofs.cases.Known.{Sized, known}
@@ -23,8 +23,8 @@ use Rattle.protocol.proofs.cases.Cases.{start_one, start_two, sized_usual, sized
 abbrev pub both_open : Script
 both_open =
     scripted two (start two)
-    (call (offer (record { 0 = 2 }) 0) ∷ call (fetch (record { 0 = 1 }) 0) ∷ call (lookUp (record { 0 = 2 })) ∷ call
-    (lookUp (record { 0 = 1 })) ∷ [])
+    (call (offer (record { 0 = 2 }) 0) ∷ call (fetch (record { 0 = 1 }) 0) ∷ call (look_up (record { 0 = 2 })) ∷ call
+    (look_up (record { 0 = 1 })) ∷ [])
     (record { 0 = 1 } ∷ record { 0 = 2 } ∷ [])
     (record {
       lines =
@@ -54,8 +54,8 @@ panelled = record {
 abbrev pub panel : Script
 panel =
     scripted usual (start_of usual panelled)
-    (call (lookUp (record { 0 = 0 })) ∷ call (lookUp (record { 0 = 1 })) ∷ call (lookUp (record { 0 = 2 })) ∷ call
-    (lookUp (record { 0 = 3 })) ∷ call (lookUp (record { 0 = 4 })) ∷ [])
+    (call (look_up (record { 0 = 0 })) ∷ call (look_up (record { 0 = 1 })) ∷ call (look_up (record { 0 = 2 })) ∷ call
+    (look_up (record { 0 = 3 })) ∷ call (look_up (record { 0 = 4 })) ∷ [])
     (record { 0 = 0 } ∷ record { 0 = 1 } ∷ record { 0 = 2 } ∷ record { 0 = 3 } ∷ record { 0 = 4 } ∷ [])
     (record {
       lines =
@@ -162,7 +162,7 @@ abbrev pub edited : Script
 edited =
     scripted two (start two)
     (call (offer (record { 0 = 0 }) 0) ∷ call (land (record { 0 = 0 }) (filled 9)) ∷ call (fetch (record { 0 = 1 }) 0) ∷ call
-    (landFetch (record { 0 = 1 })) ∷ call (offer (record { 0 = 2 }) 0) ∷ [])
+    (land_fetch (record { 0 = 1 })) ∷ call (offer (record { 0 = 2 }) 0) ∷ [])
     (record { 0 = 0 } ∷ [])
     (record {
       lines =
@@ -186,8 +186,8 @@ edited =
 abbrev pub mapped : Script
 mapped =
     scripted two (start two)
-    (call (fetch (record { 0 = 0 }) 0) ∷ call (landFetch (record { 0 = 0 })) ∷ call (fetch (record { 0 = 1 }) 0) ∷ call
-    (look_up_list (0 ∷ 2 ∷ 1 ∷ 0 ∷ []) 4) ∷ call (landFetch (record { 0 = 1 })) ∷ call (look_up_list [] 0) ∷ call
+    (call (fetch (record { 0 = 0 }) 0) ∷ call (land_fetch (record { 0 = 0 })) ∷ call (fetch (record { 0 = 1 }) 0) ∷ call
+    (look_up_list (0 ∷ 2 ∷ 1 ∷ 0 ∷ []) 4) ∷ call (land_fetch (record { 0 = 1 })) ∷ call (look_up_list [] 0) ∷ call
     (offer (record { 0 = 2 }) 0) ∷ [])
     (record { 0 = 0 } ∷ [])
     (record {

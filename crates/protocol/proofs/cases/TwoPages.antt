@@ -8,7 +8,7 @@ use lib.ListN.{replicate}
 use Rattle.record.specs.declared.Phase.TheVariants.{Recovering, Ready}
 use Rattle.protocol.specs.Reply.{done}
 use Rattle.record.specs.Record.{record_of}
-use Rattle.protocol.specs.Box.{Effect, ssdImage}
+use Rattle.protocol.specs.Box.{Effect, ssd_image}
 use Rattle.protocol.specs.Plan.{step, flush}
 use Rattle.protocol.specs.Recovery.{Recovered}
 use Rattle.protocol.proofs.cases.Report.{meta_page}
@@ -34,7 +34,7 @@ storing p page r = record {
   said = done;
   state = r.state;
   table = r.table;
-  store = some (record { image = ssdImage; place = suc p; bytes = page });
+  store = some (record { image = ssd_image; place = suc p; bytes = page });
 }
 
 -- "store metadata page 0": of two metadata pages

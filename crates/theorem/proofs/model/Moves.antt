@@ -48,7 +48,7 @@ pub record Lands (x : Model) (s b : ℕ) (d : Page) : Type 0 where
   pub held : valid (x.row s) ≡ true
   pub holds_b : block_of (x.row s) ≡ b
   pub slot_below_is : s < x.slots
-  pub block-below : b < x.blocks
+  pub block_below_is : b < x.blocks
 
 -- a sound move leaves a ready box, and the plain disk agrees
 module _ (x : Model) (p : Plain) (R : Ready x p) where

@@ -29,15 +29,15 @@ use Rattle.record.specs.declared.Phase.TheVariants.{Formatting, Ready}
 use Rattle.protocol.specs.Reply.{refused, done}
 use Rattle.record.specs.Record.{window_in, record_of}
 use Rattle.protocol.specs.Rows.{each_row}
-use Rattle.protocol.specs.Box.{Box, ssdImage, Store, Effect, left, box_after}
+use Rattle.protocol.specs.Box.{Box, ssd_image, Store, Effect, left, box_after}
 use Rattle.protocol.specs.Plan.{format, step, plan}
 use Rattle.protocol.specs.Perform.{begun, format_store, format_state, perform}
-use Rattle.protocol.specs.Judge.{Reason, badLimits, wrongLength, lengths_test, length_test, row_test, rows_test, test, judged}
+use Rattle.protocol.specs.Judge.{Reason, bad_limits, wrong_length, lengths_test, length_test, row_test, rows_test, test, judged}
 use Rattle.record.specs.Rule.{record_test}
 use Rattle.protocol.specs.Calls.{decided, effect_of, result_of}
 use Rattle.protocol.specs.Events.{steps, formatted}
 use Rattle.protocol.specs.Beside.{WholeFormat}
-use Rattle.record.proofs.WindowLaws.{length-array, zero_past}
+use Rattle.record.proofs.WindowLaws.{length-array, zero_past_lem}
 use Rattle.record.proofs.CallerLaws.{zeros_test}
 use Rattle.laws.proofs.refine.Tables.{each_of}
 use Rattle.laws.proofs.Judged.{passed, accepted}
@@ -83,18 +83,18 @@ no_window l ph = refl
 
 -- where each step stores
 store_meta : (l : Label) (p : ℕ) → p < meta_span l
-    → store_at l (suc p) ≡ record { image = ssdImage; place = meta_place l p; bytes = meta_bytes l 0 [] (rows_on p (free_table l)) }
+    → store_at l (suc p) ≡ record { image = ssd_image; place = meta_place l p; bytes = meta_bytes l 0 [] (rows_on p (free_table l)) }
 store_meta l p h = rw (format_store, lt-leb (meta_span l) p h)
 
 store-label : (l : Label) (p : ℕ) → meta_span l ≤ p
-    → store_at l (suc p) ≡ record { image = ssdImage; place = label_place; bytes = encode_label l }
+    → store_at l (suc p) ≡ record { image = ssd_image; place = label_place; bytes = encode_label l }
 store-label l p h = rw (format_store, le-leb (meta_span l) p h)
 
-on_ssd : (l : Label) (d : ℕ) → (store_at l d).image ≡ ssdImage
+on_ssd : (l : Label) (d : ℕ) → (store_at l d).image ≡ ssd_image
 on_ssd l zero = refl
 on_ssd l (suc p) = go (dec_lt p (meta_span l))
   where
-    go : Dec (p < meta_span l) → (store_at l (suc p)).image ≡ ssdImage
+    go : Dec (p < meta_span l) → (store_at l (suc p)).image ≡ ssd_image
     go (yes h) = ap (λ (s : Store). s.image) (store_meta l p h)
     go (no h) = ap (λ (s : Store). s.image) (store-label l p (omega arith))
 
@@ -112,7 +112,7 @@ module _ (l : Label) (ssd hdd : List ℕ) (d : ℕ) (L : Limits l) (hs : length 
     le-leb _ _ hd,
     length-array [] (omega arith),
     no_window l (Formatting d),
-    zero_past [],
+    zero_past_lem [],
   ) (zeros_test (Formatting d) 0)
 
   length_pass : length_test l (record { ssd = ssd; hdd = hdd }) (free_table l) ≡ true
@@ -282,11 +282,11 @@ format-begun slots blocks x = go (judged (format slots blocks) x) refl
     go (some r) e h = clash {b = true} refl h
     go none e h =
         let q = passed (format slots blocks) x e in
-        let t = and_parts _ _ (not-false _ (q wrongLength refl)) in
+        let t = and_parts _ _ (not-false _ (q wrong_length refl)) in
         let a = and_parts (eqb (length x.images.ssd) (ssd_length l)) _ t.0 in
         let b = and_parts (eqb (length x.images.hdd) (hdd_length l)) _ a.1 in
         record {
-          limits = (within l).0 (not-false _ (q badLimits refl));
+          limits = (within l).0 (not-false _ (q bad_limits refl));
           ssd-size = eqb-true _ _ a.0;
           hdd-size = eqb-true _ _ b.0;
           effect = refl;

@@ -122,13 +122,13 @@ unfolding meta_no
 fewer w e =
     let q = page_pending w e in
     let h : has (nums w) q.slot.0 ≡ true = has_nums w q.slot.0 ∙ q.there in
-    let off-it : not (eqb (meta_no q.slot.0) (lowest_page w)) ≡ false = rw q.onto (rw (eqb_same (lowest_page w))) in
+    let off_it : not (eqb (meta_no q.slot.0) (lowest_page w)) ≡ false = rw q.onto (rw (eqb_same (lowest_page w))) in
     omega (
       arith,
       length_nums w,
       length_nums (off_page (lowest_page w) w),
       ap length (nums_off (lowest_page w) w),
-      length_keep_lt (λ t. not (eqb (meta_no t) (lowest_page w))) (nums w) q.slot.0 h off-it,
+      length_keep_lt (λ t. not (eqb (meta_no t) (lowest_page w))) (nums w) q.slot.0 h off_it,
     )
 
 -- a mending step

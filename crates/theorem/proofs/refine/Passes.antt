@@ -17,7 +17,7 @@ use Rattle.protocol.specs.Rows.{row_block, row_flags, valid, dirty, writing}
 use Rattle.record.specs.Record.{window_in}
 use Rattle.layout.specs.Window.{array_of}
 use Rattle.layout.specs.Stamps.{largest_stamp}
-use Rattle.protocol.specs.Plan.{step, flush, lookUp, view, flushing, plan, stores_meta, Call}
+use Rattle.protocol.specs.Plan.{step, flush, look_up, view, flushing, plan, stores_meta, Call}
 use Rattle.record.specs.Rule.{steps_test}
 use Rattle.protocol.specs.Judge.{is_empty, agree_test, test, judged, lent_test, asked_first}
 use Rattle.laws.proofs.model.Base as base
@@ -39,9 +39,9 @@ use Rattle.record.proofs.Each.{listed_same}
 use Rattle.laws.proofs.why.RowsRules.{agree_same}
 
 -- a legal row that is free is zero
-free_zero : {l : Label} {b f : ℕ} → LegalRow l b f → row_of b (f % 8) ≡ Row.free → (b ≡ 0) × (f ≡ 0)
+free_zero_lem : {l : Label} {b f : ℕ} → LegalRow l b f → row_of b (f % 8) ≡ Row.free → (b ≡ 0) × (f ≡ 0)
 unfolding row_of
-free_zero {l} {b} {f} r = by r.flags r.free
+free_zero_lem {l} {b} {f} r = by r.flags r.free
   where
     not_free : {q : Row} {A : Type 0} → model.valid q ≡ true → q ≡ Row.free → A
     not_free v e = clash v (ap model.valid e)
@@ -96,8 +96,8 @@ module _ (l : Label) (k : Core) (S : Shape l k) (T : Sound l k.table k.window) (
   pub view_judged : (b : Block) → b.0 < l.blocks → judged (view b) (box_of_core l k) ≡ none
   view_judged b h = accepted (view b) (box_of_core l k) (ready-first (view b) refl refl) (unfold test in (lt-leb _ _ h, tt))
 
-  pub look_judged : (b : Block) → b.0 < l.blocks → judged (lookUp b) (box_of_core l k) ≡ none
-  look_judged b h = accepted (lookUp b) (box_of_core l k) (ready-first (lookUp b) refl refl) (unfold test in (lt-leb _ _ h, tt))
+  pub look_judged : (b : Block) → b.0 < l.blocks → judged (look_up b) (box_of_core l k) ≡ none
+  look_judged b h = accepted (look_up b) (box_of_core l k) (ready-first (look_up b) refl refl) (unfold test in (lt-leb _ _ h, tt))
 
 -- and its stamps
 module _ (l : Label) (k : Core) (S : Shape l k) (p : Plain) (R : model.Ready (abs l k) p) where
@@ -141,7 +141,7 @@ module _ (l : Label) (k : Core) (S : Shape l k) (p : Plain) (M : Mending (abs l 
 
   pending_zero : (s : Slot) → listed s k.window ≡ true → (eqb (row_block k.table s).0 0 && eqb (row_flags k.table s) 0) ≡ true
   pending_zero s h =
-      let z = free_zero (S.rows s.0 (pending_low s.0 h)) (pending_free s h) in
+      let z = free_zero_lem (S.rows s.0 (pending_low s.0 h)) (pending_free s h) in
       rw (z.0, z.1)
 
   pub shut_row : (s : ℕ) → open_row (row_at k.table s) ≡ false

@@ -31,7 +31,7 @@ use Rattle.laws.proofs.model.Base.{upd}
 use Rattle.laws.proofs.model.Model as model
 use Rattle.laws.proofs.model.Model.{Plain, dirty_row, open_row, settle, stored, opened, flushed, landed}
 use Rattle.laws.proofs.model.Rows.{dirty-valid}
-use Rattle.theorem.proofs.model.Moves.{Copies, Lands, landing as modelLanding, copies-ready, lands-ready, fetch_ready}
+use Rattle.theorem.proofs.model.Moves.{Copies, Lands, landing as model_landing, copies-ready, lands-ready, fetch_ready}
 use Rattle.theorem.proofs.model.Flushed.{flushed_ready, settled_ready}
 use Rattle.laws.proofs.refine.Windows.{length_nums, distinct_nums}
 use Rattle.laws.proofs.refine.Tables.{row_at, at_open, at_valid, at_dirty}
@@ -178,7 +178,7 @@ module _ (l : Label) (k : Core) (S : Shape l k) (d : Disk) (p : Plain) (A : Agre
     lands_asks : {b s : ℕ} (page : List ℕ) → Held l k.table b s → b < l.blocks → Lands (abs l k) s b page
     unfolding abs
     lands_asks page H bl = let r = held_row S.rows H in
-        record { held = r.0; holds_b = r.1; slot_below_is = H.low; block-below = bl }
+        record { held = r.0; holds_b = r.1; slot_below_is = H.low; block_below_is = bl }
 
     lands_next : (write : Bool) {b s : ℕ} (page : List ℕ) (p' : Plain) (o : Bool) → Held l k.table b s → length page ≡ 4096
         → writing (get_or k.table (2 * s + 1) 0) ≡ o → Agrees l (fed_call a.purpose a.block d) p'
@@ -205,7 +205,7 @@ module _ (l : Label) (k : Core) (S : Shape l k) (d : Disk) (p : Plain) (A : Agre
         fetch_ready (abs l k) p R (lands_asks (page_at k.hdd b) H bl) (at_open l k.table S.rows s H.low ∙ w)
 
     written-ready : {b s : ℕ} (page : List ℕ) → Held l k.table b s → b < l.blocks → dirty (get_or k.table (2 * s + 1) 0) ≡ true
-        → model.Ready (landed s page (abs l k)) (modelLanding b page p)
+        → model.Ready (landed s page (abs l k)) (model_landing b page p)
     unfolding abs
     written-ready {b} {s} page H bl y =
         lands-ready (abs l k) p R (lands_asks page H bl) (at_dirty l k.table S.rows s H.low ∙ y)
@@ -225,8 +225,8 @@ module _ (l : Label) (k : Core) (S : Shape l k) (d : Disk) (p : Plain) (A : Agre
         (stored_shape l k S (newest_is l k S p R) h k.table T.size T.legal k.hand S.hand_ok k.window T.rule
         k.callers 0 first k.recovering S.callers) A' (rw e (flushed_ready (abs l k) p R (unfold abs in u)))
 
-  agrees_written : (b : Block) (page : List ℕ) → Agrees l (written b page d) (modelLanding b.0 page p)
-  unfolding modelLanding upd
+  agrees_written : (b : Block) (page : List ℕ) → Agrees l (written b page d) (model_landing b.0 page p)
+  unfolding model_landing upd
   agrees_written b page = record {
     page = λ c h. ap (λ (q : List ℕ). cond (eqb c b.0) page q) (A.page c h);
     contents = λ c h. contents_at c h (eqb c b.0) refl;

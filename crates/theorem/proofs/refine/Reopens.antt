@@ -36,7 +36,7 @@ use Rattle.laws.proofs.refine.Windows.{nums, has_nums, empty_nums}
 use Rattle.laws.proofs.refine.Flags.{row_of}
 use Rattle.laws.proofs.refine.Tables.{row_at, row_at_out, Rows}
 use Rattle.laws.proofs.refine.Metas.{length_metas}
-use Rattle.laws.proofs.refine.Entries.{length-rows, rows-block, rows_flags, LegalEntry, legal_entry, SameEntry, same_entry, entry_in_lem, recovered-row, recovered-legal, each_legal_lem, stamps_differ_lem, none_twice_lem, all_open}
+use Rattle.laws.proofs.refine.Entries.{length-rows, rows-block, rows_flags, LegalEntry, legal_entry, SameEntry, same_entry, entry_in_lem, recovered-row, recovered-legal, each_legal_lem, stamps_differ_lem, none_twice_lem, all_open_lem}
 use Rattle.laws.proofs.Judged.{accepted}
 use Rattle.theorem.proofs.refine.Performed.{phase_empty}
 use Rattle.laws.proofs.refine.Callers.{nobody_kept}
@@ -168,7 +168,7 @@ module _ (l : Label) (k : Core) (p : Plain) (K : ImagesKept l k.ssd k.hdd) (St :
               apart-rows s u i hu (sym (ap valid (f s hs)) ∙ v) (sym (ap valid (f u hu)) ∙ w) (sym (b s hs) ∙ e ∙ b u hu)
 
       open_pass : Rattle.protocol.specs.Recovery.all_open_in (metas_of l k.ssd) (newest_of (metas_of l k.ssd)).window ≡ true
-      open_pass = unfold window entry in (all_open (metas_of l k.ssd) (newest_of (metas_of l k.ssd)).window
+      open_pass = unfold window entry in (all_open_lem (metas_of l k.ssd) (newest_of (metas_of l k.ssd)).window
           (λ s h. window_open s.0 h))
 
   -- it is taken

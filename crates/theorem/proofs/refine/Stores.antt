@@ -116,7 +116,7 @@ module _
           slots-most = limits.slots-most;
           blocks-most = limits.blocks-most;
           stamp_fits = t-fits;
-          stamp_zero = z;
+          stamp_zero_is = z;
           window_most_is = few;
           in_range_is = ranged;
           apart = sym (distinct_nums w) ∙ W.apart;

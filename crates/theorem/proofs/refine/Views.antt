@@ -15,7 +15,7 @@ use Rattle.protocol.specs.declared.Condition.{Condition}
 use Rattle.protocol.specs.declared.Condition.TheVariants.{NotCached, Clean, Dirty, Writing, Fetching}
 use Rattle.protocol.specs.Rows.{valid, writing}
 use Rattle.protocol.specs.Condition.{condition_of}
-use Rattle.protocol.specs.Plan.{lookUp, view, looking_up, plan}
+use Rattle.protocol.specs.Plan.{look_up, view, looking_up, plan}
 use Rattle.protocol.specs.Perform.{perform}
 use Rattle.protocol.specs.Judge.{Reason}
 use Rattle.protocol.specs.Calls.{effect_of, result_of, view_part, viewed, view_of}
@@ -149,7 +149,7 @@ module _ (l : Label) (k : Core) (S : Shape l k) (R : Legible l k) (b : ℕ) (b-l
   said-slot (Writing s) = refl
   said-slot (Fetching s) = refl
 
-  pub look_slot : slot_said (result_of (lookUp (record { 0 = b })) (box_of_core l k)).said ≡ as_slot (places.slot_of (abs l k) b)
+  pub look_slot : slot_said (result_of (look_up (record { 0 = b })) (box_of_core l k)).said ≡ as_slot (places.slot_of (abs l k) b)
   unfolding effect_of plan places.slot_of block abs
   look_slot = rw (look_judged l k S R.sound R.on (record { 0 = b }) b-low)
       (said-slot (condition_of k.table (record { 0 = b })) ∙ (by_condition here).1)
@@ -172,7 +172,7 @@ module _ (l : Label) (k : Core) (S : Shape l k) (R : Legible l k) (b : ℕ) (b-l
           let q : t ≡ s.0 = ap number_of f in
           rw o (ap (λ (n : ℕ). page_at k.ssd (data_place l (record { 0 = n }))) q)
 
-  pub look_page : (s : Slot) → slot_said (result_of (lookUp (record { 0 = b })) (box_of_core l k)).said ≡ some s
+  pub look_page : (s : Slot) → slot_said (result_of (look_up (record { 0 = b })) (box_of_core l k)).said ≡ some s
       → seen.view (abs l k) b ≡ page_at k.ssd (data_place l s)
   unfolding seen.view places.slot_of abs
   look_page s e = named (seen.find (row_at k.table) l.slots b) s (sym look_slot ∙ e)

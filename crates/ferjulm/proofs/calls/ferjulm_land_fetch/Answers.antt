@@ -1,7 +1,7 @@
 use mathlib.Core.Path.{◌≡◌, sym, ◌∙◌}
 use mathlib.Core.Bool.{true}
 use borrow.Author.Tests.{not-true, not-false}
-use Rattle.protocol.specs.Plan.{landFetch}
+use Rattle.protocol.specs.Plan.{land_fetch}
 use Rattle.c_record.specs.Words.{is_record}
 use Rattle.c_closing.proofs.ClosedLaws.{record_length}
 use Rattle.ferjulm.proofs.CodeLaws.{barred, past}
@@ -11,7 +11,7 @@ use Rattle.ferjulm.proofs.calls.ferjulm_land_fetch.Goals.{Else-not-is_record}
 pub returns-then-not-is_record : goal.returns-then-not-is_record
 returns-then-not-is_record c =
     let a = c.args in
-    let b = barred (landFetch (record { 0 = a.block })) a.ssd.now a.hdd.now a.table.now a.words.now (sym c.is_record.ensures ∙ c.if-not-is_record.true) in
+    let b = barred (land_fetch (record { 0 = a.block })) a.ssd.now a.hdd.now a.table.now a.words.now (sym c.is_record.ensures ∙ c.if-not-is_record.true) in
     (b.left, b.place (record { image = a.image.now; offset = a.offset.now }))
 
 -- past the first test the words are a record
@@ -29,6 +29,6 @@ pub returns : goal.returns
 returns c =
     let o = c.land_fetch-outcome in
     let a = c.args in
-    let k = past (landFetch (record { 0 = a.block })) a.ssd.now a.hdd.now a.table.now a.words.now
+    let k = past (land_fetch (record { 0 = a.block })) a.ssd.now a.hdd.now a.table.now a.words.now
     c.unpack-state.result o.result c.unpack-state.ensures o.ensures (legal (goal.at.returns c).Else-not-is_record) in
     (k.left c.ended.ensures.0, k.place _ c.ended.ensures.1)

@@ -2,7 +2,7 @@ use mathlib.Core.Path.{◌≡◌, refl}
 use mathlib.Core.Bool.{true, false}
 use Rattle.protocol.specs.declared.Condition.{Condition}
 use Rattle.protocol.specs.Box.{left, refusing}
-use Rattle.protocol.specs.Plan.{landFetch, landing_fetch}
+use Rattle.protocol.specs.Plan.{land_fetch, landing_fetch}
 use Rattle.protocol.specs.Perform.{perform}
 use Rattle.protocol.specs.Condition.{takes_fetch}
 use Rattle.protocol.specs.Calls.{box_of, land_fetch_of}
@@ -40,7 +40,7 @@ pub returns-then-number-ne0 : goal.returns-then-number-ne0
 returns-then-number-ne0 c =
     let a = c.args in
     rw c.refused.ensures
-    (refused_by (landFetch a.block) (box_of a.ssd.now a.hdd.now a.table.now a.state) _ _ (land_fetch_judges a.ssd.now a.hdd.now a.table.now a.state a.block) c.judge_block-seen.result.number
+    (refused_by (land_fetch a.block) (box_of a.ssd.now a.hdd.now a.table.now a.state) _ _ (land_fetch_judges a.ssd.now a.hdd.now a.table.now a.state a.block) c.judge_block-seen.result.number
     (found _ a.table.now a.block c.judge_block-seen.ensures) c.if-number-ne0.true)
 
 pub copy_in-stored-requires : goal.copy_in-stored-requires

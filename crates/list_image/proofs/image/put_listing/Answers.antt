@@ -2,7 +2,7 @@ use mathlib.Core.Path.{sym, ◌∙◌}
 use borrow.Author.Tests.{eq-eqb, ne_eqb, le-leb, lt-leb, not-true, not-false}
 use Rattle.stored.proofs.ReadLaws.{limits}
 use Rattle.fields.proofs.WrittenLaws.{written_as}
-use Rattle.list_image.proofs.ImageLaws.{unlabelled, wrong_length, too_long, bad_pages, listed_as}
+use Rattle.list_image.proofs.ImageLaws.{unlabelled, wrong_length_is, too_long, bad_pages, listed_as}
 use native.Mathlib.Omega.{arith}
 use Rattle.list_image.proofs.image.put_listing.Goals as goal
 
@@ -13,7 +13,7 @@ returns-in_default c =
 pub returns-then-ssd-ssd_length : goal.returns-then-ssd-ssd_length
 returns-then-ssd-ssd_length c =
     let l = sym c.label_of.ensures ∙ c.in-Legal.is in
-    written_as c.put_refusal-then-ssd-ssd_length.ensures (wrong_length _ _ l (ne_eqb _ _ (λ q. c.if-ssd-ssd_length.true (q ∙ sym c.ssd_length.ensures))))
+    written_as c.put_refusal-then-ssd-ssd_length.ensures (wrong_length_is _ _ l (ne_eqb _ _ (λ q. c.if-ssd-ssd_length.true (q ∙ sym c.ssd_length.ensures))))
     (omega arith)
 
 pub returns-then-ssd-gt65536 : goal.returns-then-ssd-gt65536

@@ -2,7 +2,7 @@ use mathlib.Core.Path.{◌≡◌, refl}
 use mathlib.Core.Bool.{true, false}
 use Rattle.protocol.specs.declared.Condition.{Condition}
 use Rattle.protocol.specs.Box.{left, refusing}
-use Rattle.protocol.specs.Plan.{writeBack, writing_back}
+use Rattle.protocol.specs.Plan.{write_back, writing_back}
 use Rattle.protocol.specs.Perform.{perform}
 use Rattle.protocol.specs.Condition.{is_open}
 use Rattle.protocol.specs.Calls.{box_of, write_back_of}
@@ -38,7 +38,7 @@ pub returns-then-number-ne0 : goal.returns-then-number-ne0
 returns-then-number-ne0 c =
     let a = c.args in
     rw c.refused.ensures
-    (refused_by (writeBack a.block) (box_of a.ssd.now a.hdd.now a.table.now a.state) _ _ (write_back_judges a.ssd.now a.hdd.now a.table.now a.state a.block) c.judge_block-seen.result.number
+    (refused_by (write_back a.block) (box_of a.ssd.now a.hdd.now a.table.now a.state) _ _ (write_back_judges a.ssd.now a.hdd.now a.table.now a.state a.block) c.judge_block-seen.result.number
     (found _ a.table.now a.block c.judge_block-seen.ensures) c.if-number-ne0.true)
 
 pub copy_out-stored-requires : goal.copy_out-stored-requires

@@ -1,7 +1,7 @@
 use mathlib.Core.Path.{◌≡◌}
 use Rattle.protocol.specs.declared.Condition.{Condition}
 use Rattle.protocol.specs.Box.{left}
-use Rattle.protocol.specs.Plan.{lookUp, looking_up}
+use Rattle.protocol.specs.Plan.{look_up, looking_up}
 use Rattle.protocol.specs.Perform.{perform}
 use Rattle.protocol.specs.Calls.{box_of, look_up_of}
 use Rattle.judging.proofs.JudgingLaws.{found}
@@ -16,7 +16,7 @@ pub returns-then-number-ne0 : goal.returns-then-number-ne0
 returns-then-number-ne0 c =
     let a = c.args in
     rw c.refused.ensures
-    (refused_by (lookUp a.block) (box_of a.ssd.now a.hdd.now a.table.now a.state) _ _
+    (refused_by (look_up a.block) (box_of a.ssd.now a.hdd.now a.table.now a.state) _ _
     (look_up_judges a.ssd.now a.hdd.now a.table.now a.state a.block)
     c.judge_block-seen.result.number (found _ a.table.now a.block c.judge_block-seen.ensures) c.if-number-ne0.true)
 

@@ -1,7 +1,7 @@
 use mathlib.Core.Path.{sym, ◌∙◌}
 use borrow.Author.Tests.{not-true, not-false}
 use Rattle.stored.proofs.ReadLaws.{limits}
-use Rattle.stored.proofs.ReopenLaws.{unlabelled, wrong_length, sizes, bad_pages, taken}
+use Rattle.stored.proofs.ReopenLaws.{unlabelled, wrong_length_is, sizes, bad_pages, taken}
 use Rattle.recovery.proofs.reopen.reopen.Goals as goal
 
 pub returns-in_default : goal.returns-in_default
@@ -15,7 +15,7 @@ pub returns-then-not-lengths_ok : goal.returns-then-not-lengths_ok
 returns-then-not-lengths_ok c =
     let a = c.args in
     rw c.refused-then-not-lengths_ok.ensures
-    (wrong_length a.ssd.now a.hdd.now a.table.now a.state _
+    (wrong_length_is a.ssd.now a.hdd.now a.table.now a.state _
     (sym c.label_of.ensures ∙ c.in-Legal.is)
     (sym c.lengths_ok.ensures ∙ c.if-not-lengths_ok.true))
 
