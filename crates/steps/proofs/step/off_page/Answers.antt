@@ -19,7 +19,7 @@ more_off-left-requires c =
     let l = c.loop-i in
     let w = take l.i c.args.w.slots in
     rw l.invariant.1 record {
-      zero_past_lem = from_zero (off_page c.args.p w);
+      zero_past = from_zero (off_page c.args.p w);
       count_lt_window_most = omega (arith, off_most c.args.p w, length-take l.i c.args.w.slots, c.requires);
     }
 
