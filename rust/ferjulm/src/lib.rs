@@ -1,6 +1,6 @@
 //! An SSD as read and write cache of a slow disk, of which nothing that was flushed is lost by a power cut.
 //!
-//! The calls are proved code behind C functions (`include/ferjulm.h`, linked from `target/staticlib`); this crate lends them
+//! The calls are proved code behind C functions (`include/ferjulm.h`, linked from `crates/ferjulm/out`); this crate lends them
 //! images, table and record safely. "Document 01" is the specification; its words are used as they are. The crate needs no
 //! standard library: the feature `std`, a default one, adds images on the heap and a refusal as an `std::io::Error`.
 //!
