@@ -2,7 +2,7 @@
 use std::env;
 use std::path::PathBuf;
 
-/// Links lib`name`.a, which `rt staticlib` writes to target/staticlib; `FERJULM_LIB_DIR` names another folder, by its whole path.
+/// Links lib`name`.a, which `rt lib` in crates/`name` writes to its folder out; `FERJULM_LIB_DIR` names another folder, by its whole path.
 ///
 /// The clone is asked for as the script runs, and cargo is told a path in it: where two clones have one target folder, cargo runs
 /// the script again for the other one.
@@ -14,14 +14,15 @@ pub fn link(name: &str) {
     );
     println!("cargo:rerun-if-env-changed=FERJULM_LIB_DIR");
     let clone = package.ancestors().nth(2).expect("rust/ and its package");
+    let proved = clone.join("crates").join(name);
     let folder = match env::var_os("FERJULM_LIB_DIR") {
         Some(folder) => PathBuf::from(folder),
-        None => clone.join("target/staticlib"),
+        None => proved.join("out"),
     };
     let library = folder.join(format!("lib{name}.a"));
     if !library.is_file() {
-        let (library, clone) = (library.display(), clone.display());
-        eprintln!("{library} is missing: run `rt staticlib {name}` in {clone}, or set FERJULM_LIB_DIR to the folder that has it");
+        let (library, proved) = (library.display(), proved.display());
+        eprintln!("{library} is missing: run `rt lib` in {proved}, or set FERJULM_LIB_DIR to the folder that has it");
         std::process::exit(1);
     }
     println!("cargo:rerun-if-changed={}", library.display());

@@ -95,9 +95,9 @@ fn week(folder: &Path, listing: &Path) -> Done {
 fn places() -> Result<(PathBuf, PathBuf), Box<dyn std::error::Error>> {
     let package = std::env::var_os("CARGO_MANIFEST_DIR").ok_or("it is run by examples/week/run")?;
     let root = Path::new(&package).join("../..").canonicalize()?;
-    let listing = root.join("target/bin/listing");
+    let listing = root.join("crates/listing/out/listing");
     if !listing.is_file() {
-        return Err(format!("{} is missing: run `rt check listing`", listing.display()).into());
+        return Err(format!("{} is missing: run examples/week/run", listing.display()).into());
     }
     Ok((root, listing))
 }
