@@ -1,11 +1,9 @@
 use borrow.Author.Rules.{rules}
-use Prim.Native.Nat.{◌≤◌, ◌-◌}
+use Prim.Native.Nat.{◌-◌}
 use mathlib.Core.Path.{◌≡◌, sym, ap, ◌∙◌}
-use lib.ListN.{length, take, drop}
+use lib.ListN.{length}
 use borrow.Author.Tests.{eq-eqb, ne_eqb}
-use Rattle.layout.specs.declared.Slot.{Slot}
 use Rattle.layout.proofs.Loops.{go_on, stop, length-mapped}
-use Rattle.protocol.specs.Rows.{row_flags, writing}
 use Rattle.record.specs.Window.{each_place, each_slot}
 use Rattle.record.proofs.WindowLaws.{each_left, row_in, window_end}
 use native.Mathlib.Omega.{arith}

@@ -1,13 +1,9 @@
 use Prim.Native.Nat.{◌≤◌, ◌-◌}
-use mathlib.Core.Path.{◌≡◌, sym, ap, ◌∙◌}
-use lib.ListN.{length, take, drop}
-use borrow.Author.Tests.{eq-eqb, ne_eqb}
+use mathlib.Core.Path.{◌≡◌}
+use lib.ListN.{take, drop}
 use Rattle.layout.specs.declared.Slot.{Slot}
-use Rattle.layout.proofs.Loops.{go_on, stop, length-mapped}
 use Rattle.protocol.specs.Rows.{row_flags, writing}
-use Rattle.record.specs.Window.{each_place, each_slot}
-use Rattle.record.proofs.WindowLaws.{each_left, row_in, window_end}
-use native.Mathlib.Omega.{arith}
+use Rattle.record.specs.Window.{each_slot}
 use Rattle.agreement.proofs.all_writing.Given as goal
 
 abbrev pub invariant-loop-i : goal.invariant-loop-i

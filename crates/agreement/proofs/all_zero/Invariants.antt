@@ -1,15 +1,11 @@
 use Prim.Native.Nat.{◌≤◌, ◌-◌}
-use mathlib.Core.Path.{◌≡◌, sym, ap, ◌∙◌}
+use mathlib.Core.Path.{◌≡◌}
 use mathlib.Core.Bool.{◌&&◌}
-use lib.ListN.{length, take, drop}
+use lib.ListN.{take, drop}
 use lib.Dec.{eqb}
-use borrow.Author.Tests.{not-true, not-false}
 use Rattle.layout.specs.declared.Slot.{Slot}
-use Rattle.layout.proofs.Loops.{go_on, stop, length-mapped}
 use Rattle.protocol.specs.Rows.{row_block, row_flags}
-use Rattle.record.specs.Window.{each_place, each_slot}
-use Rattle.record.proofs.WindowLaws.{each_left, row_in, block_in_lem, window_end}
-use native.Mathlib.Omega.{arith}
+use Rattle.record.specs.Window.{each_slot}
 use Rattle.agreement.proofs.all_zero.Given as goal
 
 abbrev pub invariant-loop-i : goal.invariant-loop-i

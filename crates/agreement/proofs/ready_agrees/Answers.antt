@@ -1,5 +1,4 @@
 use mathlib.Core.Path.{sym, ◌∙◌}
-use borrow.Author.Tests.{not-true, not-false}
 use Rattle.agreement.proofs.ready_agrees.Goals as goal
 
 pub returns-then-not-all_writing : goal.returns-then-not-all_writing

@@ -1,5 +1,5 @@
 use mathlib.Core.Path.{sym, ◌∙◌}
-use borrow.Author.Tests.{not-true, not-false, eq-eqb, ne_eqb}
+use borrow.Author.Tests.{eq-eqb, ne_eqb}
 use Rattle.agreement.proofs.recovering_agrees.Goals as goal
 
 pub returns-then-w-eq0 : goal.returns-then-w-eq0

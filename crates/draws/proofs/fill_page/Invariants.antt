@@ -1,11 +1,9 @@
-use Prim.Native.Nat.{ℕ, ◌+◌, ◌-◌, ◌*◌, ◌≤◌}
-use mathlib.Core.Path.{◌≡◌, refl, ap, ◌∙◌}
+use Prim.Native.Nat.{◌-◌, ◌*◌, ◌≤◌}
+use mathlib.Core.Path.{◌≡◌}
 use lib.ListN.{length}
 use borrow.Rule.Slice.PartMut.{put_mid}
 use Rattle.pages.specs.Words.{le_bytes}
-use Rattle.draws.specs.Draws.{copies, draw_page}
-use Rattle.draws.proofs.DrawLaws.{filled_more, filled-all}
-use native.Mathlib.Omega.{arith}
+use Rattle.draws.specs.Draws.{copies}
 use Rattle.draws.proofs.fill_page.Given as goal
 
 abbrev pub invariant-loop-n : goal.invariant-loop-n

@@ -1,15 +1,14 @@
 use borrow.Author.Rules.{rules}
 use mathlib.Core.Bool.{◌&&◌}
-use borrow.Author.Tests.{not-true, not-false}
 use Rattle.layout.specs.declared.Entry.{Entry}
 use Rattle.layout.proofs.Loops.{go_on, stop, length-mapped}
 use Rattle.protocol.specs.Rows.{valid, writing}
 use Rattle.record.proofs.WindowLaws.{slot-low}
 use Rattle.stored.proofs.RuleLaws.{open_left, open_end}
-use Prim.Native.Nat.{◌-◌, ◌≤◌}
+use Prim.Native.Nat.{◌-◌}
 use mathlib.Core.Path.{◌≡◌, sym, ap, ◌∙◌}
-use lib.ListN.{length, take, drop}
-use Rattle.protocol.specs.Recovery.{metas_of, all_open_in}
+use lib.ListN.{length}
+use Rattle.protocol.specs.Recovery.{metas_of}
 use native.Mathlib.Omega.{arith}
 use Rattle.image_rules.proofs.all_open.Goals as goal
 

@@ -1,6 +1,5 @@
 use mathlib.Core.Path.{◌≡◌, sym, ap, ◌∙◌}
 use lib.ListN.{take}
-use borrow.Author.Tests.{not-true, not-false}
 use Rattle.protocol.specs.Recovery.{metas_of, Newest, newest_of, all_open_in}
 use Rattle.record.proofs.WindowLaws.{take-array}
 use Rattle.laws.proofs.refine.Metas.{length_metas}

@@ -4,11 +4,11 @@ use lib.Dec.{eqb}
 use Rattle.layout.specs.MetaPage.{stamp_of}
 use Rattle.record.proofs.WindowLaws.{hit, miss}
 use Rattle.stored.proofs.RuleLaws.{stamp-left, stamp_end}
-use Prim.Native.Nat.{◌-◌, ◌≤◌, ◌<◌}
-use mathlib.Core.Path.{◌≡◌, sym, ◌∙◌}
-use lib.ListN.{get_or, drop}
+use Prim.Native.Nat.{◌-◌, ◌<◌}
+use mathlib.Core.Path.{sym, ◌∙◌}
+use lib.ListN.{get_or}
 use Rattle.layout.specs.Places.{meta_pages}
-use Rattle.protocol.specs.Recovery.{metas_of, stamp_in}
+use Rattle.protocol.specs.Recovery.{metas_of}
 use native.Mathlib.Omega.{arith}
 use Rattle.image_rules.proofs.stamp_alone.Goals as goal
 

@@ -1,15 +1,8 @@
-use borrow.Author.Tests.{eq-eqb, ne_eqb}
-use mathlib.Core.List.{[]}
-use lib.Dec.{eqb}
-use Rattle.layout.specs.MetaPage.{stamp_of}
-use Rattle.record.proofs.WindowLaws.{hit, miss}
-use Rattle.stored.proofs.RuleLaws.{stamp-left, stamp_end}
-use Prim.Native.Nat.{◌-◌, ◌≤◌, ◌<◌}
-use mathlib.Core.Path.{◌≡◌, sym, ◌∙◌}
-use lib.ListN.{get_or, drop}
+use Prim.Native.Nat.{◌-◌, ◌≤◌}
+use mathlib.Core.Path.{◌≡◌}
+use lib.ListN.{drop}
 use Rattle.layout.specs.Places.{meta_pages}
 use Rattle.protocol.specs.Recovery.{metas_of, stamp_in}
-use native.Mathlib.Omega.{arith}
 use Rattle.image_rules.proofs.stamp_alone.Given as goal
 
 abbrev pub invariant-loop-q : goal.invariant-loop-q

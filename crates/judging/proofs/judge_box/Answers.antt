@@ -1,7 +1,6 @@
 use mathlib.Core.Path.{◌≡◌, sym, ◌∙◌}
 use mathlib.Core.Bool.{true}
 use lib.ListN.{length}
-use borrow.Author.Tests.{not-true, not-false}
 use Rattle.record.specs.Record.{label_in}
 use Rattle.record.specs.Rule.{record_test}
 use Rattle.protocol.specs.Judge.{lengths_test}

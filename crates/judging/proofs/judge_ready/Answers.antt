@@ -1,6 +1,5 @@
 use mathlib.Core.Path.{◌≡◌, sym, ◌∙◌}
 use Prim.Native.Nat.{ℕ}
-use borrow.Author.Tests.{not-true, not-false}
 use Rattle.judging.specs.Judging.{sound_then}
 use Rattle.judging.proofs.JudgingLaws.{sound_asks, stops, goes_on, found}
 use Rattle.judging.proofs.judge_ready.Goals as goal

@@ -8,7 +8,7 @@ use Rattle.table.proofs.ScanLaws.{Scanned, scanned, scan_judges}
 use Rattle.table.proofs.ConditionLaws.{condition_is}
 use Rattle.judging.proofs.JudgingLaws.{rows_bad, rows_agree}
 use Rattle.judging.proofs.look.Goals as goal
-use Rattle.judging.proofs.look.Goals.{After-scan-scan, Else-not-scan, Start}
+use Rattle.judging.proofs.look.Goals.{After-scan-scan, Else-not-scan}
 
 pub scan-scan-requires : goal.scan-scan-requires
 scan-scan-requires c = c.requires.table_len

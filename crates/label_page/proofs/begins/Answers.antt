@@ -1,8 +1,6 @@
-use Prim.Native.Nat.{◌+◌, ◌≤◌, ◌-◌}
+use Prim.Native.Nat.{◌+◌, ◌-◌}
 use native.Mathlib.Nat.{add-zero}
-use mathlib.Core.Path.{◌≡◌, sym, ap, ◌∙◌}
-use lib.ListN.{length, drop}
-use Rattle.layout.specs.LabelPage.{after}
+use mathlib.Core.Path.{sym, ap, ◌∙◌}
 use Rattle.label_page.specs.LabelScan.{found}
 use Rattle.label_page.proofs.LabelSteps.{after_end, after-short, after_turn, after-other}
 use native.Mathlib.Omega.{arith}

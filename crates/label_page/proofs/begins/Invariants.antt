@@ -1,11 +1,8 @@
 use Prim.Native.Nat.{◌+◌, ◌≤◌, ◌-◌}
-use native.Mathlib.Nat.{add-zero}
-use mathlib.Core.Path.{◌≡◌, sym, ap, ◌∙◌}
+use mathlib.Core.Path.{◌≡◌}
 use lib.ListN.{length, drop}
 use Rattle.layout.specs.LabelPage.{after}
 use Rattle.label_page.specs.LabelScan.{found}
-use Rattle.label_page.proofs.LabelSteps.{after_end, after-short, after_turn, after-other}
-use native.Mathlib.Omega.{arith}
 use Rattle.label_page.proofs.begins.Given as goal
 
 abbrev pub invariant-loop-i : goal.invariant-loop-i

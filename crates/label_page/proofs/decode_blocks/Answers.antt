@@ -2,7 +2,6 @@ use Prim.Native.Nat.{◌+◌, ◌≤◌}
 use mathlib.Core.Path.{◌≡◌, sym, ◌∙◌}
 use mathlib.Core.Option.{some}
 use lib.ListN.{length, drop}
-use borrow.Author.Tests.{not-true, not-false}
 use Rattle.layout.specs.LabelPage.{blocks_key, after, number}
 use Rattle.label_page.proofs.LabelReads.{missed, met, read, unread}
 use native.Mathlib.Omega.{arith}

@@ -2,7 +2,6 @@ use Prim.Native.Nat.{◌≤◌}
 use mathlib.Core.Path.{◌≡◌, sym, ◌∙◌}
 use mathlib.Core.Option.{some}
 use lib.ListN.{length, drop}
-use borrow.Author.Tests.{not-true, not-false}
 use native.Mathlib.Omega.{arith}
 use Rattle.layout.specs.LabelPage.{after, number}
 use Rattle.label_page.proofs.LabelReads.{head_text, head_read, missed, met, read, unread}

@@ -1,5 +1,5 @@
 use Prim.Native.Nat.{◌+◌}
-use mathlib.Core.Path.{◌≡◌, ◌∙◌}
+use mathlib.Core.Path.{◌∙◌}
 use mathlib.Core.List.{◌++◌, ◌∷◌, []}
 use lib.ListN.{length}
 use borrow.Rule.Slice.PartMut.{put_mid}

@@ -1,8 +1,8 @@
-use Prim.Native.Nat.{ℕ, ◌+◌, ◌-◌, ◌*◌, ◌^◌, ◌≤◌, ◌<◌}
+use Prim.Native.Nat.{ℕ, ◌+◌, ◌-◌, ◌<◌}
 use mathlib.Core.Path.{◌≡◌, sym, ap, subst, ◌∙◌}
 use mathlib.Core.List.{List}
-use lib.ListN.{length, drop}
-use Rattle.layout.specs.LabelPage.{number_from, number}
+use lib.ListN.{drop}
+use Rattle.layout.specs.LabelPage.{number_from}
 use Rattle.label_page.specs.LabelScan.{scanned_as}
 use Rattle.label_page.proofs.LabelSteps.{scan_found, number_empty, first_digit, first-low, first_high, next_none, next_line, next_low, next_high, next_full, none_more, times_ten, plus_digit, digit_turn}
 use native.Mathlib.Omega.{arith}

@@ -1,11 +1,7 @@
-use Prim.Native.Nat.{ℕ, ◌+◌, ◌-◌, ◌*◌, ◌^◌, ◌≤◌, ◌<◌}
-use mathlib.Core.Path.{◌≡◌, sym, ap, subst, ◌∙◌}
-use mathlib.Core.List.{List}
+use Prim.Native.Nat.{◌+◌, ◌-◌, ◌^◌, ◌≤◌, ◌<◌}
+use mathlib.Core.Path.{◌≡◌}
 use lib.ListN.{length, drop}
 use Rattle.layout.specs.LabelPage.{number_from, number}
-use Rattle.label_page.specs.LabelScan.{scanned_as}
-use Rattle.label_page.proofs.LabelSteps.{scan_found, number_empty, first_digit, first-low, first_high, next_none, next_line, next_low, next_high, next_full, none_more, times_ten, plus_digit, digit_turn}
-use native.Mathlib.Omega.{arith}
 use Rattle.label_page.proofs.scan_number.Given as goal
 
 abbrev pub invariant-loop-i : goal.invariant-loop-i

@@ -1,4 +1,4 @@
-use Prim.Native.Nat.{ℕ, ◌+◌, ◌-◌, ◌≤◌}
+use Prim.Native.Nat.{ℕ, ◌+◌, ◌-◌}
 use mathlib.Core.Logic.{◌≢◌}
 use mathlib.Core.List.{List}
 use mathlib.Core.Path.{◌≡◌, refl, sym, ap, subst, ◌∙◌}
@@ -7,7 +7,6 @@ use native.Mathlib.Omega.{arith}
 use Rattle.layout.specs.declared.Block.{Block}
 use Rattle.layout.specs.declared.Slot.{Slot}
 use Rattle.layout.specs.Places.{meta_of}
-use Rattle.record.specs.declared.Record.{Record}
 use Rattle.record.specs.Record.{label_in}
 use Rattle.record.proofs.RecordLaws.{parts, joined_is}
 use Rattle.turns.specs.declared.turn.Turn.{Turn}
@@ -20,7 +19,7 @@ use Rattle.list_run.specs.Runs.{opened_if, row_if, run_after, table_after_turn, 
 use Rattle.list_run.proofs.RunEndLaws.{goes_passes, run_ends, table-ends}
 use Rattle.list_run.proofs.FairLaws.{fair_seen}
 use Rattle.list_run.proofs.PlacedLaws.{place_turn_is, placing_performs}
-use Rattle.list_run.proofs.RunLaws.{held_more, held_most, Going, going_begin, going_done, Stepped, step, goes_further, ends_there}
+use Rattle.list_run.proofs.RunLaws.{held_more, held_most, going_begin, going_done, Stepped, step, goes_further, ends_there}
 use Rattle.list_run.proofs.run_places.Invariants.{run_of}
 use Rattle.list_run.proofs.run_places.Goals as goal
 use Rattle.list_run.proofs.run_places.Goals.{After-decide-turn, After-open, At-loop-j, In-Opens, Start}

@@ -1,26 +1,10 @@
-use Prim.Native.Nat.{ℕ, ◌+◌, ◌-◌, ◌≤◌}
-use mathlib.Core.Logic.{◌≢◌}
-use mathlib.Core.List.{List}
-use mathlib.Core.Path.{◌≡◌, refl, sym, ap, subst, ◌∙◌}
-use lib.ListN.{length, get_or, length-map}
-use native.Mathlib.Omega.{arith}
-use Rattle.layout.specs.declared.Block.{Block}
-use Rattle.layout.specs.declared.Slot.{Slot}
-use Rattle.layout.specs.Places.{meta_of}
+use Prim.Native.Nat.{ℕ, ◌-◌, ◌≤◌}
+use mathlib.Core.Path.{◌≡◌}
+use lib.ListN.{length}
 use Rattle.record.specs.declared.Record.{Record}
-use Rattle.record.specs.Record.{label_in}
-use Rattle.record.proofs.RecordLaws.{parts, joined_is}
-use Rattle.turns.specs.declared.turn.Turn.{Turn}
-use Rattle.turns.specs.declared.turn.Turn.TheVariants.{Opens}
-use Rattle.turns.specs.Turns.{held_by, Performable}
-use Rattle.turns.proofs.TurnLaws.{crowd_seen, seen_sweeps}
+use Rattle.turns.specs.Turns.{held_by}
 use Rattle.list_run.specs.declared.Run.{Run}
-use Rattle.list_turns.specs.PlaceTurns.{end_by, end_of, place_turn_at}
-use Rattle.list_run.specs.Runs.{opened_if, row_if, run_after, table_after_turn, place_turn}
-use Rattle.list_run.proofs.RunEndLaws.{goes_passes, run_ends, table-ends}
-use Rattle.list_run.proofs.FairLaws.{fair_seen}
-use Rattle.list_run.proofs.PlacedLaws.{place_turn_is, placing_performs}
-use Rattle.list_run.proofs.RunLaws.{held_more, held_most, Going, going_begin, going_done, Stepped, step, goes_further, ends_there}
+use Rattle.list_run.proofs.RunLaws.{Going}
 use Rattle.list_run.proofs.run_places.Given as goal
 
 -- the run so far, as one

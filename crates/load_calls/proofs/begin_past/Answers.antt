@@ -1,5 +1,4 @@
 use mathlib.Core.Path.{sym, ◌∙◌}
-use borrow.Author.Tests.{not-true, not-false}
 use Rattle.load_calls.proofs.OpeningLaws.{not-again, made_again}
 use Rattle.load_calls.proofs.begin_past.Goals as goal
 

@@ -1,6 +1,6 @@
-use Prim.Native.Nat.{ℕ, ◌+◌, ◌-◌, ◌*◌, ◌^◌, ◌≤◌, ◌<◌}
-use mathlib.Core.Path.{◌≡◌, refl, sym, ap, ◌∙◌}
-use lib.ListN.{length, drop}
+use Prim.Native.Nat.{ℕ, ◌+◌, ◌-◌, ◌*◌}
+use mathlib.Core.Path.{refl, sym, ap, ◌∙◌}
+use lib.ListN.{drop}
 use Rattle.layout.specs.LabelPage.{number_from}
 use Rattle.label_page.proofs.LabelSteps.{next_none, next_line, next_low, next_high, next_full, next_digit}
 use Rattle.load_input.proofs.InputLaws.{not-read, too_large, fits_line, nine, digit_more}

@@ -1,10 +1,7 @@
-use Prim.Native.Nat.{ℕ, ◌+◌, ◌-◌, ◌*◌, ◌^◌, ◌≤◌, ◌<◌}
-use mathlib.Core.Path.{◌≡◌, refl, sym, ap, ◌∙◌}
+use Prim.Native.Nat.{◌-◌, ◌^◌, ◌≤◌, ◌<◌}
+use mathlib.Core.Path.{◌≡◌}
 use lib.ListN.{length, drop}
 use Rattle.layout.specs.LabelPage.{number_from}
-use Rattle.label_page.proofs.LabelSteps.{next_none, next_line, next_low, next_high, next_full, next_digit}
-use Rattle.load_input.proofs.InputLaws.{not-read, too_large, fits_line, nine, digit_more}
-use native.Mathlib.Omega.{arith}
 use Rattle.load_input.proofs.read_digits.Given as goal
 
 abbrev pub invariant-loop-i : goal.invariant-loop-i

@@ -1,11 +1,7 @@
-use Prim.Native.Nat.{ℕ, ◌-◌, ◌≤◌}
-use mathlib.Core.Path.{◌≡◌, refl, ap, ◌∙◌}
-use Rattle.protocol.specs.Box.{Box}
+use Prim.Native.Nat.{◌-◌, ◌≤◌}
+use mathlib.Core.Path.{◌≡◌}
 use Rattle.protocol.specs.Calls.{box_of}
-use Rattle.load_text.specs.LoadText.{counted}
 use Rattle.load_run.specs.Runs.{equal_to}
-use Rattle.load_run.proofs.RunLaws.{counted-most, equal_more}
-use native.Mathlib.Omega.{arith}
 use Rattle.load_run.proofs.count_equal.Given as goal
 
 abbrev pub invariant-loop-b : goal.invariant-loop-b

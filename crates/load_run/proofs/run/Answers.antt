@@ -1,11 +1,6 @@
 use borrow.Author.Rules.{rules}
-use Prim.Native.Nat.{ℕ, ◌-◌, ◌≤◌}
-use mathlib.Core.Path.{◌≡◌, refl, sym, ◌∙◌}
-use mathlib.Core.List.{List}
-use lib.ListN.{length}
-use Rattle.record.specs.declared.Record.{Record}
-use Rattle.protocol.specs.Calls.{box_of}
-use Rattle.load_run.specs.Runs.{Load, run_from}
+use Prim.Native.Nat.{◌-◌}
+use mathlib.Core.Path.{refl, sym, ◌∙◌}
 use Rattle.load_run.proofs.RunLaws.{run_none, counted-most, run_more, run-done}
 use native.Mathlib.Omega.{arith}
 use Rattle.load_run.proofs.run.Invariants.{load_of}

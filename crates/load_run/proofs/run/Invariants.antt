@@ -1,12 +1,10 @@
 use Prim.Native.Nat.{ℕ, ◌-◌, ◌≤◌}
-use mathlib.Core.Path.{◌≡◌, refl, sym, ◌∙◌}
+use mathlib.Core.Path.{◌≡◌}
 use mathlib.Core.List.{List}
 use lib.ListN.{length}
 use Rattle.record.specs.declared.Record.{Record}
 use Rattle.protocol.specs.Calls.{box_of}
 use Rattle.load_run.specs.Runs.{Load, run_from}
-use Rattle.load_run.proofs.RunLaws.{run_none, counted-most, run_more, run-done}
-use native.Mathlib.Omega.{arith}
 use Rattle.load_run.proofs.run.Given as goal
 
 -- the load so far

@@ -1,13 +1,9 @@
 use Prim.Native.Nat.{ℕ, ◌≤◌, ◌<◌, ◌-◌}
-use mathlib.Core.Path.{◌≡◌, sym, ◌∙◌}
+use mathlib.Core.Path.{◌≡◌}
 use mathlib.Core.Bool.{true}
-use borrow.Author.Tests.{not-true, not-false}
-use borrow.Author.Count.{below_more}
 use Rattle.layout.specs.MetaPage.{entry_part}
 use Rattle.layout.specs.Places.{slot_on}
 use Rattle.layout.specs.PageRule.{entry_test}
-use Rattle.layout.proofs.JudgeLaws.{entries_pass, entries_fail}
-use native.Mathlib.Omega.{arith}
 use Rattle.page_rule.proofs.legal_entries.Given as goal
 
 abbrev pub invariant-loop-i : goal.invariant-loop-i

@@ -1,12 +1,11 @@
 use mathlib.Core.Path.{◌≡◌, sym, ◌∙◌}
 use mathlib.Core.Bool.{true}
 use lib.ListN.{drop}
-use borrow.Author.Tests.{not-true, not-false, lt-ltb, le-ltb}
+use borrow.Author.Tests.{lt-ltb, le-ltb}
 use Rattle.layout.specs.LabelPage.{all_zero}
 use Rattle.layout.specs.MetaPage.{entry_part, decode_entry}
 use Rattle.layout.specs.PageRule.{pair_test, entry_test}
 use Rattle.layout.proofs.JudgeLaws.{entry_tail}
-use native.Mathlib.Omega.{arith}
 use Rattle.page_rule.proofs.legal_entry.Goals as goal
 use Rattle.page_rule.proofs.legal_entry.Goals.{After-all_zero, After-legal_pair, Else-not-legal_pair, Start}
 

@@ -1,15 +1,9 @@
-use Prim.Native.Nat.{ℕ, ◌≤◌, ◌<◌, ◌-◌, ◌+◌}
-use mathlib.Core.Path.{◌≡◌, sym, ap, ◌∙◌}
-use mathlib.Core.Bool.{Bool, true, false, not, ◌&&◌, and-false}
-use mathlib.Core.List.{List}
+use Prim.Native.Nat.{◌≤◌, ◌-◌}
+use mathlib.Core.Path.{◌≡◌}
+use mathlib.Core.Bool.{◌&&◌}
 use lib.ListN.{drop}
-use lib.Dec.{ltb}
-use borrow.Author.Tests.{lt-ltb, le-ltb}
-use Rattle.layout.specs.MetaPage.{count_of, window_of, slot_at}
-use Rattle.layout.specs.PageRule.{in_range, listed, distinct}
-use Rattle.layout.proofs.Loops.{go_on, stop}
-use Rattle.layout.proofs.JudgeLaws.{slots-left, slots_end}
-use native.Mathlib.Omega.{arith}
+use Rattle.layout.specs.MetaPage.{window_of}
+use Rattle.layout.specs.PageRule.{in_range, distinct}
 use Rattle.page_rule.proofs.legal_slots.Given as goal
 
 abbrev pub invariant-loop-k : goal.invariant-loop-k

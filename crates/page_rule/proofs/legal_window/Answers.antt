@@ -1,11 +1,9 @@
 use mathlib.Core.Path.{◌≡◌, sym, ap, ◌∙◌}
-use mathlib.Core.Bool.{Bool, true, false, ◌&&◌}
-use borrow.Author.Tests.{not-true, not-false}
+use mathlib.Core.Bool.{true, false, ◌&&◌}
 use Prim.Native.Nat.{ℕ, ◌+◌, ◌*◌}
 use Rattle.layout.specs.MetaPage.{window_of, count_of}
 use Rattle.layout.specs.PageRule.{in_range, distinct, window_test, zero_test}
 use Rattle.layout.proofs.Booleans.{and_assoc, skip, halt}
-use native.Mathlib.Omega.{arith}
 use Rattle.page_rule.proofs.legal_window.Goals as goal
 use Rattle.page_rule.proofs.legal_window.Goals.{Start}
 

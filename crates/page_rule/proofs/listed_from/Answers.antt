@@ -1,11 +1,10 @@
-use Prim.Native.Nat.{ℕ, ◌≤◌, ◌-◌}
+use Prim.Native.Nat.{ℕ, ◌-◌}
 use mathlib.Core.Path.{◌≡◌, sym, ap, ◌∙◌}
 use mathlib.Core.Bool.{true, false}
 use mathlib.Core.List.{List}
-use lib.ListN.{drop}
 use lib.Dec.{eqb}
 use borrow.Author.Tests.{eq-eqb, ne_eqb}
-use Rattle.layout.specs.MetaPage.{window_of, slot_at}
+use Rattle.layout.specs.MetaPage.{slot_at}
 use Rattle.layout.specs.PageRule.{listed}
 use Rattle.layout.proofs.JudgeLaws.{listed-left, window_end}
 use native.Mathlib.Omega.{arith}

@@ -2,7 +2,6 @@ use borrow.Author.Rules.{rules}
 use Prim.Native.Nat.{ℕ, ◌+◌, ◌≤◌, ◌<◌}
 use mathlib.Core.Path.{◌≡◌, refl, sym, ◌∙◌}
 use mathlib.Core.Bool.{Bool, true, false}
-use borrow.Author.Tests.{not-true, not-false}
 use Rattle.layout.specs.PageRule.{passes, read_down, field_test}
 use Rattle.layout.proofs.Booleans.{and_of, skip}
 use Rattle.layout.proofs.RuleLaws.{count-rule}

@@ -1,7 +1,6 @@
 use mathlib.Core.Path.{◌≡◌, ◌∙◌}
 use Rattle.pages.specs.Pages.{put_page, zero_page}
 use Rattle.pages.proofs.PageLaws.{put_byte, length_zero, zero_byte}
-use native.Mathlib.Omega.{arith}
 use Rattle.pages.proofs.clear_page.Goals as goal
 
 pub returns : goal.returns

@@ -1,9 +1,7 @@
 use native.Mathlib.Nat.{mul_comm, add_comm, add-sub_cancel_left}
-use mathlib.Core.Path.{ap}
-use Prim.Native.Nat.{ℕ, ◌*◌}
+use Prim.Native.Nat.{◌*◌}
 use Rattle.pages.specs.Pages.{page_at}
 use Rattle.pages.specs.Parts.{page_part}
-use native.Mathlib.Omega.{arith}
 use Rattle.pages.proofs.page_at.Goals as goal
 
 pub returns : goal.returns

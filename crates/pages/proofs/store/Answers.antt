@@ -1,6 +1,5 @@
 use native.Mathlib.Nat.{mul_comm, add-sub_cancel_left}
 use Rattle.pages.specs.Pages.{put_page}
-use native.Mathlib.Omega.{arith}
 use Rattle.pages.proofs.store.Goals as goal
 
 pub returns : goal.returns

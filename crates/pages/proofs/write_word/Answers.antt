@@ -1,8 +1,8 @@
 use Rattle.pages.specs.Words.{le_bytes}
 use Prim.Native.Nat.{ℕ}
 use mathlib.Core.Path.{◌≡◌, ap, ◌∙◌}
-use mathlib.Core.List.{List, [], ◌∷◌, ◌++◌, append-nil}
-use lib.ListN.{length, set, drop, drop_of_length-le}
+use mathlib.Core.List.{List, [], ◌∷◌}
+use lib.ListN.{length, set, drop_of_length-le}
 use lib.Seq.{sets-eq}
 use native.Mathlib.Omega.{arith}
 use Rattle.pages.proofs.write_word.Goals as goal

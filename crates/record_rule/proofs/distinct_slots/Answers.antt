@@ -1,10 +1,8 @@
 use borrow.Author.Rules.{rules}
-use Prim.Native.Nat.{◌≤◌}
 use mathlib.Core.Path.{◌≡◌, sym, ◌∙◌}
-use lib.ListN.{length, drop}
-use Rattle.layout.specs.Window.{slots_in}
+use lib.ListN.{length}
 use Rattle.layout.proofs.Loops.{length-mapped}
-use Rattle.record_rule.proofs.DistinctLaws.{Marked, unmarked, marks_begin, marks_back, listed_twice}
+use Rattle.record_rule.proofs.DistinctLaws.{unmarked, marks_begin, marks_back, listed_twice}
 use native.Mathlib.Omega.{arith}
 use Rattle.record_rule.proofs.distinct_slots.Goals as goal
 

@@ -1,10 +1,7 @@
 use Prim.Native.Nat.{◌≤◌}
-use mathlib.Core.Path.{◌≡◌, sym, ◌∙◌}
-use lib.ListN.{length, drop}
+use lib.ListN.{drop}
 use Rattle.layout.specs.Window.{slots_in}
-use Rattle.layout.proofs.Loops.{length-mapped}
-use Rattle.record_rule.proofs.DistinctLaws.{Marked, unmarked, marks_begin, marks_back, listed_twice}
-use native.Mathlib.Omega.{arith}
+use Rattle.record_rule.proofs.DistinctLaws.{Marked}
 use Rattle.record_rule.proofs.distinct_slots.Given as goal
 
 abbrev pub invariant-loop-i : goal.invariant-loop-i

@@ -1,12 +1,7 @@
 use Prim.Native.Nat.{◌≤◌, ◌-◌}
-use mathlib.Core.Path.{◌≡◌, sym, ap, ◌∙◌}
-use lib.ListN.{length, get_or, take, drop}
-use lib.Dec.{ltb}
-use borrow.Author.Tests.{lt-ltb, le-ltb}
+use mathlib.Core.Path.{◌≡◌}
+use lib.ListN.{take, drop}
 use Rattle.layout.specs.PageRule.{in_range}
-use Rattle.layout.proofs.Loops.{go_on, stop, length-mapped}
-use Rattle.record.proofs.WindowLaws.{range_left, window_end}
-use native.Mathlib.Omega.{arith}
 use Rattle.record_rule.proofs.in_range.Given as goal
 
 abbrev pub invariant-loop-i : goal.invariant-loop-i

@@ -1,14 +1,9 @@
-use Prim.Native.Nat.{ℕ, ◌≤◌, ◌-◌}
-use mathlib.Core.Path.{◌≡◌, refl, sym, ap, ◌∙◌}
+use Prim.Native.Nat.{◌≤◌, ◌-◌}
+use mathlib.Core.Path.{◌≡◌}
 use mathlib.Core.Bool.{◌&&◌}
-use mathlib.Core.List.{List}
-use lib.ListN.{length, get_or, drop, drop_of_length-le}
+use lib.ListN.{drop}
 use lib.Dec.{eqb}
-use Rattle.layout.proofs.Booleans.{and_last}
 use Rattle.record.specs.Window.{each_place}
-use Rattle.record.proofs.Each.{each_at}
-use Rattle.record.proofs.CallerLaws.{one_further}
-use native.Mathlib.Omega.{arith}
 use Rattle.record_rule.proofs.nobody_from.Given as goal
 
 abbrev pub invariant-loop-at : goal.invariant-loop-at

@@ -1,10 +1,9 @@
 use Prim.Native.Nat.{◌-◌}
-use mathlib.Core.Path.{◌≡◌, refl, sym, ◌∙◌}
-use lib.ListN.{length, get_or, drop}
+use mathlib.Core.Path.{refl, sym, ◌∙◌}
+use lib.ListN.{get_or}
 use lib.Dec.{eqb}
 use borrow.Author.Tests.{eq-eqb, ne_eqb}
 use Rattle.record.proofs.WindowLaws.{hit, miss}
-use Rattle.protocol.specs.Judge.{names}
 use Rattle.scan_rule.proofs.ScanLaws.{names-left, names_end}
 use native.Mathlib.Omega.{arith}
 use Rattle.scan_rule.proofs.is_named.Goals as goal

@@ -1,5 +1,4 @@
 use mathlib.Core.Path.{sym, ◌∙◌}
-use borrow.Author.Tests.{not-true, not-false}
 use Rattle.scan_rule.proofs.ScanLaws.{scan_empty, scan_long, scan_twice, scan_fits}
 use native.Mathlib.Omega.{arith}
 use Rattle.scan_rule.proofs.judge_scan.Goals as goal

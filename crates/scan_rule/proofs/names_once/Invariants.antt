@@ -1,11 +1,7 @@
 use Prim.Native.Nat.{◌-◌}
-use mathlib.Core.Path.{◌≡◌, refl, sym, ap, ◌∙◌}
-use mathlib.Core.Bool.{not}
+use mathlib.Core.Path.{◌≡◌}
 use lib.ListN.{length, drop}
-use Rattle.layout.proofs.Loops.{go_on, stop}
 use Rattle.protocol.specs.Judge.{names_once}
-use Rattle.scan_rule.proofs.ScanLaws.{once-left, once_end}
-use native.Mathlib.Omega.{arith}
 use Rattle.scan_rule.proofs.names_once.Given as goal
 
 abbrev pub invariant-loop-j : goal.invariant-loop-j

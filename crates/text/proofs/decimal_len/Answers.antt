@@ -1,7 +1,5 @@
-use Prim.Native.Nat.{◌+◌, ◌<◌}
-use mathlib.Core.Path.{◌≡◌, ap}
+use mathlib.Core.Path.{ap}
 use lib.ListN.{length}
-use Rattle.layout.specs.LabelPage.{decimal}
 use Rattle.layout.proofs.Decimal.{decimal-size, decimal-one, length_more}
 use native.Mathlib.Omega.{arith}
 use Rattle.text.proofs.decimal_len.Goals as goal

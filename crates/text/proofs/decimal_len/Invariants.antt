@@ -1,9 +1,7 @@
 use Prim.Native.Nat.{◌+◌, ◌<◌}
-use mathlib.Core.Path.{◌≡◌, ap}
+use mathlib.Core.Path.{◌≡◌}
 use lib.ListN.{length}
 use Rattle.layout.specs.LabelPage.{decimal}
-use Rattle.layout.proofs.Decimal.{decimal-size, decimal-one, length_more}
-use native.Mathlib.Omega.{arith}
 use Rattle.text.proofs.decimal_len.Given as goal
 
 abbrev pub invariant-loop-rest : goal.invariant-loop-rest

@@ -1,4 +1,3 @@
-use native.Mathlib.Omega.{arith}
 use Rattle.c_closing.proofs.counts.hand_out.Goals as goal
 
 pub returns-in-Refused : goal.returns-in-Refused

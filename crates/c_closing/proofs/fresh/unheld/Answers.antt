@@ -1,5 +1,4 @@
 use mathlib.Core.Path.{sym, ◌∙◌}
-use borrow.Author.Tests.{not-true, not-false}
 use Rattle.c_closing.proofs.fresh.unheld.Goals as goal
 
 pub returns-then-not-within_limits : goal.returns-then-not-within_limits

@@ -1,9 +1,6 @@
 use Prim.Native.Nat.{◌-◌}
-use mathlib.Core.Path.{refl, sym}
 use lib.ListN.{drop}
-use lib.Seq.{get_or-drop}
-use Rattle.c_record.proofs.WordLaws.{Filled, filled_more, filled-all, callers-length}
-use native.Mathlib.Omega.{arith}
+use Rattle.c_record.proofs.WordLaws.{Filled}
 use Rattle.c_record.proofs.words.callers_in.Given as goal
 
 abbrev pub invariant-loop-i : goal.invariant-loop-i

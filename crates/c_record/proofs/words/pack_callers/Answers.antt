@@ -3,7 +3,7 @@ use Prim.Native.Nat.{◌-◌, ◌+◌}
 use mathlib.Core.Path.{◌≡◌, refl, ◌∙◌}
 use mathlib.Core.List.{◌++◌, append-nil}
 use lib.ListN.{length, take, drop_of_length-le}
-use Rattle.c_record.proofs.WordLaws.{Packed, packed_none, packed_more, packed_all}
+use Rattle.c_record.proofs.WordLaws.{packed_none, packed_more, packed_all}
 use native.Mathlib.Omega.{arith}
 use Rattle.c_record.proofs.words.pack_callers.Goals as goal
 

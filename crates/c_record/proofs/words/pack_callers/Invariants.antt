@@ -1,9 +1,5 @@
-use Prim.Native.Nat.{◌-◌, ◌+◌}
-use mathlib.Core.Path.{◌≡◌, refl, ◌∙◌}
-use mathlib.Core.List.{◌++◌, append-nil}
-use lib.ListN.{length, take, drop_of_length-le}
-use Rattle.c_record.proofs.WordLaws.{Packed, packed_none, packed_more, packed_all}
-use native.Mathlib.Omega.{arith}
+use Prim.Native.Nat.{◌-◌}
+use Rattle.c_record.proofs.WordLaws.{Packed}
 use Rattle.c_record.proofs.words.pack_callers.Given as goal
 
 abbrev pub invariant-loop-i : goal.invariant-loop-i

@@ -3,7 +3,7 @@ use Prim.Native.Nat.{◌-◌}
 use mathlib.Core.Path.{◌≡◌, sym, ◌∙◌}
 use lib.ListN.{length}
 use Rattle.c_record.specs.Words.{numbers_of}
-use Rattle.c_record.proofs.WordLaws.{numbers-length, numbers_at, Packed, packed_none, packed_more, packed_all}
+use Rattle.c_record.proofs.WordLaws.{numbers-length, numbers_at, packed_none, packed_more, packed_all}
 use native.Mathlib.Omega.{arith}
 use Rattle.c_record.proofs.words.pack_window.Goals as goal
 

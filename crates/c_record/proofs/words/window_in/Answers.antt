@@ -1,8 +1,6 @@
 use Prim.Native.Nat.{◌-◌}
 use mathlib.Core.Path.{refl}
-use lib.ListN.{take, drop}
-use Rattle.c_record.specs.Words.{slots_of}
-use Rattle.c_record.proofs.WordLaws.{Filled, filled_more, filled-all, window-length, window_at}
+use Rattle.c_record.proofs.WordLaws.{filled_more, filled-all, window-length, window_at}
 use native.Mathlib.Omega.{arith}
 use Rattle.c_record.proofs.words.window_in.Goals as goal
 

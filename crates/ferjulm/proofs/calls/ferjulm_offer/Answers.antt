@@ -1,6 +1,5 @@
 use mathlib.Core.Path.{◌≡◌, sym, ◌∙◌}
 use mathlib.Core.Bool.{true}
-use borrow.Author.Tests.{not-true, not-false}
 use Rattle.protocol.specs.Plan.{offer}
 use Rattle.c_record.specs.Words.{is_record}
 use Rattle.c_closing.proofs.ClosedLaws.{record_length}

@@ -1,11 +1,9 @@
 use mathlib.Core.Path.{◌≡◌, sym, ◌∙◌}
 use mathlib.Core.Bool.{true}
-use borrow.Author.Tests.{not-true, not-false}
 use Rattle.c_record.specs.Words.{is_record}
 use Rattle.c_closing.proofs.ClosedLaws.{record_length}
 use Rattle.c_closing.specs.Counts.{CostNumbers}
 use Rattle.ferjulm.proofs.CostLaws.{no_cost, on_cost}
-use native.Mathlib.Omega.{arith}
 use Rattle.ferjulm.proofs.cost.ferjulm_cost.Goals as goal
 use Rattle.ferjulm.proofs.cost.ferjulm_cost.Goals.{Else-not-is_record, Start}
 

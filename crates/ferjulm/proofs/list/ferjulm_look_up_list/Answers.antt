@@ -1,7 +1,6 @@
 use mathlib.Core.Path.{◌≡◌, sym, ◌∙◌}
 use mathlib.Core.Bool.{true}
 use lib.ListN.{length}
-use borrow.Author.Tests.{not-true, not-false}
 use Rattle.protocol.specs.Plan.{look_up_list}
 use Rattle.protocol.specs.Calls.{box_of}
 use Rattle.c_record.specs.Words.{is_record}

@@ -1,6 +1,5 @@
 use mathlib.Core.Path.{◌≡◌, sym, ◌∙◌}
 use mathlib.Core.Bool.{true}
-use borrow.Author.Tests.{not-true, not-false}
 use Rattle.layout.specs.declared.Block.{Block}
 use Rattle.c_answers.specs.declared.Place.{Place}
 use Rattle.c_record.specs.Words.{is_record}

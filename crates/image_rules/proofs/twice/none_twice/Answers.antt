@@ -1,10 +1,9 @@
 use borrow.Author.Rules.{rules}
-use borrow.Author.Tests.{not-true, not-false}
 use Rattle.laws.proofs.refine.Metas.{length_metas}
-use Rattle.image_rules.proofs.TwiceLaws.{once_none, once_more, found_twice, once-all, OnceBelow}
-use Prim.Native.Nat.{◌+◌, ◌-◌, ◌%◌, ◌≤◌}
-use mathlib.Core.Path.{◌≡◌, refl, sym, ◌∙◌}
-use Rattle.protocol.specs.Recovery.{metas_of, stored_rows}
+use Rattle.image_rules.proofs.TwiceLaws.{once_none, once_more, found_twice, once-all}
+use Prim.Native.Nat.{◌-◌}
+use mathlib.Core.Path.{refl, sym, ◌∙◌}
+use Rattle.protocol.specs.Recovery.{metas_of}
 use native.Mathlib.Omega.{arith}
 use Rattle.image_rules.proofs.twice.none_twice.Goals as goal
 

@@ -1,10 +1,7 @@
-use borrow.Author.Tests.{not-true, not-false}
-use Rattle.laws.proofs.refine.Metas.{length_metas}
-use Rattle.image_rules.proofs.TwiceLaws.{once_none, once_more, found_twice, once-all, OnceBelow}
+use Rattle.image_rules.proofs.TwiceLaws.{OnceBelow}
 use Prim.Native.Nat.{◌+◌, ◌-◌, ◌%◌, ◌≤◌}
-use mathlib.Core.Path.{◌≡◌, refl, sym, ◌∙◌}
+use mathlib.Core.Path.{◌≡◌}
 use Rattle.protocol.specs.Recovery.{metas_of, stored_rows}
-use native.Mathlib.Omega.{arith}
 use Rattle.image_rules.proofs.twice.none_twice.Given as goal
 
 abbrev pub invariant-loop-start : goal.invariant-loop-start

@@ -1,12 +1,11 @@
-use Prim.Native.Nat.{ℕ, ◌+◌, ◌*◌, ◌-◌, ◌≤◌, ◌<◌}
+use Prim.Native.Nat.{ℕ, ◌+◌, ◌*◌, ◌-◌, ◌<◌}
 use mathlib.Core.Path.{◌≡◌, refl, sym, ap, ◌∙◌}
 use mathlib.Core.List.{List}
-use lib.ListN.{length, drop}
-use borrow.Author.Tests.{not-true, not-false}
+use lib.ListN.{drop}
 use Rattle.layout.specs.declared.Entry.{Entry}
 use Rattle.layout.specs.MetaPage.{entry_at, rows_from}
 use Rattle.layout.proofs.Loops.{go_on, stop}
-use Rattle.protocol.specs.Recovery.{metas_of, entry_in, stored_rows}
+use Rattle.protocol.specs.Recovery.{metas_of, entry_in}
 use Rattle.image_rules.specs.Twice.{Visit, visited, all_fresh}
 use Rattle.stored.proofs.StoredLaws.{page-read}
 use Rattle.image_rules.proofs.TwiceLaws.{entry_on, page-low, fresh-left, fresh_end}

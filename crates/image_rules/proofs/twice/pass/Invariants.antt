@@ -1,16 +1,8 @@
-use Prim.Native.Nat.{ℕ, ◌+◌, ◌*◌, ◌-◌, ◌≤◌, ◌<◌}
-use mathlib.Core.Path.{◌≡◌, refl, sym, ap, ◌∙◌}
-use mathlib.Core.List.{List}
+use Prim.Native.Nat.{◌+◌, ◌*◌, ◌-◌, ◌≤◌, ◌<◌}
+use mathlib.Core.Path.{◌≡◌}
 use lib.ListN.{length, drop}
-use borrow.Author.Tests.{not-true, not-false}
-use Rattle.layout.specs.declared.Entry.{Entry}
-use Rattle.layout.specs.MetaPage.{entry_at, rows_from}
-use Rattle.layout.proofs.Loops.{go_on, stop}
-use Rattle.protocol.specs.Recovery.{metas_of, entry_in, stored_rows}
-use Rattle.image_rules.specs.Twice.{Visit, visited, all_fresh}
-use Rattle.stored.proofs.StoredLaws.{page-read}
-use Rattle.image_rules.proofs.TwiceLaws.{entry_on, page-low, fresh-left, fresh_end}
-use native.Mathlib.Omega.{arith}
+use Rattle.protocol.specs.Recovery.{metas_of, stored_rows}
+use Rattle.image_rules.specs.Twice.{all_fresh}
 use Rattle.image_rules.proofs.twice.pass.Given as goal
 
 abbrev pub invariant-loop-s-2 : goal.invariant-loop-s-2

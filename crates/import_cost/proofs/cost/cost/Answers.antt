@@ -1,7 +1,6 @@
 use Prim.Native.Nat.{ℕ}
 use mathlib.Core.Path.{◌≡◌, refl, sym, ap, ◌∙◌}
 use lib.ListN.{length}
-use lib.Dec.{eqb}
 use borrow.Author.Tests.{eqb-true, eq-eqb}
 use Rattle.layout.specs.declared.Block.{Block}
 use Rattle.judging.specs.Judging.{ready_then, scan_then}
@@ -12,7 +11,6 @@ use Rattle.scan_rule.proofs.ScanLaws.{scans}
 use Rattle.list_run.proofs.FairLaws.{ready-fair}
 use Rattle.import_run.specs.Runs.{begun, run_from}
 use Rattle.import_cost.proofs.ListLaws.{cost_is_run, cost_unready, cost-refused, cost_runs}
-use native.Mathlib.Omega.{arith}
 use Rattle.import_cost.proofs.cost.cost.Goals as goal
 use Rattle.import_cost.proofs.cost.cost.Goals.{Else-listed-ne0, Else-number-ne0, Start}
 

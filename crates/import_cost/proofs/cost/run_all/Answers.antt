@@ -2,7 +2,6 @@ use mathlib.Core.Path.{◌∙◌}
 use Prim.Native.Nat.{◌-◌}
 use lib.ListN.{length, replicate, length-take}
 use native.Mathlib.Omega.{arith}
-use native.Mathlib.Omega.{arith}
 use Rattle.import_cost.proofs.cost.run_all.Goals as goal
 
 pub run_found-requires : goal.run_found-requires

@@ -1,6 +1,5 @@
 use Rattle.import_run.proofs.PlaceLaws.{steady_sweeps}
 use Rattle.import_cost.proofs.PlaceLaws.{steady_slots}
-use native.Mathlib.Omega.{arith}
 use Rattle.import_cost.proofs.cost.run_found.Goals as goal
 
 pub locate-requires : goal.locate-requires

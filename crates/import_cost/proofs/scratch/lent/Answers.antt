@@ -1,6 +1,5 @@
-use mathlib.Core.Path.{sym, ◌∙◌}
+use mathlib.Core.Path.{sym}
 use borrow.Author.Tests.{eq-eqb, ne_eqb}
-use native.Mathlib.Omega.{arith}
 use Rattle.import_cost.proofs.scratch.lent.Goals as goal
 
 pub returns-then-scratch-table : goal.returns-then-scratch-table

@@ -1,13 +1,11 @@
-use Prim.Native.Nat.{ℕ, ◌+◌, ◌-◌, ◌≤◌}
-use mathlib.Core.List.{List}
-use mathlib.Core.Path.{◌≡◌, refl, sym, ap, subst, ◌∙◌}
+use Prim.Native.Nat.{◌+◌, ◌-◌}
+use mathlib.Core.Path.{refl, sym, ap, subst, ◌∙◌}
 use native.Mathlib.Omega.{arith}
-use lib.ListN.{length, get_or, length-map}
+use lib.ListN.{length, length-map}
 use Rattle.protocol.specs.Cost.{CostLeft}
 use Rattle.protocol.specs.declared.Cost.TheVariants.{Counted, Met}
 use Rattle.import_run.specs.Runs.{After, run_from, begun, counts_in}
 use Rattle.import_run.proofs.ListLaws.{Going, begins, goes_on, stops, done}
-use native.Mathlib.Omega.{arith}
 use Rattle.import_run.proofs.list.run.Goals as goal
 use Rattle.import_run.proofs.list.run.Goals.{Start}
 

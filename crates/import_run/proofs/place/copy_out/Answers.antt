@@ -1,13 +1,8 @@
 use Prim.Native.Nat.{◌/◌, ◌%◌}
-use mathlib.Core.List.{List}
-use Prim.Native.Nat.{ℕ}
-use mathlib.Core.Path.{ap, ◌∙◌}
 use native.Mathlib.Omega.{arith}
 use borrow.Author.Tests.{eqb-true}
 use Rattle.protocol.specs.Rows.{row_flags}
 use Rattle.sweeping.specs.Sweeps.{cleared_from}
-use Rattle.import_run.specs.Runs.{copies_out}
-use native.Mathlib.Omega.{arith}
 use Rattle.import_run.proofs.place.copy_out.Goals as goal
 
 pub overflow_sub-table : goal.overflow_sub-table

@@ -1,7 +1,6 @@
 use mathlib.Core.Path.{sym, ap}
 use Rattle.import_run.specs.Runs.{dirty_slot}
 use Rattle.protocol.specs.declared.Condition.{Condition}
-use native.Mathlib.Omega.{arith}
 use Rattle.import_run.proofs.place.dirty_slot.Goals as goal
 
 pub returns-in-NotCached : goal.returns-in-NotCached

@@ -1,5 +1,4 @@
 use Rattle.import_run.specs.Runs.{lands}
-use native.Mathlib.Omega.{arith}
 use Rattle.import_run.proofs.place.land.Goals as goal
 
 pub returns : goal.returns

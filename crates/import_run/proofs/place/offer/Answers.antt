@@ -1,17 +1,15 @@
 use Prim.Native.Nat.{ℕ}
-use mathlib.Core.List.{List, [], ◌∷◌}
+use mathlib.Core.List.{List}
 use mathlib.Core.Path.{◌≡◌, refl, sym, ap, ◌∙◌}
 use native.Mathlib.Omega.{arith}
-use denote.Enum.Declared.{tag_of}
 use Rattle.layout.specs.declared.Slot.{Slot}
 use Rattle.layout.specs.declared.Block.{Block}
 use Rattle.layout.specs.declared.Label.{Label}
 use Rattle.turns.specs.declared.turn.Turn.{Turn}
 use Rattle.turns.specs.declared.turn.Turn.TheVariants.{Refused, Passes, Opens, CopiesOut}
 use Rattle.import_run.specs.declared.Run.{Run}
-use Rattle.import_run.specs.Runs.{After, taken, offered, copies_out, copied_table}
+use Rattle.import_run.specs.Runs.{After, taken, offered}
 use Rattle.import_run.proofs.PlaceLaws.{Copied, steady_sweeps, steady_takes, steady_copies}
-use native.Mathlib.Omega.{arith}
 use Rattle.import_run.proofs.place.offer.Goals as goal
 use Rattle.import_run.proofs.place.offer.Goals.{Start}
 

@@ -7,8 +7,6 @@ use lib.Seq.{get_or-set_same}
 use borrow.Author.Tests.{leb-false}
 use Rattle.layout.proofs.StampLaws.{stamp_fits}
 use Rattle.protocol.specs.Rows.{row_flags, set_row}
-use Rattle.import_run.specs.Runs.{opens_if}
-use native.Mathlib.Omega.{arith}
 use Rattle.import_run.proofs.place.open.Goals as goal
 
 pub returns-then-is_spent : goal.returns-then-is_spent

@@ -5,7 +5,6 @@ use borrow.Author.Tests.{le-leb, lt-leb}
 use Rattle.turns.specs.Turns.{offer_turn_at}
 use Rattle.import_run.specs.Runs.{place_after, dirty_slot}
 use Rattle.import_run.proofs.PlaceLaws.{steady_sweeps, condition_within}
-use native.Mathlib.Omega.{arith}
 use Rattle.import_run.proofs.place.place.Goals as goal
 
 pub returns-then-l-b : goal.returns-then-l-b

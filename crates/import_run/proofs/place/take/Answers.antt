@@ -1,10 +1,6 @@
-use Prim.Native.Nat.{ℕ}
-use mathlib.Core.List.{List}
 use mathlib.Core.Path.{◌≡◌, refl, sym, ap, ◌∙◌}
 use Rattle.turns.specs.declared.turn.Turn.{Turn}
-use Rattle.import_run.specs.declared.Run.{Run}
-use Rattle.import_run.specs.Runs.{After, meets, taken, Takes}
-use native.Mathlib.Omega.{arith}
+use Rattle.import_run.specs.Runs.{After, taken, Takes}
 use Rattle.import_run.proofs.place.take.Goals as goal
 use Rattle.import_run.proofs.place.take.Goals.{Start}
 

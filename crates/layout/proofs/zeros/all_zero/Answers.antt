@@ -1,10 +1,8 @@
 use lib.Dec.{eqb}
-use Prim.Native.Nat.{ℕ, ◌≤◌, ◌-◌}
-use mathlib.Core.Path.{◌≡◌, sym, ◌∙◌}
-use mathlib.Core.List.{List}
+use Prim.Native.Nat.{◌-◌}
+use mathlib.Core.Path.{sym, ◌∙◌}
 use lib.ListN.{get_or}
 use borrow.Author.Tests.{eq-eqb, ne_eqb}
-use Rattle.layout.specs.PageRule.{zero_test}
 use Rattle.layout.proofs.Loops.{go_on, stop}
 use Rattle.layout.proofs.ZeroLaws.{zero_left, zero_done}
 use native.Mathlib.Omega.{arith}

@@ -1,13 +1,6 @@
-use lib.Dec.{eqb}
-use Prim.Native.Nat.{ℕ, ◌≤◌, ◌-◌}
-use mathlib.Core.Path.{◌≡◌, sym, ◌∙◌}
-use mathlib.Core.List.{List}
-use lib.ListN.{get_or}
-use borrow.Author.Tests.{eq-eqb, ne_eqb}
+use Prim.Native.Nat.{◌-◌}
+use mathlib.Core.Path.{◌≡◌}
 use Rattle.layout.specs.PageRule.{zero_test}
-use Rattle.layout.proofs.Loops.{go_on, stop}
-use Rattle.layout.proofs.ZeroLaws.{zero_left, zero_done}
-use native.Mathlib.Omega.{arith}
 use Rattle.layout.proofs.zeros.all_zero.Given as goal
 
 abbrev pub invariant-loop-i : goal.invariant-loop-i

@@ -1,9 +1,7 @@
-use Prim.Native.Nat.{◌-◌, ◌*◌, ◌≤◌}
+use Prim.Native.Nat.{◌-◌}
 use mathlib.Core.Path.{◌≡◌, refl, ap, ◌∙◌}
-use lib.ListN.{length}
 use Rattle.layout.specs.Window.{slots_in}
 use Rattle.protocol.specs.Recovery.{metas_of}
-use Rattle.fields.specs.Written.{Written}
 use Rattle.list_image.specs.Listing.{line_of, lines_of}
 use Rattle.fields.proofs.WrittenLaws.{written_none, written_more, written_as, written-length}
 use Rattle.list_image.proofs.ImageLaws.{lines_more}

@@ -1,13 +1,10 @@
 use Prim.Native.Nat.{◌-◌, ◌*◌, ◌≤◌}
-use mathlib.Core.Path.{◌≡◌, refl, ap, ◌∙◌}
+use mathlib.Core.Path.{◌≡◌}
 use lib.ListN.{length}
 use Rattle.layout.specs.Window.{slots_in}
 use Rattle.protocol.specs.Recovery.{metas_of}
 use Rattle.fields.specs.Written.{Written}
-use Rattle.list_image.specs.Listing.{line_of, lines_of}
-use Rattle.fields.proofs.WrittenLaws.{written_none, written_more, written_as, written-length}
-use Rattle.list_image.proofs.ImageLaws.{lines_more}
-use native.Mathlib.Omega.{arith}
+use Rattle.list_image.specs.Listing.{lines_of}
 use Rattle.list_image.proofs.image.put_lines.Given as goal
 
 abbrev pub invariant-loop-s : goal.invariant-loop-s

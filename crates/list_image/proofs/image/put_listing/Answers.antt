@@ -1,5 +1,5 @@
 use mathlib.Core.Path.{sym, ◌∙◌}
-use borrow.Author.Tests.{eq-eqb, ne_eqb, le-leb, lt-leb, not-true, not-false}
+use borrow.Author.Tests.{eq-eqb, ne_eqb, le-leb, lt-leb}
 use Rattle.stored.proofs.ReadLaws.{limits}
 use Rattle.fields.proofs.WrittenLaws.{written_as}
 use Rattle.list_image.proofs.ImageLaws.{unlabelled, wrong_length_is, too_long, bad_pages, listed_as}

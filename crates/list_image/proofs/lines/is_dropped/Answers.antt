@@ -1,5 +1,4 @@
 use borrow.Author.Tests.{eq-eqb, ne_eqb}
-use mathlib.Core.Path.{◌∙◌}
 use Rattle.list_image.specs.Listing.{dropped}
 use Rattle.list_image.proofs.lines.is_dropped.Goals as goal
 

@@ -1,5 +1,4 @@
 use mathlib.Core.Path.{sym, ◌∙◌}
-use borrow.Author.Tests.{not-true, not-false}
 use Rattle.list_turns.proofs.EndLaws.{end_other, end_again, end_spent, end_first}
 use Rattle.list_turns.proofs.deal.end_of.Goals as goal
 

@@ -1,6 +1,6 @@
 use Prim.Native.Nat.{ℕ, max, ◌+◌, ◌-◌}
-use mathlib.Core.Path.{◌≡◌, refl, ap, ◌∙◌}
-use lib.ListN.{length, drop}
+use mathlib.Core.Path.{refl, ap, ◌∙◌}
+use lib.ListN.{drop}
 use Rattle.protocol.specs.Kinds.{highest}
 use Rattle.locating.proofs.ListLaws.{high_more, high_end}
 use native.Mathlib.Omega.{arith}

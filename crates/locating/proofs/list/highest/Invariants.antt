@@ -1,9 +1,7 @@
-use Prim.Native.Nat.{ℕ, max, ◌+◌, ◌-◌}
-use mathlib.Core.Path.{◌≡◌, refl, ap, ◌∙◌}
+use Prim.Native.Nat.{max, ◌-◌}
+use mathlib.Core.Path.{◌≡◌}
 use lib.ListN.{length, drop}
 use Rattle.protocol.specs.Kinds.{highest}
-use Rattle.locating.proofs.ListLaws.{high_more, high_end}
-use native.Mathlib.Omega.{arith}
 use Rattle.locating.proofs.list.highest.Given as goal
 
 abbrev pub invariant-loop-j : goal.invariant-loop-j

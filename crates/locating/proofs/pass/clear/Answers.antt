@@ -1,7 +1,6 @@
 use Prim.Native.Nat.{◌-◌}
-use mathlib.Core.Path.{◌≡◌, refl}
-use lib.ListN.{length}
-use Rattle.locating.proofs.WordLaws.{Renewed, renew_begin, renew_more}
+use mathlib.Core.Path.{refl}
+use Rattle.locating.proofs.WordLaws.{renew_begin, renew_more}
 use native.Mathlib.Omega.{arith}
 use Rattle.locating.proofs.pass.clear.Goals as goal
 

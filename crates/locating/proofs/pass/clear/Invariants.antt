@@ -1,8 +1,7 @@
 use Prim.Native.Nat.{◌-◌}
-use mathlib.Core.Path.{◌≡◌, refl}
+use mathlib.Core.Path.{◌≡◌}
 use lib.ListN.{length}
-use Rattle.locating.proofs.WordLaws.{Renewed, renew_begin, renew_more}
-use native.Mathlib.Omega.{arith}
+use Rattle.locating.proofs.WordLaws.{Renewed}
 use Rattle.locating.proofs.pass.clear.Given as goal
 
 abbrev pub invariant-loop-j : goal.invariant-loop-j

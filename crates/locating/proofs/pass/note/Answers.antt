@@ -1,8 +1,6 @@
 use Prim.Native.Nat.{◌-◌}
-use mathlib.Core.Path.{◌≡◌, refl}
-use lib.ListN.{length, get_or}
-use Rattle.locating.specs.Places.{noted_as}
-use Rattle.locating.proofs.WordLaws.{Renewed, renew_begin, renew_more}
+use mathlib.Core.Path.{refl}
+use Rattle.locating.proofs.WordLaws.{renew_begin, renew_more}
 use native.Mathlib.Omega.{arith}
 use Rattle.locating.proofs.pass.note.Goals as goal
 

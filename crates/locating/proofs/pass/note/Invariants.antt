@@ -1,9 +1,8 @@
 use Prim.Native.Nat.{◌-◌}
-use mathlib.Core.Path.{◌≡◌, refl}
+use mathlib.Core.Path.{◌≡◌}
 use lib.ListN.{length, get_or}
 use Rattle.locating.specs.Places.{noted_as}
-use Rattle.locating.proofs.WordLaws.{Renewed, renew_begin, renew_more}
-use native.Mathlib.Omega.{arith}
+use Rattle.locating.proofs.WordLaws.{Renewed}
 use Rattle.locating.proofs.pass.note.Given as goal
 
 abbrev pub invariant-loop-j : goal.invariant-loop-j

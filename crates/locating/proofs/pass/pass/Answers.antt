@@ -1,8 +1,8 @@
-use Prim.Native.Nat.{ℕ, ◌+◌, ◌-◌, ◌*◌, ◌%◌, ◌≤◌, ◌<◌}
-use mathlib.Core.Path.{◌≡◌, sym, ap, ◌∙◌}
-use lib.ListN.{length, get_or, drop}
+use Prim.Native.Nat.{ℕ, ◌+◌, ◌-◌, ◌*◌, ◌%◌}
+use mathlib.Core.Path.{sym, ap, ◌∙◌}
+use lib.ListN.{get_or, drop}
 use Rattle.layout.specs.declared.Block.{Block}
-use Rattle.protocol.specs.Condition.{slot_from, slot_of}
+use Rattle.protocol.specs.Condition.{slot_from}
 use Rattle.locating.specs.Places.{place_word, or_found}
 use Rattle.locating.proofs.WordLaws.{as_map}
 use Rattle.locating.proofs.PassLaws.{row_more, rows_end_is}

@@ -1,12 +1,8 @@
-use Prim.Native.Nat.{ℕ, ◌+◌, ◌-◌, ◌*◌, ◌%◌, ◌≤◌, ◌<◌}
-use mathlib.Core.Path.{◌≡◌, sym, ap, ◌∙◌}
+use Prim.Native.Nat.{ℕ, ◌-◌, ◌*◌, ◌≤◌, ◌<◌}
+use mathlib.Core.Path.{◌≡◌}
 use lib.ListN.{length, get_or, drop}
-use Rattle.layout.specs.declared.Block.{Block}
 use Rattle.protocol.specs.Condition.{slot_from, slot_of}
 use Rattle.locating.specs.Places.{place_word, or_found}
-use Rattle.locating.proofs.WordLaws.{as_map}
-use Rattle.locating.proofs.PassLaws.{row_more, rows_end_is}
-use native.Mathlib.Omega.{arith}
 use Rattle.locating.proofs.pass.pass.Given as goal
 
 abbrev pub invariant-loop-i : goal.invariant-loop-i

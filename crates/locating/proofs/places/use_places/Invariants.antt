@@ -1,13 +1,11 @@
-use mathlib.Core.List.{List}
-use mathlib.Core.Path.{ap, ◌≡◌, refl, ◌∙◌}
-use Rattle.locating.specs.Places.{place_of, condition_there, slots_there}
-use Prim.Native.Nat.{ℕ, ◌+◌, ◌-◌, ◌≤◌, ◌<◌}
-use lib.ListN.{length, get_or, drop}
-use Rattle.protocol.specs.Condition.{word_of, closed_slot}
+use mathlib.Core.Path.{◌≡◌}
+use Rattle.locating.specs.Places.{condition_there, slots_there}
+use Prim.Native.Nat.{◌-◌}
+use lib.ListN.{length, drop}
+use Rattle.protocol.specs.Condition.{word_of}
 use Rattle.protocol.specs.Perform.{used_all}
-use Rattle.locating.proofs.WordLaws.{Renewed, renew_begin, renew_more, as_map}
-use Rattle.locating.proofs.PlaceLaws.{Still, still_begin, still_more, use_more, use_end}
-use native.Mathlib.Omega.{arith}
+use Rattle.locating.proofs.WordLaws.{Renewed}
+use Rattle.locating.proofs.PlaceLaws.{Still}
 use Rattle.locating.proofs.places.use_places.Given as goal
 
 abbrev pub invariant-loop-j : goal.invariant-loop-j

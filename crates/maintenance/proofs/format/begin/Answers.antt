@@ -1,7 +1,6 @@
 use mathlib.Core.Path.{◌≡◌, refl, sym, ◌∙◌}
 use mathlib.Core.Bool.{true}
 use Rattle.layout.specs.Places.{within_limits}
-use borrow.Author.Tests.{not-true, not-false}
 use Rattle.maintenance.proofs.format.begin.Goals as goal
 use Rattle.maintenance.proofs.format.begin.Goals.{Else-not-within_limits}
 

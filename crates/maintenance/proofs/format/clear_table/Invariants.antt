@@ -1,8 +1,6 @@
 use Prim.Native.Nat.{◌-◌, ◌≤◌}
-use mathlib.Core.Path.{◌≡◌, refl, ◌∙◌}
-use native.Mathlib.Omega.{arith}
-use lib.ListN.{length, take, replicate, length-set}
-use Rattle.maintenance.proofs.FormatLaws.{cleared_more, cleared_all}
+use mathlib.Core.Path.{◌≡◌}
+use lib.ListN.{length, take, replicate}
 use Rattle.maintenance.proofs.format.clear_table.Given as goal
 
 abbrev pub invariant-loop-i : goal.invariant-loop-i

@@ -1,4 +1,3 @@
-use mathlib.Core.Path.{◌∙◌}
 use Rattle.maintenance.proofs.FormatLaws.{format-refused, format-begins}
 use Rattle.maintenance.proofs.format.format.Goals as goal
 

@@ -1,6 +1,5 @@
 use native.Mathlib.Nat.{add-sub_cancel_left}
 use Rattle.layout.specs.MetaPage.{entry_part}
-use native.Mathlib.Omega.{arith}
 use Rattle.metadata.proofs.page.entry_at.Goals as goal
 
 pub returns : goal.returns

@@ -1,5 +1,4 @@
 use native.Mathlib.Nat.{add-sub_cancel_left}
-use native.Mathlib.Omega.{arith}
 use Rattle.metadata.proofs.page.put_word.Goals as goal
 
 pub returns : goal.returns

@@ -1,5 +1,4 @@
 use Rattle.layout.specs.MetaPage.{decode_entry}
-use native.Mathlib.Omega.{arith}
 use Rattle.metadata.proofs.page.read_entry.Goals as goal
 
 pub returns : goal.returns

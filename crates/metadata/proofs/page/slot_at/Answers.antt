@@ -1,5 +1,4 @@
 use Rattle.layout.specs.MetaPage.{slot_at}
-use native.Mathlib.Omega.{arith}
 use Rattle.metadata.proofs.page.slot_at.Goals as goal
 
 pub returns : goal.returns

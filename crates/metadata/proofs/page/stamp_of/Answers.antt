@@ -1,5 +1,4 @@
 use Rattle.layout.specs.MetaPage.{stamp_of}
-use native.Mathlib.Omega.{arith}
 use Rattle.metadata.proofs.page.stamp_of.Goals as goal
 
 pub returns : goal.returns

@@ -1,7 +1,7 @@
 use Prim.Native.Nat.{ℕ, ◌/◌, ◌%◌}
-use mathlib.Core.Path.{◌≡◌, refl, ap, ◌∙◌}
+use mathlib.Core.Path.{◌≡◌, ap, ◌∙◌}
 use mathlib.Core.List.{List, ◌∷◌, ◌++◌, [], append-nil}
-use lib.ListN.{length, drop, length-drop, drop_of_length-le}
+use lib.ListN.{drop_of_length-le}
 use borrow.Rule.Slice.PartMut.{put_mid}
 use Rattle.pages.specs.Words.{le_bytes}
 use Rattle.pages.proofs.WordLaws.{length-le_bytes}

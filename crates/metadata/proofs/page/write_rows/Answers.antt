@@ -1,12 +1,12 @@
 use borrow.Author.Rules.{rules}
-use Prim.Native.Nat.{ℕ, ◌≤◌, ◌<◌, ◌-◌, ◌+◌, ◌*◌, ◌%◌}
+use Prim.Native.Nat.{ℕ, ◌<◌, ◌-◌, ◌+◌, ◌*◌}
 use mathlib.Core.Path.{◌≡◌, sym, ap, ◌∙◌}
 use mathlib.Core.List.{List}
 use native.Mathlib.Nat.{add-sub_cancel_left}
-use lib.ListN.{length, take, get_or, take-append-drop}
+use lib.ListN.{length, take, take-append-drop}
 use lib.Seq.{take-length}
 use borrow.Rule.Slice.PartMut.{put_mid}
-use Rattle.layout.specs.MetaPage.{entry_bytes, rows_bytes}
+use Rattle.layout.specs.MetaPage.{rows_bytes}
 use Rattle.metadata.proofs.WriteLaws.{row_turn}
 use native.Mathlib.Omega.{arith}
 use Rattle.metadata.proofs.page.write_rows.Goals as goal

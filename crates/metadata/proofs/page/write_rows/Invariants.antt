@@ -1,13 +1,8 @@
-use Prim.Native.Nat.{ℕ, ◌≤◌, ◌<◌, ◌-◌, ◌+◌, ◌*◌, ◌%◌}
-use mathlib.Core.Path.{◌≡◌, sym, ap, ◌∙◌}
-use mathlib.Core.List.{List}
-use native.Mathlib.Nat.{add-sub_cancel_left}
-use lib.ListN.{length, take, get_or, take-append-drop}
-use lib.Seq.{take-length}
+use Prim.Native.Nat.{◌≤◌, ◌-◌, ◌*◌, ◌%◌}
+use mathlib.Core.Path.{◌≡◌}
+use lib.ListN.{length, take}
 use borrow.Rule.Slice.PartMut.{put_mid}
-use Rattle.layout.specs.MetaPage.{entry_bytes, rows_bytes}
-use Rattle.metadata.proofs.WriteLaws.{row_turn}
-use native.Mathlib.Omega.{arith}
+use Rattle.layout.specs.MetaPage.{rows_bytes}
 use Rattle.metadata.proofs.page.write_rows.Given as goal
 
 abbrev pub invariant-loop-i : goal.invariant-loop-i

@@ -1,11 +1,8 @@
-use Prim.Native.Nat.{ℕ, ◌≤◌, ◌-◌, ◌*◌}
-use mathlib.Core.Path.{◌≡◌, sym, ap, ◌∙◌}
-use lib.ListN.{length, take, take-append-drop}
+use Prim.Native.Nat.{◌≤◌, ◌-◌, ◌*◌}
+use mathlib.Core.Path.{◌≡◌}
+use lib.ListN.{length, take}
 use borrow.Rule.Slice.PartMut.{put_mid}
 use Rattle.layout.specs.MetaPage.{slots_bytes}
-use Rattle.metadata.proofs.WriteLaws.{slot_turn}
-use Rattle.layout.proofs.Loops.{length-mapped}
-use native.Mathlib.Omega.{arith}
 use Rattle.metadata.proofs.page.write_window.Given as goal
 
 abbrev pub invariant-loop-i : goal.invariant-loop-i

@@ -10,7 +10,7 @@ use Rattle.record.specs.Callers.{caller_array}
 use Rattle.layout.proofs.Loops.{length-mapped}
 use Rattle.record.proofs.WindowLaws.{padded-slots}
 use Rattle.record.proofs.CallerLaws.{padded-callers}
-use Rattle.record.proofs.LeaveLaws.{Leaving, Moved, leaving_begin, moved_begin, next_most, one_place, moved_on, some_slot, all_moved, without-beside}
+use Rattle.record.proofs.LeaveLaws.{leaving_begin, moved_begin, next_most, one_place, moved_on, some_slot, all_moved, without-beside}
 use native.Mathlib.Omega.{arith}
 use Rattle.record.proofs.window.leave.Goals as goal
 use Rattle.record.proofs.window.leave.Goals.{After-met-gone, Start}

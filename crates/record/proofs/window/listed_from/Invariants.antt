@@ -1,12 +1,7 @@
 use Prim.Native.Nat.{◌≤◌, ◌-◌}
-use mathlib.Core.Path.{◌≡◌, sym, ap, ◌∙◌}
-use lib.ListN.{length, get_or, take, drop}
-use lib.Dec.{eqb}
-use borrow.Author.Tests.{eq-eqb, ne_eqb}
+use mathlib.Core.Path.{◌≡◌}
+use lib.ListN.{take, drop}
 use Rattle.layout.specs.PageRule.{listed}
-use Rattle.record.proofs.WindowLaws.{hit, miss, listed-left, window_end}
-use Rattle.layout.proofs.Loops.{length-mapped}
-use native.Mathlib.Omega.{arith}
 use Rattle.record.proofs.window.listed_from.Given as goal
 
 abbrev pub invariant-loop-i : goal.invariant-loop-i

@@ -1,12 +1,10 @@
-use lib.ListN.{length-set, length, take}
-use Rattle.recovery.proofs.FillLaws.{rows_none, row-filled, rows-filled}
+use lib.ListN.{length, take}
 use Prim.Native.Nat.{◌*◌, ◌-◌, ◌≤◌}
-use mathlib.Core.Path.{◌≡◌, ap, ◌∙◌}
+use mathlib.Core.Path.{◌≡◌}
 use Rattle.layout.specs.Places.{table_length}
 use Rattle.layout.specs.MetaPage.{rows_from}
 use Rattle.protocol.specs.Recovery.{metas_of, entry_in}
 use Rattle.recovery.specs.Fill.{kept_entry}
-use native.Mathlib.Omega.{arith}
 use Rattle.recovery.proofs.fill.fill.Given as goal
 
 abbrev pub invariant-loop-s : goal.invariant-loop-s

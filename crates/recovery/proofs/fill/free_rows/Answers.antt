@@ -1,10 +1,9 @@
 use borrow.Author.Rules.{rules}
 use Rattle.recovery.proofs.FillLaws.{freed-left, freed_end}
-use Prim.Native.Nat.{◌-◌, ◌≤◌}
+use Prim.Native.Nat.{◌-◌}
 use mathlib.Core.Path.{◌≡◌, sym, ◌∙◌}
-use lib.ListN.{length, take, drop, length-set}
+use lib.ListN.{length, length-set}
 use Rattle.record.proofs.WindowLaws.{row_in, block_in_lem}
-use Rattle.recovery.specs.Fill.{freed}
 use Rattle.layout.proofs.Loops.{length-mapped}
 use native.Mathlib.Omega.{arith}
 use Rattle.recovery.proofs.fill.free_rows.Goals as goal

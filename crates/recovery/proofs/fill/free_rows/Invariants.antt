@@ -1,11 +1,7 @@
-use Rattle.recovery.proofs.FillLaws.{freed-left, freed_end}
 use Prim.Native.Nat.{◌-◌, ◌≤◌}
-use mathlib.Core.Path.{◌≡◌, sym, ◌∙◌}
-use lib.ListN.{length, take, drop, length-set}
-use Rattle.record.proofs.WindowLaws.{row_in, block_in_lem}
+use mathlib.Core.Path.{◌≡◌}
+use lib.ListN.{length, take, drop}
 use Rattle.recovery.specs.Fill.{freed}
-use Rattle.layout.proofs.Loops.{length-mapped}
-use native.Mathlib.Omega.{arith}
 use Rattle.recovery.proofs.fill.free_rows.Given as goal
 
 abbrev pub invariant-loop-i : goal.invariant-loop-i

@@ -1,5 +1,4 @@
 use mathlib.Core.Path.{sym, ◌∙◌}
-use borrow.Author.Tests.{not-true, not-false}
 use Rattle.stored.proofs.ReadLaws.{limits}
 use Rattle.stored.proofs.ReopenLaws.{unlabelled, wrong_length_is, sizes, bad_pages, taken}
 use Rattle.recovery.proofs.reopen.reopen.Goals as goal

@@ -1,7 +1,6 @@
 use borrow.Author.Rules.{rules}
 use Prim.Native.Nat.{ℕ, ◌-◌, ◌≤◌, ◌<◌}
 use mathlib.Core.Path.{◌≡◌, ◌∙◌}
-use lib.ListN.{length, get_or}
 use Rattle.slot_map.proofs.TextLaws.{byte_at, row_byte, space_byte, filled_more, least-low, letters_are}
 use native.Mathlib.Omega.{arith}
 use Rattle.slot_map.proofs.text.put_letters.Goals as goal

@@ -1,8 +1,7 @@
 use Prim.Native.Nat.{ℕ, ◌-◌, ◌≤◌, ◌<◌}
-use mathlib.Core.Path.{◌≡◌, ◌∙◌}
+use mathlib.Core.Path.{◌≡◌}
 use lib.ListN.{length, get_or}
-use Rattle.slot_map.proofs.TextLaws.{byte_at, row_byte, space_byte, filled_more, least-low, letters_are}
-use native.Mathlib.Omega.{arith}
+use Rattle.slot_map.proofs.TextLaws.{byte_at}
 use Rattle.slot_map.proofs.text.put_letters.Given as goal
 
 abbrev pub invariant-loop-i : goal.invariant-loop-i

@@ -1,9 +1,9 @@
 use borrow.Author.Rules.{rules}
-use Prim.Native.Nat.{ℕ, ◌-◌, ◌*◌, ◌≤◌, ◌<◌}
+use Prim.Native.Nat.{ℕ, ◌-◌, ◌*◌, ◌<◌}
 use mathlib.Core.Path.{◌≡◌, refl, ap, ◌∙◌}
 use mathlib.Core.List.{◌++◌}
 use native.Mathlib.Nat.{add-sub_cancel_left}
-use lib.ListN.{length, drop}
+use lib.ListN.{drop}
 use borrow.Rule.Slice.PartMut.{put_mid}
 use Rattle.protocol.specs.SlotMap.{lines_of, map_lines}
 use Rattle.slot_map.proofs.TextLaws.{lines_more}

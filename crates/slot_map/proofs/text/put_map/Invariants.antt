@@ -1,12 +1,8 @@
-use Prim.Native.Nat.{ℕ, ◌-◌, ◌*◌, ◌≤◌, ◌<◌}
-use mathlib.Core.Path.{◌≡◌, refl, ap, ◌∙◌}
+use Prim.Native.Nat.{◌-◌, ◌*◌, ◌≤◌}
+use mathlib.Core.Path.{◌≡◌}
 use mathlib.Core.List.{◌++◌}
-use native.Mathlib.Nat.{add-sub_cancel_left}
 use lib.ListN.{length, drop}
-use borrow.Rule.Slice.PartMut.{put_mid}
-use Rattle.protocol.specs.SlotMap.{lines_of, map_lines}
-use Rattle.slot_map.proofs.TextLaws.{lines_more}
-use native.Mathlib.Omega.{arith}
+use Rattle.protocol.specs.SlotMap.{lines_of}
 use Rattle.slot_map.proofs.text.put_map.Given as goal
 
 abbrev pub invariant-loop-k : goal.invariant-loop-k

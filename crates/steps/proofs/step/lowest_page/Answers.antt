@@ -1,8 +1,7 @@
 use borrow.Author.Rules.{rules}
-use Prim.Native.Nat.{◌≤◌, ◌-◌}
+use Prim.Native.Nat.{◌-◌}
 use mathlib.Core.Path.{◌≡◌, sym, ◌∙◌}
-use lib.ListN.{length, take, drop}
-use Rattle.protocol.specs.Plan.{lowest_from, lowest_page}
+use lib.ListN.{length}
 use Rattle.steps.proofs.MendLaws.{lowest-left, lowest-first, lowest_end}
 use Rattle.layout.proofs.Loops.{length-mapped}
 use native.Mathlib.Omega.{arith}

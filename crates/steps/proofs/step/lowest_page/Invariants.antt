@@ -1,10 +1,7 @@
 use Prim.Native.Nat.{◌≤◌, ◌-◌}
-use mathlib.Core.Path.{◌≡◌, sym, ◌∙◌}
-use lib.ListN.{length, take, drop}
+use mathlib.Core.Path.{◌≡◌}
+use lib.ListN.{take, drop}
 use Rattle.protocol.specs.Plan.{lowest_from, lowest_page}
-use Rattle.steps.proofs.MendLaws.{lowest-left, lowest-first, lowest_end}
-use Rattle.layout.proofs.Loops.{length-mapped}
-use native.Mathlib.Omega.{arith}
 use Rattle.steps.proofs.step.lowest_page.Given as goal
 
 abbrev pub invariant-loop-i : goal.invariant-loop-i

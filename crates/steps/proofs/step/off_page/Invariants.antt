@@ -1,12 +1,8 @@
-use Prim.Native.Nat.{ℕ, ◌≤◌, ◌-◌}
-use mathlib.Core.Path.{◌≡◌, ap, ◌∙◌}
-use lib.ListN.{length, take, length-take}
+use Prim.Native.Nat.{◌≤◌, ◌-◌}
+use mathlib.Core.Path.{◌≡◌}
+use lib.ListN.{take}
 use Rattle.layout.specs.Window.{window_from}
-use Rattle.layout.proofs.Loops.{length-mapped}
 use Rattle.protocol.specs.Recovery.{off_page}
-use Rattle.record.proofs.RecordLaws.{from_zero}
-use Rattle.steps.proofs.MendLaws.{off_most, off_one, more_from}
-use native.Mathlib.Omega.{arith}
 use Rattle.steps.proofs.step.off_page.Given as goal
 
 abbrev pub invariant-loop-i : goal.invariant-loop-i

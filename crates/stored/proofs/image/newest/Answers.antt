@@ -1,11 +1,9 @@
 use Rattle.laws.proofs.refine.Metas.{length_metas}
 use Rattle.stored.proofs.StoredLaws.{pages-most, numbered_more, numbered_all}
-use Prim.Native.Nat.{◌-◌, ◌≤◌, ◌<◌}
-use mathlib.Core.Path.{◌≡◌, refl, sym}
-use lib.ListN.{drop}
+use Prim.Native.Nat.{◌-◌, ◌<◌}
+use mathlib.Core.Path.{refl}
 use Rattle.layout.specs.Places.{meta_pages}
 use Rattle.protocol.specs.Recovery.{metas_of}
-use Rattle.stored.specs.Stored.{numbered_from, numbered_of}
 use native.Mathlib.Omega.{arith}
 use Rattle.stored.proofs.image.newest.Goals as goal
 

@@ -1,12 +1,9 @@
-use Rattle.laws.proofs.refine.Metas.{length_metas}
-use Rattle.stored.proofs.StoredLaws.{pages-most, numbered_more, numbered_all}
-use Prim.Native.Nat.{◌-◌, ◌≤◌, ◌<◌}
-use mathlib.Core.Path.{◌≡◌, refl, sym}
+use Prim.Native.Nat.{◌-◌, ◌≤◌}
+use mathlib.Core.Path.{◌≡◌}
 use lib.ListN.{drop}
 use Rattle.layout.specs.Places.{meta_pages}
 use Rattle.protocol.specs.Recovery.{metas_of}
 use Rattle.stored.specs.Stored.{numbered_from, numbered_of}
-use native.Mathlib.Omega.{arith}
 use Rattle.stored.proofs.image.newest.Given as goal
 
 abbrev pub invariant-loop-p : goal.invariant-loop-p

@@ -1,9 +1,7 @@
-use Rattle.stored.proofs.StoredLaws.{window_none, window-one, window-all}
 use Prim.Native.Nat.{◌-◌, ◌≤◌}
 use mathlib.Core.Path.{◌≡◌}
 use Rattle.layout.specs.MetaPage.{count_of, slot_at, firsts}
 use Rattle.layout.specs.Window.{array_of}
-use native.Mathlib.Omega.{arith}
 use Rattle.stored.proofs.image.window_of.Given as goal
 
 abbrev pub invariant-loop-k : goal.invariant-loop-k

@@ -1,11 +1,6 @@
-use Prim.Native.Nat.{ℕ, ◌+◌, ◌-◌, ◌*◌, ◌<◌}
-use mathlib.Core.Path.{◌≡◌, refl, sym, ap, ◌∙◌}
-use mathlib.Core.List.{List}
-use lib.ListN.{length, get_or, set, length-set}
-use native.Mathlib.Omega.{arith}
-use Rattle.layout.specs.Places.{table_length}
-use Rattle.protocol.specs.Sweep.{next_slot}
-use Rattle.sweeping.specs.Sweeps.{cleared_from}
+use Prim.Native.Nat.{◌+◌, ◌-◌, ◌*◌}
+use mathlib.Core.Path.{sym, ◌∙◌}
+use lib.ListN.{length-set}
 use Rattle.sweeping.proofs.SweepLaws.{clear_begun, clear_on, clear_done}
 use Rattle.sweeping.proofs.sweep.clear_used.Goals as goal
 

@@ -1,12 +1,8 @@
-use Prim.Native.Nat.{ℕ, ◌+◌, ◌-◌, ◌*◌, ◌<◌}
-use mathlib.Core.Path.{◌≡◌, refl, sym, ap, ◌∙◌}
-use mathlib.Core.List.{List}
-use lib.ListN.{length, get_or, set, length-set}
-use native.Mathlib.Omega.{arith}
+use Prim.Native.Nat.{◌-◌, ◌<◌}
+use mathlib.Core.Path.{◌≡◌}
+use lib.ListN.{length}
 use Rattle.layout.specs.Places.{table_length}
-use Rattle.protocol.specs.Sweep.{next_slot}
 use Rattle.sweeping.specs.Sweeps.{cleared_from}
-use Rattle.sweeping.proofs.SweepLaws.{clear_begun, clear_on, clear_done}
 use Rattle.sweeping.proofs.sweep.clear_used.Given as goal
 
 abbrev pub invariant-loop-k : goal.invariant-loop-k

@@ -1,11 +1,6 @@
-use Prim.Native.Nat.{ℕ, ◌+◌, ◌-◌, ◌≤◌, ◌<◌}
-use mathlib.Core.Path.{◌≡◌, refl, sym, ap, ◌∙◌}
-use mathlib.Core.Bool.{true, false}
-use native.Mathlib.Omega.{arith}
-use Rattle.layout.specs.declared.Slot.{Slot}
-use Rattle.protocol.specs.Sweep.{next_slot}
+use Prim.Native.Nat.{◌-◌, ◌≤◌}
+use mathlib.Core.Path.{◌≡◌}
 use Rattle.sweeping.specs.Sweeps.{lap_from, slot_past}
-use Rattle.sweeping.proofs.SweepLaws.{past_none, past_next, lap_begun, lap_on, lap_took, lap_done}
 use Rattle.sweeping.proofs.sweep.sweep.Given as goal
 
 abbrev pub invariant-loop-k : goal.invariant-loop-k

@@ -1,5 +1,5 @@
 use Prim.Native.Nat.{◌-◌}
-use Rattle.table.proofs.ScanLaws.{Searched, search_begin, search_more, search_ends}
+use Rattle.table.proofs.ScanLaws.{search_begin, search_more, search_ends}
 use Rattle.table.proofs.rows.find.Goals as goal
 
 pub loop-i-init : goal.loop-i-init

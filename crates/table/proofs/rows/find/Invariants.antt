@@ -1,5 +1,5 @@
 use Prim.Native.Nat.{◌-◌}
-use Rattle.table.proofs.ScanLaws.{Searched, search_begin, search_more, search_ends}
+use Rattle.table.proofs.ScanLaws.{Searched}
 use Rattle.table.proofs.rows.find.Given as goal
 
 abbrev pub invariant-loop-i : goal.invariant-loop-i

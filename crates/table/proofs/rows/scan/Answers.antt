@@ -1,7 +1,6 @@
 use Prim.Native.Nat.{◌-◌}
 use mathlib.Core.Path.{refl}
-use borrow.Author.Tests.{not-true, not-false}
-use Rattle.table.proofs.ScanLaws.{Passed, begin, one_more, broken, whole}
+use Rattle.table.proofs.ScanLaws.{begin, one_more, broken, whole}
 use Rattle.table.proofs.rows.scan.Goals as goal
 
 pub loop-i-init : goal.loop-i-init

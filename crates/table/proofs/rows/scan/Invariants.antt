@@ -1,7 +1,5 @@
 use Prim.Native.Nat.{◌-◌}
-use mathlib.Core.Path.{refl}
-use borrow.Author.Tests.{not-true, not-false}
-use Rattle.table.proofs.ScanLaws.{Passed, begin, one_more, broken, whole}
+use Rattle.table.proofs.ScanLaws.{Passed}
 use Rattle.table.proofs.rows.scan.Given as goal
 
 abbrev pub invariant-loop-i : goal.invariant-loop-i
