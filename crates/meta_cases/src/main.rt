@@ -6,26 +6,27 @@ ghost use Rattle.std.specs.Prelude.{◌≤◌, ◌<◌, ◌^◌};
 
 use layout::{Slot, WINDOW, Window, places};
 use metadata::page;
+use std::io;
 
 // Judges page p of a box of so many slots.
-fn judged(name: &[u8], slots: u32, p: u32, page: [u8; 4096])
+fn judged(rt: &impl Print, name: &[u8], slots: u32, p: u32, page: [u8; 4096]) -> io::Result<()>
     requires { p < 2 ^ 16 }
 {
-    io::write_all(1, name);
+    rt.write_all(name)?;
     if page_rule::legal_page(places::label(slots, 8), p, &page) {
-        io::write_all(1, b": legal\n");
+        println!(rt; ": legal")
     } else {
-        io::write_all(1, b": refused\n");
+        println!(rt; ": refused")
     }
 }
 
 // A page with one byte changed, judged as page 0 of 4 slots.
-fn changed(name: &[u8], page: [u8; 4096], at: usize, value: u8)
+fn changed(rt: &impl Print, name: &[u8], page: [u8; 4096], at: usize, value: u8) -> io::Result<()>
     requires { at < 4096 }
 {
     let mut other = page;
     other[at] = value;
-    judged(name, 4, 0, other);
+    judged(rt, name, 4, 0, other)
 }
 
 // A page of 4 slots, whose first has a block: stamp, a window of up to two slots, and that row.
@@ -52,158 +53,165 @@ fn wide_page() -> [u8; 4096] {
 }
 
 // The fields in the page table's order, each zero range at both ends.
-fn zero_cases() {
+fn zero_cases(rt: &impl Print) -> io::Result<()> {
     let good = page_of(7, 0, 0, 1, 5, 7);
-    changed(b"byte 6 not zero", good, 6, 1);
-    changed(b"byte 15 not zero", good, 15, 128);
-    changed(b"byte 20, past the window, not zero", good, 20, 1);
-    changed(b"byte 267, past the window, not zero", good, 267, 64);
+    changed(rt, b"byte 6 not zero", good, 6, 1)?;
+    changed(rt, b"byte 15 not zero", good, 15, 128)?;
+    changed(rt, b"byte 20, past the window, not zero", good, 20, 1)?;
+    changed(rt, b"byte 267, past the window, not zero", good, 267, 64)
 }
 
-fn zero_cases_after() {
+fn zero_cases_after(rt: &impl Print) -> io::Result<()> {
     let good = page_of(7, 0, 0, 1, 5, 7);
-    changed(b"byte 268 not zero", good, 268, 1);
-    changed(b"byte 511 not zero", good, 511, 2);
-    changed(b"entry byte 5 not zero", good, 517, 1);
-    changed(b"entry byte 6 not zero", good, 518, 4);
-    changed(b"entry byte 7 not zero", good, 519, 128);
+    changed(rt, b"byte 268 not zero", good, 268, 1)?;
+    changed(rt, b"byte 511 not zero", good, 511, 2)?;
+    changed(rt, b"entry byte 5 not zero", good, 517, 1)?;
+    changed(rt, b"entry byte 6 not zero", good, 518, 4)?;
+    changed(rt, b"entry byte 7 not zero", good, 519, 128)
 }
 
-fn zero_cases_last() {
+fn zero_cases_last(rt: &impl Print) -> io::Result<()> {
     let good = page_of(7, 0, 0, 1, 5, 7);
-    changed(b"last entry's flags not zero", good, 2428, 1);
-    changed(b"last entry's last byte not zero", good, 2431, 1);
-    changed(b"byte 2432 not zero", good, 2432, 1);
-    changed(b"byte 4095 not zero", good, 4095, 16);
+    changed(rt, b"last entry's flags not zero", good, 2428, 1)?;
+    changed(rt, b"last entry's last byte not zero", good, 2431, 1)?;
+    changed(rt, b"byte 2432 not zero", good, 2432, 1)?;
+    changed(rt, b"byte 4095 not zero", good, 4095, 16)
 }
 
-fn window_cases() {
-    judged(b"stamp 0 with a window", 4, 0, page_of(0, 0, 0, 1, 5, 7));
-    judged(b"stamp 0 without", 4, 0, page_of(0, 0, 0, 0, 5, 3));
+fn window_cases(rt: &impl Print) -> io::Result<()> {
     judged(
+        rt,
+        b"stamp 0 with a window",
+        4,
+        0,
+        page_of(0, 0, 0, 1, 5, 7),
+    )?;
+    judged(rt, b"stamp 0 without", 4, 0, page_of(0, 0, 0, 0, 5, 3))?;
+    judged(
+        rt,
         b"stamp 4294967295",
         4,
         0,
         page_of(4294967295, 0, 0, 1, 5, 7),
-    );
-    judged(b"two slots", 4, 0, page_of(7, 3, 0, 2, 5, 7));
-    judged(b"a slot twice", 4, 0, page_of(7, 3, 3, 2, 5, 7));
+    )?;
+    judged(rt, b"two slots", 4, 0, page_of(7, 3, 0, 2, 5, 7))?;
+    judged(rt, b"a slot twice", 4, 0, page_of(7, 3, 3, 2, 5, 7))
 }
 
-fn window_slot_cases() {
-    judged(b"slot 3 of 4", 4, 0, page_of(7, 3, 0, 1, 5, 7));
-    judged(b"slot 4 of 4", 4, 0, page_of(7, 4, 0, 1, 5, 7));
-    changed(b"window length 257", page_of(7, 0, 0, 1, 5, 7), 5, 1);
+fn window_slot_cases(rt: &impl Print) -> io::Result<()> {
+    judged(rt, b"slot 3 of 4", 4, 0, page_of(7, 3, 0, 1, 5, 7))?;
+    judged(rt, b"slot 4 of 4", 4, 0, page_of(7, 4, 0, 1, 5, 7))?;
+    changed(rt, b"window length 257", page_of(7, 0, 0, 1, 5, 7), 5, 1)
 }
 
-fn window_length_cases() {
+fn window_length_cases(rt: &impl Print) -> io::Result<()> {
     let mut wide = wide_page();
-    judged(b"slots 64, window of 63", 64, 0, wide);
-    judged(b"slots 62, window of 63", 62, 0, wide);
+    judged(rt, b"slots 64, window of 63", 64, 0, wide)?;
+    judged(rt, b"slots 62, window of 63", 62, 0, wide)?;
     wide[4] = 64;
     wide[268] = 63;
-    judged(b"slots 64, window of 64", 64, 0, wide);
+    judged(rt, b"slots 64, window of 64", 64, 0, wide)
 }
 
-fn flags_cases() {
+fn flags_cases(rt: &impl Print) -> io::Result<()> {
     let good = page_of(7, 0, 0, 1, 5, 7);
-    changed(b"flags 1", good, 516, 1);
-    changed(b"flags 2", good, 516, 2);
-    changed(b"flags 3", good, 516, 3);
-    changed(b"flags 4", good, 516, 4);
-    changed(b"flags 5", good, 516, 5);
+    changed(rt, b"flags 1", good, 516, 1)?;
+    changed(rt, b"flags 2", good, 516, 2)?;
+    changed(rt, b"flags 3", good, 516, 3)?;
+    changed(rt, b"flags 4", good, 516, 4)?;
+    changed(rt, b"flags 5", good, 516, 5)
 }
 
-fn flags_cases_beyond() {
+fn flags_cases_beyond(rt: &impl Print) -> io::Result<()> {
     let good = page_of(7, 0, 0, 1, 5, 7);
-    changed(b"flags 6", good, 516, 6);
-    changed(b"flags 7", good, 516, 7);
-    changed(b"flags 8", good, 516, 8);
-    changed(b"flags 9", good, 516, 9);
-    changed(b"flags 255", good, 516, 255);
+    changed(rt, b"flags 6", good, 516, 6)?;
+    changed(rt, b"flags 7", good, 516, 7)?;
+    changed(rt, b"flags 8", good, 516, 8)?;
+    changed(rt, b"flags 9", good, 516, 9)?;
+    changed(rt, b"flags 255", good, 516, 255)
 }
 
-fn entry_cases() {
+fn entry_cases(rt: &impl Print) -> io::Result<()> {
     let good = page_of(7, 0, 0, 1, 5, 7);
-    changed(b"flags 0 with a block", good, 516, 0);
-    judged(b"flags 0 without", 4, 0, page_of(7, 0, 0, 1, 0, 0));
-    judged(b"a row's used flag", 4, 0, page_of(7, 0, 0, 1, 5, 15));
+    changed(rt, b"flags 0 with a block", good, 516, 0)?;
+    judged(rt, b"flags 0 without", 4, 0, page_of(7, 0, 0, 1, 0, 0))?;
+    judged(rt, b"a row's used flag", 4, 0, page_of(7, 0, 0, 1, 5, 15))
 }
 
-fn block_cases() {
+fn block_cases(rt: &impl Print) -> io::Result<()> {
     let good = page_of(7, 0, 0, 1, 5, 7);
-    judged(b"block 7 of 8", 4, 0, page_of(7, 0, 0, 1, 7, 7));
-    judged(b"block 8 of 8", 4, 0, page_of(7, 0, 0, 1, 8, 7));
-    changed(b"block 16777221", good, 515, 1);
-    changed(b"entry of slot 3", good, 540, 1);
-    changed(b"entry of slot 4, past the last", good, 548, 1);
+    judged(rt, b"block 7 of 8", 4, 0, page_of(7, 0, 0, 1, 7, 7))?;
+    judged(rt, b"block 8 of 8", 4, 0, page_of(7, 0, 0, 1, 8, 7))?;
+    changed(rt, b"block 16777221", good, 515, 1)?;
+    changed(rt, b"entry of slot 3", good, 540, 1)?;
+    changed(rt, b"entry of slot 4, past the last", good, 548, 1)
 }
 
 // Page 1 of 241 slots holds slot 240 alone.
-fn second_page_cases() {
+fn second_page_cases(rt: &impl Print) -> io::Result<()> {
     let mut page = page_of(2, 240, 0, 1, 6, 7);
-    judged(b"slots 241, page 1", 241, 1, page);
-    judged(b"slots 240, page 1", 240, 1, page);
+    judged(rt, b"slots 241, page 1", 241, 1, page)?;
+    judged(rt, b"slots 240, page 1", 240, 1, page)?;
     page[524] = 1;
-    judged(b"slots 241, page 1, entry of slot 241", 241, 1, page);
-    judged(b"slots 242, page 1, entry of slot 241", 242, 1, page);
+    judged(rt, b"slots 241, page 1, entry of slot 241", 241, 1, page)?;
+    judged(rt, b"slots 242, page 1, entry of slot 241", 242, 1, page)
 }
 
 // Reads page 0 of 4 slots down to a row of the page table.
-fn read_row(page: [u8; 4096], rows: u32) {
+fn read_row(rt: &impl Print, page: [u8; 4096], rows: u32) -> io::Result<()> {
     if page_rule::read_down(places::label(4, 8), 0, &page, rows) {
-        io::write_all(1, b" passes");
+        print!(rt; " passes")
     } else {
-        io::write_all(1, b" refused");
+        print!(rt; " refused")
     }
 }
 
 // The answers for rows 1 to 7, on one line.
-fn read_rows(name: &[u8], page: [u8; 4096]) {
-    io::write_all(1, name);
-    io::write_all(1, b":");
-    read_row(page, 1);
-    read_row(page, 2);
-    read_row(page, 3);
-    read_row(page, 4);
-    read_row(page, 5);
-    read_row(page, 6);
-    read_row(page, 7);
-    io::write_all(1, b"\n");
+fn read_rows(rt: &impl Print, name: &[u8], page: [u8; 4096]) -> io::Result<()> {
+    rt.write_all(name)?;
+    print!(rt; ":")?;
+    read_row(rt, page, 1)?;
+    read_row(rt, page, 2)?;
+    read_row(rt, page, 3)?;
+    read_row(rt, page, 4)?;
+    read_row(rt, page, 5)?;
+    read_row(rt, page, 6)?;
+    read_row(rt, page, 7)?;
+    println!(rt)
 }
 
 // The same of a page with one byte changed: stamp 7, slots 0 and 3 in the window, block 5 open for writing in slot 0.
-fn read_changed(name: &[u8], at: usize, value: u8)
+fn read_changed(rt: &impl Print, name: &[u8], at: usize, value: u8) -> io::Result<()>
     requires { at < 4096 }
 {
     let mut page = page_of(7, 0, 3, 2, 5, 7);
     page[at] = value;
-    read_rows(name, page);
+    read_rows(rt, name, page)
 }
 
 // A legal page, and one broken in each of rows 2 to 7.
-fn row_cases() {
-    read_rows(b"legal", page_of(7, 0, 3, 2, 5, 7));
-    read_changed(b"row 2, stamp 0 with a window", 0, 0);
-    read_changed(b"row 3, byte 6", 6, 1);
-    read_changed(b"row 4, slot 4 of 4", 20, 4);
-    read_changed(b"row 5, byte 268", 268, 1);
-    read_changed(b"row 6, flags 2", 516, 2);
-    read_changed(b"row 7, byte 2432", 2432, 1);
+fn row_cases(rt: &impl Print) -> io::Result<()> {
+    read_rows(rt, b"legal", page_of(7, 0, 3, 2, 5, 7))?;
+    read_changed(rt, b"row 2, stamp 0 with a window", 0, 0)?;
+    read_changed(rt, b"row 3, byte 6", 6, 1)?;
+    read_changed(rt, b"row 4, slot 4 of 4", 20, 4)?;
+    read_changed(rt, b"row 5, byte 268", 268, 1)?;
+    read_changed(rt, b"row 6, flags 2", 516, 2)?;
+    read_changed(rt, b"row 7, byte 2432", 2432, 1)
 }
 
-fn main() {
-    judged(b"good page", 4, 0, page_of(7, 0, 0, 1, 5, 7));
-    zero_cases();
-    zero_cases_after();
-    zero_cases_last();
-    window_cases();
-    window_slot_cases();
-    window_length_cases();
-    flags_cases();
-    flags_cases_beyond();
-    entry_cases();
-    block_cases();
-    second_page_cases();
-    row_cases();
+fn main(rt: HostRuntime) -> io::Result<()> {
+    judged(&rt, b"good page", 4, 0, page_of(7, 0, 0, 1, 5, 7))?;
+    zero_cases(&rt)?;
+    zero_cases_after(&rt)?;
+    zero_cases_last(&rt)?;
+    window_cases(&rt)?;
+    window_slot_cases(&rt)?;
+    window_length_cases(&rt)?;
+    flags_cases(&rt)?;
+    flags_cases_beyond(&rt)?;
+    entry_cases(&rt)?;
+    block_cases(&rt)?;
+    second_page_cases(&rt)?;
+    row_cases(&rt)
 }

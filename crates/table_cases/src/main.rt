@@ -6,6 +6,7 @@ mod print;
 use layout::{Block, Slot, WINDOW, Window, places};
 use protocol::Condition;
 use record::{Phase, Record, state};
+use std::io;
 use sweeping::{Swept, sweep};
 use table::rows;
 
@@ -20,83 +21,84 @@ fn word(i: usize, flags: u32, last: u32) -> u32 {
     flags
 }
 
-fn fill(table: &mut [u32], flags: u32, last: u32) {
-    print::named(b"rows with flags ", flags);
-    print::named(b", the last 63 with ", last);
-    print::text(b"\n");
-    let mut i = 0;
-    while i < table.len() {
-        table[i] = word(i, flags, last);
-        i += 1;
+fn fill(rt: &impl Print, table: &mut [u32], flags: u32, last: u32) -> io::Result<()> {
+    print::named(rt, b"rows with flags ", flags)?;
+    print::named(rt, b", the last 63 with ", last)?;
+    print::text(rt, b"\n")?;
+    for (i, x) in table.iter_mut().enumerate() {
+        *x = word(i, flags, last);
     }
+    Ok(())
 }
 
 // Sets a row, and says so.
-fn put(table: &mut [u32], slot: u32, block: u32, flags: u32) {
-    print::named(b"row ", slot);
-    print::named(b" block ", block);
-    print::named(b" flags ", flags);
-    print::text(b"\n");
+fn put(rt: &impl Print, table: &mut [u32], slot: u32, block: u32, flags: u32) -> io::Result<()> {
+    print::named(rt, b"row ", slot)?;
+    print::named(rt, b" block ", block)?;
+    print::named(rt, b" flags ", flags)?;
+    print::text(rt, b"\n")?;
     let k = 2 * (slot as usize);
     if k + 1 < table.len() {
         table[k] = block;
         table[k + 1] = flags;
     }
+    Ok(())
 }
 
-fn scan(table: &[u32], block: u32) {
+fn scan(rt: &impl Print, table: &[u32], block: u32) -> io::Result<()> {
     let l = places::label(57600, 16777216);
     if table.len() != places::table_length(l) {
-        return;
+        return Ok(());
     }
     let found = rows::scan(l, table, Block(block));
-    print::named(b"scan for ", block);
+    print::named(rt, b"scan for ", block)?;
     if found.legal {
-        print::named(b" -> writing ", found.writing);
-        print::named(b" busy ", found.busy);
-        print::named(b" at ", found.at);
+        print::named(rt, b" -> writing ", found.writing)?;
+        print::named(rt, b" busy ", found.busy)?;
+        print::named(rt, b" at ", found.at)?;
     } else {
-        print::text(b" -> not legal");
+        print::text(rt, b" -> not legal")?;
     }
-    print::text(b"\n");
+    print::text(rt, b"\n")
 }
 
 // What a sweep takes; and how many slots it passed.
-fn swept(table: &[u32], hand: u32) -> u32 {
+fn swept(rt: &impl Print, table: &[u32], hand: u32) -> io::Result<u32> {
     let l = places::label(57600, 16777216);
     if table.len() != places::table_length(l) {
-        return 0;
+        return Ok(0);
     }
     if l.slots <= hand {
-        return 0;
+        return Ok(0);
     }
-    print::named(b"sweep from ", hand);
+    print::named(rt, b"sweep from ", hand)?;
     let found = sweep::sweep(l, table, Slot(hand));
     match found {
         Swept::Took(s, passed) => {
-            print::named(b" -> took ", s.0);
-            print::named(b" after ", passed);
-            passed
+            print::named(rt, b" -> took ", s.0)?;
+            print::named(rt, b" after ", passed)?;
+            Ok(passed)
         }
         Swept::Stuck => {
-            print::text(b" -> all open");
-            0
+            print::text(rt, b" -> all open")?;
+            Ok(0)
         }
     }
 }
 
 // A sweep, and the used flags on its way cleared.
-fn sweep_from(table: &mut [u32], hand: u32) {
-    let passed = swept(table, hand);
-    print::text(b"\n");
+fn sweep_from(rt: &impl Print, table: &mut [u32], hand: u32) -> io::Result<()> {
+    let passed = swept(rt, table, hand)?;
+    print::text(rt, b"\n")?;
     let l = places::label(57600, 16777216);
     if table.len() != places::table_length(l) {
-        return;
+        return Ok(());
     }
     if l.slots <= hand {
-        return;
+        return Ok(());
     }
     sweep::clear_used(l, table, Slot(hand), passed);
+    Ok(())
 }
 
 // A window of the last 63 slots.
@@ -117,18 +119,18 @@ fn full(hand: u32) -> Record {
     state::with_hand(fresh, Slot(hand))
 }
 
-fn condition(k: Condition) {
+fn condition(rt: &impl Print, k: Condition) -> io::Result<()> {
     match k {
-        Condition::NotCached => print::text(b", not cached"),
-        Condition::Clean(s) => print::named(b", clean in ", s.0),
-        Condition::Dirty(s) => print::named(b", dirty in ", s.0),
-        Condition::Writing(s) => print::named(b", open for writing in ", s.0),
-        Condition::Fetching(s) => print::named(b", open for fetch in ", s.0),
+        Condition::NotCached => print::text(rt, b", not cached"),
+        Condition::Clean(s) => print::named(rt, b", clean in ", s.0),
+        Condition::Dirty(s) => print::named(rt, b", dirty in ", s.0),
+        Condition::Writing(s) => print::named(rt, b", open for writing in ", s.0),
+        Condition::Fetching(s) => print::named(rt, b", open for fetch in ", s.0),
     }
 }
 
 // A box with such a record judged, as far as table and block go.
-fn judged(table: &[u32], hand: u32, block: u32) {
+fn judged(rt: &impl Print, table: &[u32], hand: u32, block: u32) -> io::Result<()> {
     let l = places::label(57600, 16777216);
     let found = judging::judge_block(
         places::ssd_length(l),
@@ -140,91 +142,91 @@ fn judged(table: &[u32], hand: u32, block: u32) {
         0,
     );
     let k = found.condition;
-    print::named(b"hand ", hand);
-    print::named(b" block ", block);
+    print::named(rt, b"hand ", hand)?;
+    print::named(rt, b" block ", block)?;
     if found.number == 0 {
-        print::named(b" -> writing ", found.writing);
-        condition(k);
+        print::named(rt, b" -> writing ", found.writing)?;
+        condition(rt, k)?;
     } else {
-        print::named(b" -> refused ", found.number);
+        print::named(rt, b" -> refused ", found.number)?;
     }
-    print::text(b"\n");
+    print::text(rt, b"\n")
 }
 
-fn free_and_clean(table: &mut [u32]) {
-    scan(table, 0);
-    sweep_from(table, 0);
-    sweep_from(table, 57599);
-    fill(table, 1, 1);
-    scan(table, 0);
-    scan(table, 57599);
-    scan(table, 57600);
-    sweep_from(table, 57599);
+fn free_and_clean(rt: &impl Print, table: &mut [u32]) -> io::Result<()> {
+    scan(rt, table, 0)?;
+    sweep_from(rt, table, 0)?;
+    sweep_from(rt, table, 57599)?;
+    fill(rt, table, 1, 1)?;
+    scan(rt, table, 0)?;
+    scan(rt, table, 57599)?;
+    scan(rt, table, 57600)?;
+    sweep_from(rt, table, 57599)
 }
 
-fn used(table: &mut [u32]) {
-    fill(table, 9, 9);
-    sweep_from(table, 57599);
-    sweep_from(table, 57598);
-    fill(table, 9, 9);
-    put(table, 57598, 57598, 1);
-    sweep_from(table, 57599);
-    sweep_from(table, 57597);
+fn used(rt: &impl Print, table: &mut [u32]) -> io::Result<()> {
+    fill(rt, table, 9, 9)?;
+    sweep_from(rt, table, 57599)?;
+    sweep_from(rt, table, 57598)?;
+    fill(rt, table, 9, 9)?;
+    put(rt, table, 57598, 57598, 1)?;
+    sweep_from(rt, table, 57599)?;
+    sweep_from(rt, table, 57597)
 }
 
-fn open(table: &mut [u32]) {
-    fill(table, 15, 15);
-    scan(table, 12345);
-    sweep_from(table, 0);
-    put(table, 12345, 12345, 11);
-    scan(table, 12345);
-    sweep_from(table, 12346);
-    sweep_from(table, 12346);
+fn open(rt: &impl Print, table: &mut [u32]) -> io::Result<()> {
+    fill(rt, table, 15, 15)?;
+    scan(rt, table, 12345)?;
+    sweep_from(rt, table, 0)?;
+    put(rt, table, 12345, 12345, 11)?;
+    scan(rt, table, 12345)?;
+    sweep_from(rt, table, 12346)?;
+    sweep_from(rt, table, 12346)
 }
 
-fn last_row(table: &mut [u32]) {
-    fill(table, 1, 1);
-    put(table, 57599, 57599, 2);
-    scan(table, 0);
-    put(table, 57599, 16777216, 1);
-    scan(table, 0);
-    put(table, 57599, 16777215, 7);
-    scan(table, 16777215);
-    put(table, 57599, 5, 1);
-    scan(table, 5);
+fn last_row(rt: &impl Print, table: &mut [u32]) -> io::Result<()> {
+    fill(rt, table, 1, 1)?;
+    put(rt, table, 57599, 57599, 2)?;
+    scan(rt, table, 0)?;
+    put(rt, table, 57599, 16777216, 1)?;
+    scan(rt, table, 0)?;
+    put(rt, table, 57599, 16777215, 7)?;
+    scan(rt, table, 16777215)?;
+    put(rt, table, 57599, 5, 1)?;
+    scan(rt, table, 5)
 }
 
 // The window lists the last 63 slots, and they are open.
-fn agreeing(table: &mut [u32]) {
-    fill(table, 1, 7);
-    judged(table, 57599, 57599);
-    judged(table, 57600, 57599);
-    judged(table, 0, 0);
-    judged(table, 0, 16777215);
-    judged(table, 0, 16777216);
+fn agreeing(rt: &impl Print, table: &mut [u32]) -> io::Result<()> {
+    fill(rt, table, 1, 7)?;
+    judged(rt, table, 57599, 57599)?;
+    judged(rt, table, 57600, 57599)?;
+    judged(rt, table, 0, 0)?;
+    judged(rt, table, 0, 16777215)?;
+    judged(rt, table, 0, 16777216)
 }
 
 // One open row too many; none; one too few.
-fn disagreeing(table: &mut [u32]) {
-    put(table, 0, 0, 7);
-    judged(table, 0, 0);
-    put(table, 0, 0, 3);
-    judged(table, 0, 0);
-    put(table, 57599, 57599, 3);
-    judged(table, 0, 0);
+fn disagreeing(rt: &impl Print, table: &mut [u32]) -> io::Result<()> {
+    put(rt, table, 0, 0, 7)?;
+    judged(rt, table, 0, 0)?;
+    put(rt, table, 0, 0, 3)?;
+    judged(rt, table, 0, 0)?;
+    put(rt, table, 57599, 57599, 3)?;
+    judged(rt, table, 0, 0)
 }
 
-fn on(table: &mut [u32]) {
-    free_and_clean(table);
-    used(table);
-    open(table);
-    last_row(table);
-    agreeing(table);
-    disagreeing(table);
+fn on(rt: &impl Print, table: &mut [u32]) -> io::Result<()> {
+    free_and_clean(rt, table)?;
+    used(rt, table)?;
+    open(rt, table)?;
+    last_row(rt, table)?;
+    agreeing(rt, table)?;
+    disagreeing(rt, table)
 }
 
-fn main() {
-    print::text(b"57600 rows\n");
+fn main(rt: HostRuntime) -> io::Result<()> {
+    print::text(&rt, b"57600 rows\n")?;
     let mut table = [0u32; 115200];
-    on(&mut table);
+    on(&rt, &mut table)
 }

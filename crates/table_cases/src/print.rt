@@ -1,10 +1,12 @@
 // Words and numbers on standard output.
-pub fn text(words: &[u8]) {
-    io::write_all(1, words);
+use std::io;
+
+pub fn text(rt: &impl Print, words: &[u8]) -> io::Result<()> {
+    rt.write_all(words)
 }
 
 // Words and a number.
-pub fn named(words: &[u8], n: u32) {
-    text(words);
-    io::print_decimal(1, n as u64);
+pub fn named(rt: &impl Print, words: &[u8], n: u32) -> io::Result<()> {
+    text(rt, words)?;
+    print!(rt; "{n}")
 }

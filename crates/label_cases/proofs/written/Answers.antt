@@ -4,4 +4,4 @@ use Rattle.label_cases.proofs.written.Goals as goal
 
 pub encode_label-page-requires : goal.encode_label-page-requires
 unfolding within_limits
-encode_label-page-requires c = ap within_limits c.label.ensures
+encode_label-page-requires g c = ap within_limits c.label.ensures
