@@ -29,6 +29,5 @@ pub extern "C" fn bench_encode(out: &mut [u8], stamp: u32, slot: u32, rows: &[u3
         slots: [Slot(slot); WINDOW],
         count: 63,
     };
-    let page = metadata::page::encode_meta(stamp, w, rows);
-    pages::copy(out, &page);
+    out.copy_from_slice(&metadata::page::encode_meta(stamp, w, rows));
 }

@@ -1,7 +1,8 @@
 -- What an answer becomes at the C interface: the result code, and what the slot and the place of a page become.
-use Rattle.std.specs.Prelude.{ℕ, ◌*◌, List, [], ◌∷◌}
+use Rattle.std.specs.Prelude.{ℕ, ◌*◌, [], ◌∷◌}
+use Rattle.std.specs.Prelude.{Option, Some, None}
 use Rattle.protocol.specs.declared.Stored.{Stored}
-use Rattle.protocol.specs.declared.Stored.TheVariants.{Nothing, Ssd, Hdd}
+use Rattle.protocol.specs.declared.Stored.TheVariants.{Ssd, Hdd}
 use Rattle.protocol.specs.Reply.{Reply, refusal, answer, dealt}
 use Rattle.c_answers.specs.declared.Place.{Place}
 
@@ -29,13 +30,13 @@ abbrev pub page_of : ℕ → ℕ → Place
 page_of image i = record { image = image; offset = 4096 * i }
 
 -- where the page lies that a call stored; image 0 where it stored none
-abbrev pub place_of : Stored → Place
-place_of Nothing = record { image = 0; offset = 0 }
-place_of (Ssd i) = page_of 1 i
-place_of (Hdd i) = page_of 2 i
+abbrev pub place_of : Option Stored → Place
+place_of None = record { image = 0; offset = 0 }
+place_of (Some (Ssd i)) = page_of 1 i
+place_of (Some (Hdd i)) = page_of 2 i
 
 -- the place after a call, or what was there before a refusal
-abbrev pub place_after : Reply → Stored → Place → Place
+abbrev pub place_after : Reply → Option Stored → Place → Place
 place_after (refusal n) stored before = before
 place_after (answer n s) stored before = place_of stored
 place_after (dealt n) stored before = place_of stored

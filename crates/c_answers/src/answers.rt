@@ -1,26 +1,10 @@
 // What an answer becomes for C.
 ghost use Rattle.std.specs.Prelude.{◌≡◌};
-ghost use Rattle.protocol.specs.Reply.{looked, reply_of, refused};
+ghost use Rattle.protocol.specs.Reply.{looked, reply_of};
 ghost use Rattle.c_answers.specs.Codes.{code_of, slot_after, dealt_after, page_of, place_of};
 
 use crate::Place;
 use protocol::{Answer, Condition, Stored};
-
-// Whether it is a refusal.
-pub fn is_refused(answer: Answer) -> bool
-    ensures { result ≡ refused (reply_of answer) }
-{
-    match answer {
-        Answer::Refused(_) => true,
-        Answer::Announced(_) => false,
-        Answer::Overwrite => false,
-        Answer::CopiedOut => false,
-        Answer::Looked(_) => false,
-        Answer::NothingToDo => false,
-        Answer::Done => false,
-        Answer::Dealt(_) => false,
-    }
-}
 
 // The result code of a look-up that found this.
 fn code_of_condition(condition: Condition) -> u32
@@ -41,10 +25,10 @@ fn slot_of_condition(condition: Condition, before: u32) -> u32
 {
     match condition {
         Condition::NotCached => before,
-        Condition::Clean(s) => s.0,
-        Condition::Dirty(s) => s.0,
-        Condition::Writing(s) => s.0,
-        Condition::Fetching(s) => s.0,
+        Condition::Clean(s)
+        | Condition::Dirty(s)
+        | Condition::Writing(s)
+        | Condition::Fetching(s) => s.0,
     }
 }
 
@@ -53,7 +37,6 @@ pub fn code_of(answer: Answer) -> u32
     ensures { result ≡ code_of (reply_of answer) }
 {
     match answer {
-        Answer::Refused(number) => number,
         Answer::Announced(_) => 101,
         Answer::Overwrite => 102,
         Answer::CopiedOut => 103,
@@ -69,14 +52,9 @@ pub fn slot_of(answer: Answer, before: u32) -> u32
     ensures { result ≡ slot_after (reply_of answer) before }
 {
     match answer {
-        Answer::Refused(_) => before,
         Answer::Announced(s) => s.0,
-        Answer::Overwrite => before,
-        Answer::CopiedOut => before,
         Answer::Looked(condition) => slot_of_condition(condition, before),
-        Answer::NothingToDo => before,
-        Answer::Done => before,
-        Answer::Dealt(_) => before,
+        _ => before,
     }
 }
 
@@ -85,14 +63,8 @@ pub fn dealt_of(answer: Answer, before: u32) -> u32
     ensures { result ≡ dealt_after (reply_of answer) before }
 {
     match answer {
-        Answer::Refused(_) => before,
-        Answer::Announced(_) => before,
-        Answer::Overwrite => before,
-        Answer::CopiedOut => before,
-        Answer::Looked(_) => before,
-        Answer::NothingToDo => before,
-        Answer::Done => before,
         Answer::Dealt(places) => places,
+        _ => before,
     }
 }
 
@@ -106,16 +78,16 @@ fn page_of(image: u32, page: u32) -> Place
     }
 }
 
-// Where the page lies that a call stored.
-pub fn place_of(stored: Stored) -> Place
+// Where the page lies that a call stored, if it stored one.
+pub fn place_of(stored: Option<Stored>) -> Place
     ensures { result ≡ place_of stored }
 {
     match stored {
-        Stored::Nothing => Place {
+        None => Place {
             image: 0,
             offset: 0,
         },
-        Stored::Ssd(page) => page_of(1, page),
-        Stored::Hdd(page) => page_of(2, page),
+        Some(Stored::Ssd(page)) => page_of(1, page),
+        Some(Stored::Hdd(page)) => page_of(2, page),
     }
 }

@@ -33,10 +33,7 @@ pub fn place_for(l: Label, b: Block, condition: Condition) -> Place
     ensures { result ≡ place_for l b condition }
 {
     match condition {
-        Condition::NotCached => in_hdd(l, b),
-        Condition::Clean(s) => in_ssd(l, s),
-        Condition::Dirty(s) => in_ssd(l, s),
-        Condition::Writing(_) => in_hdd(l, b),
-        Condition::Fetching(_) => in_hdd(l, b),
+        Condition::Clean(s) | Condition::Dirty(s) => in_ssd(l, s),
+        _ => in_hdd(l, b),
     }
 }

@@ -1,45 +1,33 @@
--- What an answer leaves of the words and of the place of a page, and how many words a record is.
+-- What words that hold a record are, and words that hold none.
 use Prim.Native.Nat.{ℕ}
-use mathlib.Core.Path.{◌≡◌, refl}
+use mathlib.Core.Path.{◌≡◌, sym}
 use mathlib.Core.Bool.{true, false}
 use mathlib.Core.List.{List}
+use Rattle.std.specs.Prelude.{Some, None}
+use Rattle.std.proofs.lemmas.Option.{none-some, same_Some}
 use lib.ListN.{length}
 use lib.Dec.{eqb}
 use borrow.Author.Tests.{eqb-true}
+use Rattle.layout.proofs.Booleans.{Told, told, told_true, told_false, and_parts}
 use Rattle.record.specs.declared.Record.{Record}
-use Rattle.protocol.specs.declared.Stored.{Stored}
-use Rattle.protocol.specs.Reply.{Reply, refusal, answer, dealt, refused}
-use Rattle.layout.proofs.Booleans.{clash, and_parts}
-use Rattle.c_record.specs.Words.{words_of, is_record}
-use Rattle.c_answers.specs.declared.Place.{Place}
-use Rattle.c_answers.specs.Codes.{code_of, place_of, place_after}
-use Rattle.c_closing.specs.Closing.{closed_by}
-
--- a refusal leaves the words and the place
-pub refused-closed : (said : Reply) (r : Record) (words : List ℕ) (code : ℕ) → code ≡ code_of said → refused said ≡ true
-    → record { code = code; words = words } ≡ closed_by said r words
-refused-closed (refusal n) r words code e h = rw e
-refused-closed (answer n s) r words code e h = clash h refl
-refused-closed (dealt n) r words code e h = clash h refl
-
-pub refused-place : (said : Reply) (stored : Stored) (before : Place) → refused said ≡ true → before ≡ place_after said stored before
-refused-place (refusal n) stored before h = refl
-refused-place (answer n s) stored before h = clash h refl
-refused-place (dealt n) stored before h = clash h refl
-
--- any other answer packs the record, and names the page that was stored
-pub answered_closed : (said : Reply) (r : Record) (words after : List ℕ) (code : ℕ) → code ≡ code_of said → refused said ≡ false
-    → after ≡ words_of r → record { code = code; words = after } ≡ closed_by said r words
-answered_closed (refusal n) r words after code e h p = clash refl h
-answered_closed (answer n s) r words after code e h p = rw (e, p)
-answered_closed (dealt n) r words after code e h p = rw (e, p)
-
-pub answered_place : (said : Reply) (stored : Stored) (before : Place) → refused said ≡ false → place_of stored ≡ place_after said stored before
-answered_place (refusal n) stored before h = clash refl h
-answered_place (answer n s) stored before h = refl
-answered_place (dealt n) stored before h = refl
+use Rattle.c_record.specs.Words.{is_record, unpacked, record_in}
 
 -- words that are a record are 134
 pub record_length : (words : List ℕ) → is_record words ≡ true → length words ≡ 134
 unfolding is_record
 record_length words h = eqb-true _ _ (and_parts (eqb (length words) 134) _ h).0
+
+module _ (words : List ℕ) where
+  pub held : (r : Record) → Some r ≡ record_in words → (is_record words ≡ true) × (r ≡ unpacked words)
+  held r e = go (told (is_record words))
+    where
+      go : Told (is_record words) → (is_record words ≡ true) × (r ≡ unpacked words)
+      go (told_true h) = (h, same_Some r (unpacked words) (rw h at e))
+      go (told_false h) = absurd (none-some r (sym (rw h at e)))
+
+  pub held_none : None ≡ record_in words → is_record words ≡ false
+  held_none e = go (told (is_record words))
+    where
+      go : Told (is_record words) → is_record words ≡ false
+      go (told_true h) = absurd (none-some (unpacked words) (rw h at e))
+      go (told_false h) = h

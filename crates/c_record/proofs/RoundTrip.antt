@@ -3,7 +3,7 @@ use Prim.Native.Nat.{ℕ, zero, suc, ◌≤◌}
 use mathlib.Core.Path.{◌≡◌, refl, sym, ap, ◌∙◌}
 use mathlib.Core.Bool.{Bool, true, false, cond}
 use mathlib.Core.List.{List, [], ◌∷◌, ◌++◌}
-use mathlib.Core.Option.{some, none}
+use Rattle.std.specs.Prelude.{Some, None}
 use native.Mathlib.Omega.{arith}
 use lib.ListN.{length, get_or, take, drop, length-append, take-append-drop}
 use lib.Seq.{drop-cons, drop-drop, take_at, drop_at}
@@ -72,7 +72,7 @@ unpacked_is r W =
       slots_back r.window,
     )
 
-pub packed_unpacked : (r : Record) → Whole r → record_in (words_of r) ≡ some r
+pub packed_unpacked : (r : Record) → Whole r → record_in (words_of r) ≡ Some r
 packed_unpacked r W = rw (packed_is r W, unpacked_is r W)
 
 -- two words that are a phase are that phase's words
@@ -129,9 +129,9 @@ words-kept words h =
     rejoined l = ap (λ (t : List ℕ). take 63 (drop 8 l) ++ t) (sym (drop-drop 63 8 l)) ∙ take-append-drop 63 (drop 8 l)
 
 -- words that are a record are its words
-pub unpacked_packed : (words : List ℕ) (r : Record) → record_in words ≡ some r → words_of r ≡ words
+pub unpacked_packed : (words : List ℕ) (r : Record) → record_in words ≡ Some r → words_of r ≡ words
 unpacked_packed words r e = by_test (is_record words) refl e
   where
-    by_test : (b : Bool) → is_record words ≡ b → cond b (some (unpacked words)) none ≡ some r → words_of r ≡ words
+    by_test : (b : Bool) → is_record words ≡ b → cond b (Some (unpacked words)) None ≡ Some r → words_of r ≡ words
     by_test true h f = let g : r ≡ unpacked words = cc in ap words_of g ∙ words-kept words h
     by_test false h f = let z : ◌≡◌ {A = ℕ} 0 1 = cc in absurd (omega arith)

@@ -1,7 +1,7 @@
 -- The record as 134 words: slots, blocks, hand, newest, phase, steps done, unsettled, count, then 63 window slots, then the callers of
 -- those 63 places (document 02, N7).
 use Rattle.std.specs.Prelude.{ℕ, Bool, cond, ◌&&◌, ◌||◌, List, ◌∷◌, ◌++◌, map, length, get_or, take, drop, eqb, leb}
-use Rattle.std.proofs.Math.Option.{Option, some, none}
+use Rattle.std.specs.Prelude.{Option, Some, None}
 use Rattle.layout.specs.declared.Slot.{Slot}
 use Rattle.layout.specs.Places.{label_of}
 use Rattle.layout.specs.Window.{window_most}
@@ -76,4 +76,4 @@ is_record words = eqb (length words) record_words && (is_phase (get_or words 4 0
 
 -- unpacked, if they are
 abbrev pub record_in : List ℕ → Option Record
-record_in words = cond (is_record words) (some (unpacked words)) none
+record_in words = cond (is_record words) (Some (unpacked words)) None

@@ -1,7 +1,7 @@
 // The record as 134 words: slots, blocks, hand, newest, phase, steps done, unsettled, count, then 63 window slots, then their callers.
 ghost use Rattle.std.specs.Prelude.{◌≡◌, ◌+◌, ◌<◌, ◌++◌, length, take, drop};
 ghost use Rattle.layout.specs.Window.{window_most};
-ghost use Rattle.c_record.specs.Words.{record_words, phase_word, steps_word, flag_word, phase_in, slots_of, numbers_of, words_of, unpacked, is_phase, is_record};
+ghost use Rattle.c_record.specs.Words.{record_words, phase_word, steps_word, flag_word, phase_in, slots_of, numbers_of, words_of, unpacked, record_in, is_phase, is_record};
 
 use crate::RECORD_WORDS;
 use layout::{Slot, WINDOW, places};
@@ -11,17 +11,11 @@ use record::{Phase, Record};
 fn is_phase(phase: u32, steps: u32) -> bool
     ensures { result ≡ is_phase phase steps }
 {
-    if phase == 0 {
-        return true;
-    }
-    if 2 < phase {
-        return false;
-    }
-    steps == 0
+    (phase == 0) | ((phase <= 2) & (steps == 0))
 }
 
 // Whether words are a record.
-pub fn is_record(words: &[u32]) -> bool
+fn is_record(words: &[u32]) -> bool
     ensures { result ≡ is_record words.now }
 {
     if words.len() != RECORD_WORDS {
@@ -37,13 +31,11 @@ pub fn is_record(words: &[u32]) -> bool
 fn phase_in(phase: u32, steps: u32) -> Phase
     ensures { result ≡ phase_in phase steps }
 {
-    if phase == 0 {
-        return Phase::Formatting(steps);
+    match phase {
+        0 => Phase::Formatting(steps),
+        1 => Phase::Recovering,
+        _ => Phase::Ready,
     }
-    if phase == 1 {
-        return Phase::Recovering;
-    }
-    Phase::Ready
 }
 
 // The window's array.
@@ -52,10 +44,8 @@ fn window_in(words: &[u32]) -> [Slot; WINDOW]
     ensures { result ≡ slots_of (take window_most (drop 8 words.now)) }
 {
     let mut window = [Slot(0); WINDOW];
-    let mut i: usize = 0;
-    while i < WINDOW {
+    for i in 0..WINDOW {
         window[i] = Slot(words[8 + i]);
-        i += 1;
     }
     window
 }
@@ -66,32 +56,35 @@ fn callers_in(words: &[u32]) -> [u32; WINDOW]
     ensures { result ≡ drop 71 words.now }
 {
     let mut callers = [0u32; WINDOW];
-    let mut i: usize = 0;
-    while i < WINDOW {
-        callers[i] = words[71 + i];
-        i += 1;
-    }
+    callers.copy_from_slice(&words[71..]);
     callers
 }
 
-// The record that 134 words hold.
-pub fn unpack(words: &[u32]) -> Record
+// The record of 134 words.
+fn unpacked(words: &[u32]) -> Record
     requires { length words.now ≡ record_words }
     ensures { result ≡ unpacked words.now }
 {
-    let window = window_in(words);
-    let callers = callers_in(words);
-    let phase = phase_in(words[4], words[5]);
-    let l = places::label(words[0], words[1]);
     Record {
-        label: l,
+        label: places::label(words[0], words[1]),
         hand: Slot(words[2]),
         newest: words[3],
-        phase,
+        phase: phase_in(words[4], words[5]),
         unconfirmed: words[6] == 1,
-        window,
+        window: window_in(words),
         count: words[7],
-        callers,
+        callers: callers_in(words),
+    }
+}
+
+// The record that words hold, if they are one.
+pub fn unpack(words: &[u32]) -> Option<Record>
+    ensures { result ≡ record_in words.now }
+{
+    if is_record(words) {
+        Some(unpacked(words))
+    } else {
+        None
     }
 }
 
@@ -112,8 +105,7 @@ fn steps_word(phase: Phase) -> u32
 {
     match phase {
         Phase::Formatting(done) => done,
-        Phase::Recovering => 0,
-        Phase::Ready => 0,
+        Phase::Recovering | Phase::Ready => 0,
     }
 }
 
@@ -121,10 +113,7 @@ fn steps_word(phase: Phase) -> u32
 fn flag_word(unconfirmed: bool) -> u32
     ensures { result ≡ flag_word unconfirmed }
 {
-    if unconfirmed {
-        return 1;
-    }
-    0
+    u32::from(unconfirmed)
 }
 
 // Writes the window's slots, from word 8 on.
@@ -132,11 +121,8 @@ fn pack_window(words: &mut [u32], window: [Slot; WINDOW])
     requires { length words.old ≡ record_words }
     ensures { words.new ≡ (take 8 words.old ++ numbers_of window) ++ drop 71 words.old }
 {
-    let mut i: usize = 0;
-    while i < WINDOW {
-        let s = window[i];
-        words[8 + i] = s.0;
-        i += 1;
+    for i in 0..WINDOW {
+        words[8 + i] = window[i].0;
     }
 }
 
@@ -145,11 +131,7 @@ fn pack_callers(words: &mut [u32], callers: [u32; WINDOW])
     requires { length words.old ≡ record_words }
     ensures { words.new ≡ take 71 words.old ++ callers }
 {
-    let mut i: usize = 0;
-    while i < WINDOW {
-        words[71 + i] = callers[i];
-        i += 1;
-    }
+    words[71..].copy_from_slice(&callers);
 }
 
 // Writes a record over 134 words.

@@ -1,13 +1,13 @@
 // Any call, by its value: what it does is what the lists of demand 3 make of it.
 ghost use Rattle.std.specs.Prelude.{◌≡◌, length};
 ghost use Rattle.protocol.specs.ReferenceDisk.{Disk};
-ghost use Rattle.protocol.specs.Calls.{leaves, box_of};
+ghost use Rattle.protocol.specs.Calls.{ends, box_of};
 ghost use Rattle.dispatch.specs.Dispatch.{call_of, made_of, made_by};
 
 use crate::Request;
 use fetch_path::{fetch, land_fetch};
 use maintenance::{flush, format, write_back};
-use protocol::Outcome;
+use protocol::{Outcome, Refusal};
 use read_path::{look_up, look_up_list};
 use record::Record;
 use recovery::reopen;
@@ -23,11 +23,11 @@ pub fn dispatch(
     page: &[u8],
     blocks: &[u32],
     words: &mut [u32],
-) -> Outcome
-    ensures { (disk : Disk) → made_of (call_of request page.now blocks.now (length words.old)) (leaves result ssd.new hdd.new table.new) disk ≡ made_by (call_of request page.now blocks.now (length words.old)) (record { box = box_of ssd.old hdd.old table.old state; disk = disk }) }
+) -> Result<Outcome, Refusal>
+    ensures { (disk : Disk) → made_of (call_of request page.now blocks.now (length words.old)) (ends state result ssd.new hdd.new table.new) disk ≡ made_by (call_of request page.now blocks.now (length words.old)) (record { box = box_of ssd.old hdd.old table.old state; disk = disk }) }
 {
     match request {
-        Request::Format(slots, blocks) => format::format(ssd, hdd, table, state, slots, blocks),
+        Request::Format(slots, blocks) => format::format(ssd, hdd, table, slots, blocks),
         Request::Step => step::step(ssd, hdd, table, state),
         Request::Offer(block, caller) => offer::offer(ssd, hdd, table, state, block, caller),
         Request::Land(block) => land::land(ssd, hdd, table, state, block, page),
@@ -40,6 +40,6 @@ pub fn dispatch(
         ),
         Request::WriteBack(block) => write_back::write_back(ssd, hdd, table, state, block),
         Request::Flush => flush::flush(ssd, hdd, table, state),
-        Request::Reopen => reopen::reopen(ssd, hdd, table, state),
+        Request::Reopen => reopen::reopen(ssd, hdd, table),
     }
 }

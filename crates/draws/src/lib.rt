@@ -28,17 +28,12 @@ pub fn draw(s: u32) -> u32
 pub fn kind_of(s: u32) -> Kind
     ensures { result ≡ kind_of s }
 {
-    let k = s % 4;
-    if k == 0 {
-        return Kind::Write;
+    match s % 4 {
+        0 => Kind::Write,
+        1 => Kind::Fetch,
+        2 => Kind::LookUp,
+        _ => Kind::Flush,
     }
-    if k == 1 {
-        return Kind::Fetch;
-    }
-    if k == 2 {
-        return Kind::LookUp;
-    }
-    Kind::Flush
 }
 
 // The block that it picks.
@@ -53,11 +48,9 @@ pub fn fill_page(page: &mut [u8], s: u32)
     requires { length page.old ≡ 4096 }
     ensures { page.new ≡ draw_page s }
 {
-    let mut n: usize = 0;
-    while n < 1024 {
+    // Kept: by place. After a loop over `chunks_exact_mut` the proof knows nothing of what the parts were given.
+    for n in 0..1024 {
         let at = 4 * n;
-        let end = at + 4;
-        pages::write_word(&mut page[at..end], s);
-        n += 1;
+        pages::write_word(&mut page[at..at + 4], s);
     }
 }

@@ -3,7 +3,8 @@ use Prim.Native.Nat.{ℕ}
 use mathlib.Core.Path.{◌≡◌, refl, ap, ◌∙◌}
 use mathlib.Core.Bool.{true, false}
 use mathlib.Core.List.{List}
-use mathlib.Core.Option.{Option, some, none}
+use Rattle.std.specs.Prelude.{Option, Some, None}
+use Rattle.std.specs.Prelude.{Result as OrRefused}
 use lib.ListN.{length}
 use borrow.Author.Tests.{eq-eqb, ne_eqb}
 use Rattle.layout.specs.declared.Block.{Block}
@@ -17,8 +18,9 @@ use Rattle.protocol.specs.Box.{Box, Result}
 use Rattle.protocol.specs.Condition.{condition_of}
 use Rattle.protocol.specs.Plan.{Call, look_up, look_up_list, looking_up, plan}
 use Rattle.protocol.specs.Perform.{perform}
-use Rattle.protocol.specs.Judge.{Reason, judged}
-use Rattle.protocol.specs.Calls.{decided, effect_of, leaves, result_of, box_of, list_words_of}
+use Rattle.protocol.specs.declared.Refusal.{Refusal}
+use Rattle.protocol.specs.Judge.{judged}
+use Rattle.protocol.specs.Calls.{decided, effect_of, result_of, box_of, list_words_of, said_in, stored_in, state_in, ends}
 use Rattle.c_answers.specs.declared.Place.{Place}
 use Rattle.c_record.specs.Words.{words_of, unpacked, is_record}
 use Rattle.c_answers.specs.Codes.{code_of, slot_after, dealt_after, place_after}
@@ -28,7 +30,7 @@ use Rattle.ferjulm.specs.Calls.{kept, left_by, c_call, c_slot, c_dealt, c_place,
 use Rattle.ferjulm.specs.List.{c_located}
 
 -- what a call and the closing after it leave is what the call's result leaves
-left_is : (R : Result) (said : Reply) (stored : Stored) (state : Record) (table ssd hdd words after : List ℕ) (code : ℕ)
+left_is : (R : Result) (said : Reply) (stored : Option Stored) (state : Record) (table ssd hdd words after : List ℕ) (code : ℕ)
     → record { said = said; stored = stored; state = state; table = table; ssd = ssd; hdd = hdd } ≡ R
     → record { code = code; words = after } ≡ closed_by said state words
     → record { code = code; words = after; table = table; ssd = ssd; hdd = hdd } ≡ left_by R words
@@ -48,18 +50,18 @@ look_up_state b x = by_reason (judged (look_up b) x)
     looks (Writing s) = refl
     looks (Fetching s) = refl
 
-    by_reason : (o : Option Reason) → (decided o (look_up b) x).state ≡ x.state
-    by_reason (some q) = refl
-    by_reason none = looks (condition_of x.table b)
+    by_reason : (o : Option Refusal) → (decided o (look_up b) x).state ≡ x.state
+    by_reason (Some q) = refl
+    by_reason None = looks (condition_of x.table b)
 
 -- so does a list
 pub list-state : (blocks : List ℕ) (room : ℕ) (x : Box) → (result_of (look_up_list blocks room) x).state ≡ x.state
 unfolding effect_of plan perform
 list-state blocks room x = by_reason (judged (look_up_list blocks room) x)
   where
-    by_reason : (o : Option Reason) → (decided o (look_up_list blocks room) x).state ≡ x.state
-    by_reason (some q) = refl
-    by_reason none = refl
+    by_reason : (o : Option Refusal) → (decided o (look_up_list blocks room) x).state ≡ x.state
+    by_reason (Some q) = refl
+    by_reason None = refl
 
 -- the words for the answer, by words that are no record, and by those that unpack to one
 module _ (blocks ssd hdd table words before : List ℕ) where
@@ -85,29 +87,29 @@ module _ (c : Call) (ssd hdd table words : List ℕ) where
   barred h = record { left = rw h; slot = λ before. rw h; places = λ before. rw h; place = λ before. rw h }
 
   -- a call on what the words unpack to, and the closing: what it leaves
-  module _ (r : Record) (o : Outcome) {table' ssd' hdd' : List ℕ} (unpack : r ≡ unpacked words)
-      (call : leaves o ssd' hdd' table'
+  module _ (r : Record) (o : OrRefused Outcome Refusal) {table' ssd' hdd' : List ℕ} (unpack : r ≡ unpacked words)
+      (call : ends r o ssd' hdd' table'
       ≡ result_of c (box_of ssd hdd table r)) where
     abbrev R : Record → Result
     R q = result_of c (box_of ssd hdd table q)
 
     abbrev Closes : List ℕ → ℕ → Type 0
-    Closes after code = record { code = code; words = after } ≡ closed_by (reply_of o.answer) o.state words
+    Closes after code = record { code = code; words = after } ≡ closed_by (said_in o) (state_in r o) words
 
     called : {after : List ℕ} {code : ℕ} → Closes after code
         → record { code = code; words = after; table = table'; ssd = ssd'; hdd = hdd' } ≡ left_by (R (unpacked words)) words
     called {after} {code} close =
-        left_is (R r) (reply_of o.answer) o.stored o.state table' ssd' hdd' words after code call close
+        left_is (R r) (said_in o) (stored_in o) (state_in r o) table' ssd' hdd' words after code call close
         ∙ ap (λ (q : Record). left_by (R q) words) unpack
 
     -- words that are a record, of a call that leaves it, are closed as they are
-    unchanged : is_record words ≡ true → (R r).state ≡ r → {code : ℕ} → code ≡ code_of (reply_of o.answer) → Closes words code
-    unchanged h same {code} e = go (reply_of o.answer) e
+    unchanged : is_record words ≡ true → (R r).state ≡ r → {code : ℕ} → code ≡ code_of (said_in o) → Closes words code
+    unchanged h same {code} e = go (said_in o) e
       where
-        state-words : words_of o.state ≡ words
+        state-words : words_of (state_in r o) ≡ words
         state-words = ap words_of (ap (λ (q : Result). q.state) call ∙ same ∙ unpack) ∙ words-kept words h
 
-        go : (said : Reply) → code ≡ code_of said → record { code = code; words = words } ≡ closed_by said o.state words
+        go : (said : Reply) → code ≡ code_of said → record { code = code; words = words } ≡ closed_by said (state_in r o) words
         go (refusal n) e = rw e
         go (answer n s) e = rw (e, state-words)
         go (dealt n) e = rw (e, state-words)
@@ -116,11 +118,11 @@ module _ (c : Call) (ssd hdd table words : List ℕ) where
     pub record Past : Type 0 where
       pub left : {after : List ℕ} {code : ℕ} → Closes after code
           → record { code = code; words = after; table = table'; ssd = ssd'; hdd = hdd' } ≡ c_call c ssd hdd table words
-      pub still : (R r).state ≡ r → {code : ℕ} → code ≡ code_of (reply_of o.answer)
+      pub still : (R r).state ≡ r → {code : ℕ} → code ≡ code_of (said_in o)
           → record { code = code; words = words; table = table'; ssd = ssd'; hdd = hdd' } ≡ c_call c ssd hdd table words
-      pub slot : (before : ℕ) {next : ℕ} → next ≡ slot_after (reply_of o.answer) before → next ≡ c_slot c ssd hdd table words before
-      pub places : (before : ℕ) {next : ℕ} → next ≡ dealt_after (reply_of o.answer) before → next ≡ c_dealt c ssd hdd table words before
-      pub place : (before : Place) {next : Place} → next ≡ place_after (reply_of o.answer) o.stored before
+      pub slot : (before : ℕ) {next : ℕ} → next ≡ slot_after (said_in o) before → next ≡ c_slot c ssd hdd table words before
+      pub places : (before : ℕ) {next : ℕ} → next ≡ dealt_after (said_in o) before → next ≡ c_dealt c ssd hdd table words before
+      pub place : (before : Place) {next : Place} → next ≡ place_after (said_in o) (stored_in o) before
           → next ≡ c_place c ssd hdd table words before
 
     pub past : is_record words ≡ true → Past
@@ -142,7 +144,7 @@ module _ (c : Call) (ssd hdd table words : List ℕ) where
     on_words close n h = rw (eq-eqb (length words) 134 h) (called close)
 
   -- a result that is in hand, by any 134 words
-  pub fresh-words : (n : ℕ) (said : Reply) (stored : Stored) (state : Record) {table' ssd' hdd' after : List ℕ} {code : ℕ} → length words ≡ 134
+  pub fresh-words : (n : ℕ) (said : Reply) (stored : Option Stored) (state : Record) {table' ssd' hdd' after : List ℕ} {code : ℕ} → length words ≡ 134
       → record { said = said; stored = stored; state = state; table = table'; ssd = ssd'; hdd = hdd' }
       ≡ result_of c (box_of ssd hdd table (unpacked words))
       → record { code = code; words = after } ≡ closed_by said state words

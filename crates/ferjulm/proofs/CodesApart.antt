@@ -4,21 +4,24 @@ use Prim.Native.Nat.{ℕ, ◌≤◌}
 use mathlib.Core.Path.{◌≡◌, refl}
 use mathlib.Core.Bool.{true, false, ◌&&◌, ◌||◌}
 use mathlib.Core.List.{List}
-use mathlib.Core.Option.{Option, some, none}
+use Rattle.std.specs.Prelude.{Option, Some, None, Ok, Err}
+use Rattle.std.specs.Prelude.{Result as OrRefused}
 use native.Mathlib.Omega.{arith}
 use lib.Dec.{eqb, leb}
 use Rattle.record.specs.declared.Record.{Record}
 use Rattle.protocol.specs.declared.Answer.{Answer}
-use Rattle.protocol.specs.declared.Answer.TheVariants.{Refused, Announced, Overwrite, CopiedOut, Looked, NothingToDo, Done, Dealt}
+use Rattle.protocol.specs.declared.Answer.TheVariants.{Announced, Overwrite, CopiedOut, Looked, NothingToDo, Done, Dealt}
 use Rattle.protocol.specs.declared.Condition.TheVariants.{NotCached, Clean, Dirty, Writing, Fetching}
 use Rattle.protocol.specs.declared.Cost.{Cost}
-use Rattle.protocol.specs.declared.Cost.TheVariants.{Refused as Unanswered, Counted, Met}
+use Rattle.protocol.specs.declared.Cost.TheVariants.{Counted, Met}
 use Rattle.protocol.specs.declared.Counts.{Counts}
 use Rattle.protocol.specs.declared.Stored.{Stored}
 use Rattle.protocol.specs.Reply.{Reply, refusal, answer, dealt, reply_of, refused}
 use Rattle.protocol.specs.Box.{Box, left}
 use Rattle.protocol.specs.Plan.{Call}
-use Rattle.protocol.specs.Judge.{Reason, bad_limits, no_label, bad_record, wrong_length, bad_rows, wrong_phase, block_too_high, slot_open, wrong_state, has_slot, window_full, all_open, stamps_spent, sheet_short, bad_scan, bad_list, import_full, unknown_caller, number_of, judged}
+use Rattle.protocol.specs.declared.Refusal.{Refusal}
+use Rattle.protocol.specs.declared.Refusal.TheVariants.{BadLimits, NoLabel, BadRecord, WrongLength, BadRows, WrongPhase, BlockTooHigh, SlotOpen, WrongState, HasSlot, WindowFull, AllOpen, StampsSpent, SheetShort, BadScan, BadList, ImportFull, UnknownCaller}
+use Rattle.protocol.specs.Judge.{number_of, judged}
 use Rattle.protocol.specs.Calls.{decided, effect_of, result_of, box_of}
 use Rattle.layout.proofs.Booleans.{clash}
 use Rattle.laws.proofs.why.Answers.{plan_answers}
@@ -31,34 +34,34 @@ pub record IsRefusal (code : ℕ) : Type 0 where
   pub least : 1 ≤ code
   pub most : code ≤ 99
 
-pub number_refuses : (r : Reason) → IsRefusal (number_of r)
-number_refuses bad_limits = omega arith
-number_refuses no_label = omega arith
-number_refuses bad_record = omega arith
-number_refuses wrong_length = omega arith
-number_refuses bad_rows = omega arith
-number_refuses wrong_phase = omega arith
-number_refuses block_too_high = omega arith
-number_refuses slot_open = omega arith
-number_refuses wrong_state = omega arith
-number_refuses has_slot = omega arith
-number_refuses window_full = omega arith
-number_refuses all_open = omega arith
-number_refuses stamps_spent = omega arith
-number_refuses sheet_short = omega arith
-number_refuses bad_scan = omega arith
-number_refuses bad_list = omega arith
-number_refuses import_full = omega arith
-number_refuses unknown_caller = omega arith
+pub number_refuses : (r : Refusal) → IsRefusal (number_of r)
+number_refuses BadLimits = omega arith
+number_refuses NoLabel = omega arith
+number_refuses BadRecord = omega arith
+number_refuses WrongLength = omega arith
+number_refuses BadRows = omega arith
+number_refuses WrongPhase = omega arith
+number_refuses BlockTooHigh = omega arith
+number_refuses SlotOpen = omega arith
+number_refuses WrongState = omega arith
+number_refuses HasSlot = omega arith
+number_refuses WindowFull = omega arith
+number_refuses AllOpen = omega arith
+number_refuses StampsSpent = omega arith
+number_refuses SheetShort = omega arith
+number_refuses BadScan = omega arith
+number_refuses BadList = omega arith
+number_refuses ImportFull = omega arith
+number_refuses UnknownCaller = omega arith
 
 -- a call that is refused has a code from 1 to 99
 pub refusal-code : (c : Call) (x : Box) → refused (result_of c x).said ≡ true → IsRefusal (code_of (result_of c x).said)
 unfolding effect_of
 refusal-code c x h = by_reason (judged c x) refl h
   where
-    by_reason : (o : Option Reason) → judged c x ≡ o → refused (decided o c x).said ≡ true → IsRefusal (code_of (decided o c x).said)
-    by_reason (some r) e h = number_refuses r
-    by_reason none e h = clash h (plan_answers c x e)
+    by_reason : (o : Option Refusal) → judged c x ≡ o → refused (decided o c x).said ≡ true → IsRefusal (code_of (decided o c x).said)
+    by_reason (Some r) e h = number_refuses r
+    by_reason None e h = clash h (plan_answers c x e)
 
 -- and changes nothing that was lent
 pub refusal-keeps : (c : Call) (ssd hdd table words : List ℕ) (r : Record)
@@ -70,13 +73,13 @@ refusal-keeps c ssd hdd table words r h = by_reason (judged c (box_of ssd hdd ta
     x : Box
     x = box_of ssd hdd table r
 
-    by_reason : (o : Option Reason) → judged c x ≡ o → let R = left (decided o c x) x.images in refused R.said ≡ true
+    by_reason : (o : Option Refusal) → judged c x ≡ o → let R = left (decided o c x) x.images in refused R.said ≡ true
         → left_by R words ≡ kept (code_of R.said) ssd hdd table words
-    by_reason (some q) e h = refl
-    by_reason none e h = clash h (plan_answers c x e)
+    by_reason (Some q) e h = refl
+    by_reason None e h = clash h (plan_answers c x e)
 
 -- out-parameters included
-pub refusal-leaves : (said : Reply) (stored : Stored) (slot : ℕ) (place : Place) → refused said ≡ true
+pub refusal-leaves : (said : Reply) (stored : Option Stored) (slot : ℕ) (place : Place) → refused said ≡ true
     → (slot_after said slot ≡ slot) × (dealt_after said slot ≡ slot) × (place_after said stored place ≡ place)
 refusal-leaves (refusal n) stored slot place h = (refl, refl, refl)
 refusal-leaves (answer n s) stored slot place h = clash h refl
@@ -84,7 +87,6 @@ refusal-leaves (dealt n) stored slot place h = clash h refl
 
 -- any other answer has 0 or a code from 101 on
 pub answer-code : (a : Answer) → refused (reply_of a) ≡ false → (eqb (code_of (reply_of a)) 0 || leb 101 (code_of (reply_of a))) ≡ true
-answer-code (Refused n) h = clash refl h
 answer-code (Announced s) h = refl
 answer-code Overwrite h = refl
 answer-code CopiedOut h = refl
@@ -101,7 +103,6 @@ answer-code (Dealt n) h = refl
 pub slot-code : (a : Answer) (before : ℕ)
     → (eqb (code_of (reply_of a)) 101 || leb 108 (code_of (reply_of a)) && leb (code_of (reply_of a)) 111) ≡ false
     → slot_after (reply_of a) before ≡ before
-slot-code (Refused n) before h = refl
 slot-code (Announced s) before h = clash refl h
 slot-code Overwrite before h = refl
 slot-code CopiedOut before h = refl
@@ -116,7 +117,6 @@ slot-code (Dealt n) before h = refl
 
 -- the places dealt with change with 112 alone
 pub dealt-code : (a : Answer) (before : ℕ) → eqb (code_of (reply_of a)) 112 ≡ false → dealt_after (reply_of a) before ≡ before
-dealt-code (Refused n) before h = refl
 dealt-code (Announced s) before h = refl
 dealt-code Overwrite before h = refl
 dealt-code CopiedOut before h = refl
@@ -131,8 +131,7 @@ dealt-code (Dealt n) before h = clash refl h
 
 -- an import's cost that meets a refusal has 113, which no call's answer has
 pub met-code : (n place : ℕ) (counts : Counts) (a : Answer) → refused (reply_of a) ≡ false
-    → (cost_code (Met n place counts) ≡ 113) × (eqb (code_of (reply_of a)) 113 ≡ false)
-met-code n place counts (Refused m) h = clash refl h
+    → (cost_code (Ok (Met n place counts)) ≡ 113) × (eqb (code_of (reply_of a)) 113 ≡ false)
 met-code n place counts (Announced s) h = (refl, refl)
 met-code n place counts Overwrite h = (refl, refl)
 met-code n place counts CopiedOut h = (refl, refl)
@@ -146,8 +145,8 @@ met-code n place counts Done h = (refl, refl)
 met-code n place counts (Dealt m) h = (refl, refl)
 
 -- the number and the place of a refusal met change with 113 alone
-pub cost_code_lem : (a : Cost) (before : CostNumbers) → eqb (cost_code a) 113 ≡ false
+pub cost_code_lem : (a : OrRefused Cost Refusal) (before : CostNumbers) → eqb (cost_code a) 113 ≡ false
     → ((numbers_after a before).number ≡ before.number) × ((numbers_after a before).place ≡ before.place)
-cost_code_lem (Unanswered n) before h = (refl, refl)
-cost_code_lem (Counted counts) before h = (refl, refl)
-cost_code_lem (Met n place counts) before h = clash refl h
+cost_code_lem (Err r) before h = (refl, refl)
+cost_code_lem (Ok (Counted counts)) before h = (refl, refl)
+cost_code_lem (Ok (Met n place counts)) before h = clash refl h

@@ -5,19 +5,22 @@ use mathlib.Core.Bool.{true, false}
 use mathlib.Core.List.{List, []}
 use Rattle.record.specs.declared.Record.{Record}
 use Rattle.protocol.specs.declared.Cost.{Cost}
-use Rattle.protocol.specs.declared.Cost.TheVariants.{Refused}
+use Rattle.std.specs.Prelude.{Err}
+use Rattle.std.specs.Prelude.{Result as OrRefused}
+use Rattle.protocol.specs.declared.Refusal.{Refusal}
+use Rattle.protocol.specs.declared.Refusal.TheVariants.{BadRecord}
 use Rattle.protocol.specs.Cost.{CostLeft, cost_of}
 use Rattle.c_record.specs.Words.{unpacked, is_record}
 use Rattle.c_closing.specs.Counts.{CostNumbers, CCost, cost_after}
 use Rattle.ferjulm.specs.Cost.{c_cost}
 
 module _ (ssd hdd table words blocks : List ℕ) (caller : ℕ) (scratch : List ℕ) (before : CostNumbers) where
-  pub no_cost : is_record words ≡ false → cost_after (Refused 3) scratch before ≡ c_cost ssd hdd table words blocks caller scratch before
+  pub no_cost : is_record words ≡ false → cost_after (Err BadRecord) scratch before ≡ c_cost ssd hdd table words blocks caller scratch before
   unfolding c_cost
   no_cost h = rw h
 
   -- what was handed out of an answer, with the scratch table that it came with
-  pub on_cost : (r : Record) (answer : Cost) (after : List ℕ) (z : CCost) → is_record words ≡ true → r ≡ unpacked words
+  pub on_cost : (r : Record) (answer : OrRefused Cost Refusal) (after : List ℕ) (z : CCost) → is_record words ≡ true → r ≡ unpacked words
       → record { answer = answer; scratch = after } ≡ cost_of ssd hdd table r blocks caller scratch → z ≡ cost_after answer [] before
       → record { code = z.code; scratch = after; numbers = z.numbers } ≡ c_cost ssd hdd table words blocks caller scratch before
   unfolding c_cost

@@ -3,7 +3,7 @@ use Prim.Native.Nat.{ℕ, ◌+◌, ◌≤◌, ◌<◌}
 use mathlib.Core.Path.{◌≡◌, refl, sym, ap, ◌∙◌}
 use mathlib.Core.Bool.{Bool, true, false, cond}
 use mathlib.Core.List.{List, [], ◌∷◌, ◌++◌, map}
-use mathlib.Core.Option.{Option, some, none}
+use Rattle.std.specs.Prelude.{Option, Some, None}
 use native.Mathlib.Omega.{arith}
 use lib.ListN.{length, length-take, length-append, length-replicate}
 use lib.Dec.{eqb, leb}
@@ -28,7 +28,9 @@ use Rattle.protocol.specs.Plan.{slot_map, cost, Call, format, step, flush, reope
 use Rattle.protocol.specs.Perform.{confirmed, landed_state, format_state, perform}
 use Rattle.protocol.specs.Recovery.{label_at, metas_of, newest_of, spent_stamp, recover, off_page}
 use Rattle.protocol.specs.Kinds.{Aim}
-use Rattle.protocol.specs.Judge.{Reason, bad_rows, test, judged}
+use Rattle.protocol.specs.declared.Refusal.{Refusal}
+use Rattle.protocol.specs.declared.Refusal.TheVariants.{BadRows}
+use Rattle.protocol.specs.Judge.{test, judged}
 use Rattle.protocol.specs.Calls.{decided, effect_of, result_of}
 use Rattle.protocol.specs.ReferenceDisk.{Disk}
 use Rattle.protocol.specs.Events.{World, call, called, run}
@@ -132,22 +134,22 @@ module _ (x : Box) (whole : Whole x.state) where
   does_whole S (does_rest n u) = whole
   does_whole S (does_confirm u n) = record { slots = whole.slots; callers = whole.callers }
 
-  recovers-whole : judged reopen x ≡ none → let l = label_at x.images.ssd in
+  recovers-whole : judged reopen x ≡ None → let l = label_at x.images.ssd in
       Whole (recover l (metas_of l x.images.ssd) (spent_stamp l x.images.ssd)).state
   unfolding recover test
   recovers-whole e =
       let l = label_at x.images.ssd in
       let pages = metas_of l x.images.ssd in
-      let P = passed l pages (not-false _ (judging.passed reopen x e bad_rows refl)) in
+      let P = passed l pages (not-false _ (judging.passed reopen x e BadRows refl)) in
       let f = found pages (numbered_of pages) refl in
       let few : length (newest_of pages).window ≤ 63 =
       rw f.newest_is at (newest_bounded l pages _ P.legal f.on_page_is).most in
       record { slots = length-array _ few; callers = length-replicate {A = ℕ} 63 0 }
 
-  plan-whole : (c : Call) → judged c x ≡ none → Whole (perform (plan c x) x).state
+  plan-whole : (c : Call) → judged c x ≡ None → Whole (perform (plan c x) x).state
   plan-whole c = go (sorted c)
     where
-      go : {c : Call} → Sorted c → judged c x ≡ none → Whole (perform (plan c x) x).state
+      go : {c : Call} → Sorted c → judged c x ≡ None → Whole (perform (plan c x) x).state
       go (is_format slots blocks) e = unfold plan perform in
           (record { slots = length-array [] (omega arith); callers = length-replicate {A = ℕ} 63 0 })
       go is_reopen e = unfold plan perform in (recovers-whole e)
@@ -182,20 +184,20 @@ module _ (c : Call) (k : Left) where
   unfolding effect_of
   left-box size = by_reason (judged c (box_in k)) refl
     where
-      by_reason : (o : Option Reason) → judged c (box_in k) ≡ o
+      by_reason : (o : Option Refusal) → judged c (box_in k) ≡ o
           → let Q = left (decided o c (box_in k)) (box_in k).images in box_in (left_by Q k.words) ≡ box_after Q
-      by_reason (some r) e = refl
-      by_reason none e =
+      by_reason (Some r) e = refl
+      by_reason None e =
           rw (after-unpacked _ _ (plan_answers c (box_in k) e) (plan-whole (box_in k) (words-whole k.words size) c e))
 
   left_record : is_record k.words ≡ true → is_record by.words ≡ true
   unfolding effect_of
   left_record h = by_reason (judged c (box_in k)) refl
     where
-      by_reason : (o : Option Reason) → judged c (box_in k) ≡ o
+      by_reason : (o : Option Refusal) → judged c (box_in k) ≡ o
           → is_record (words_after (decided o c (box_in k)).said (decided o c (box_in k)).state k.words) ≡ true
-      by_reason (some r) e = h
-      by_reason none e =
+      by_reason (Some r) e = h
+      by_reason None e =
           let q = perform (plan c (box_in k)) (box_in k) in
           after_record q.said q.state (plan_answers c (box_in k) e) (plan-whole (box_in k) (words-whole k.words (record_length k.words h)) c e)
 
@@ -209,7 +211,7 @@ record Once (c : Call) (k : Left) : Type 0 where
 module _ (c : Call) (k : Left) where
   -- by words that must be a record
   served_as : (b : Bool) → is_record k.words ≡ b
-      → c_served c k ≡ left_in (result_by (cond b (some (unpacked k.words)) none) c k.ssd k.hdd k.table) k.ssd k.hdd k.table k.words
+      → c_served c k ≡ left_in (result_by (cond b (Some (unpacked k.words)) None) c k.ssd k.hdd k.table) k.ssd k.hdd k.table k.words
   unfolding c_call
   served_as b h = rw h
 
@@ -244,9 +246,9 @@ view_box : (b : Block) (x : Box) → x ≡ box_after (result_of (view b) x)
 unfolding effect_of plan perform
 view_box b x = by_reason (judged (view b) x)
   where
-    by_reason : (o : Option Reason) → x ≡ box_after (left (decided o (view b) x) x.images)
-    by_reason (some r) = refl
-    by_reason none = refl
+    by_reason : (o : Option Refusal) → x ≡ box_after (left (decided o (view b) x) x.images)
+    by_reason (Some r) = refl
+    by_reason None = refl
 
 once : (c : Call) (k : Left) → Once c k
 once (format slots blocks) k = fresh-once (format slots blocks) k _ refl refl
@@ -311,7 +313,7 @@ runs_alike cs k d = record {
   packs = λ h. unpacked_packed (c_run cs k).words (ran_from k d cs).state (unpacks h);
 }
   where
-    unpacks : is_record k.words ≡ true → record_in (c_run cs k).words ≡ some (ran_from k d cs).state
+    unpacks : is_record k.words ≡ true → record_in (c_run cs k).words ≡ Some (ran_from k d cs).state
     unpacks h =
         let q = reach_all cs k h in
-        rw q.1 (ap (λ (x : Box). some x.state) (runs_any cs k d ∙ ap (ran_from k d) q.0))
+        rw q.1 (ap (λ (x : Box). Some x.state) (runs_any cs k d ∙ ap (ran_from k d) q.0))

@@ -3,12 +3,13 @@ use Prim.Native.Nat.{ℕ}
 use mathlib.Core.Path.{◌≡◌, refl, ap, ◌∙◌}
 use mathlib.Core.Bool.{Bool, true, false, cond}
 use mathlib.Core.List.{List}
-use mathlib.Core.Option.{Option, some, none}
+use Rattle.std.specs.Prelude.{Option, Some, None}
 use lib.ListN.{length, replicate, length-replicate}
 use Rattle.record.specs.declared.Record.{Record}
 use Rattle.record.specs.Record.{label_in}
 use Rattle.protocol.specs.Plan.{ask, slot_map}
-use Rattle.protocol.specs.Judge.{Reason, judged}
+use Rattle.protocol.specs.declared.Refusal.{Refusal}
+use Rattle.protocol.specs.Judge.{judged}
 use Rattle.protocol.specs.Calls.{box_of, MapLeft, mapped, map_of}
 use Rattle.c_record.specs.Words.{unpacked, is_record}
 use Rattle.ferjulm.specs.Map.{map_on, c_map}
@@ -28,13 +29,13 @@ module _ (ssd hdd table words sheet : List ℕ) where
   unfolding c_map map_of
   map-number = by_words (is_record words)
     where
-      by_reason : (r : Record) (o : Option Reason)
+      by_reason : (r : Record) (o : Option Refusal)
           → (mapped o (label_in r) table (replicate (length sheet) 0)).number ≡ (mapped o (label_in r) table sheet).number
-      by_reason r (some q) = refl
-      by_reason r none = refl
+      by_reason r (Some q) = refl
+      by_reason r None = refl
 
-      by_words : (b : Bool) → (map_on (cond b (some (unpacked words)) none) ssd hdd table (replicate (length sheet) 0)).number
-          ≡ (map_on (cond b (some (unpacked words)) none) ssd hdd table sheet).number
+      by_words : (b : Bool) → (map_on (cond b (Some (unpacked words)) None) ssd hdd table (replicate (length sheet) 0)).number
+          ≡ (map_on (cond b (Some (unpacked words)) None) ssd hdd table sheet).number
       by_words false = refl
       by_words true =
           rw (length-replicate {A = ℕ} (length sheet) 0) (by_reason (unpacked words) (judged (ask (slot_map (length sheet))) (box_of ssd hdd table (unpacked words))))

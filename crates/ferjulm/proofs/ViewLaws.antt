@@ -4,7 +4,7 @@ use mathlib.Core.Path.{◌≡◌, refl, sym, ap, ◌∙◌}
 use mathlib.Core.Logic.{◌≢◌}
 use mathlib.Core.Bool.{true, false, cond}
 use mathlib.Core.List.{List, []}
-use mathlib.Core.Option.{Option, some, none}
+use Rattle.std.specs.Prelude.{Option, Some, None, Ok, Err}
 use native.Mathlib.Omega.{arith}
 use lib.ListN.{length, take, drop}
 use lib.Dec.{eqb}
@@ -18,12 +18,13 @@ use Rattle.protocol.specs.declared.Condition.TheVariants.{NotCached, Clean, Dirt
 use Rattle.record.specs.Record.{label_in}
 use Rattle.protocol.specs.Condition.{condition_of}
 use Rattle.protocol.specs.Plan.{view}
-use Rattle.protocol.specs.Judge.{Reason, first_of, judged}
+use Rattle.protocol.specs.declared.Refusal.{Refusal}
+use Rattle.protocol.specs.Judge.{number_of, first_of, judged}
 use Rattle.protocol.specs.Calls.{box_of, View, view_part, viewed, view_of}
 use Rattle.judging.specs.declared.Judged.{Judged}
 use Rattle.judging.specs.Judging.{serves_then, judged_by}
-use Rattle.judging.proofs.JudgingLaws.{found, looked}
-use Rattle.judging.proofs.ServeLaws.{view_judges, first-judged, judged_on}
+use Rattle.judging.proofs.JudgingLaws.{looked, is_refused}
+use Rattle.judging.proofs.ServeLaws.{view_judges, first_judged, judged_on}
 use Rattle.c_answers.specs.declared.Place.{Place}
 use Rattle.c_record.specs.Words.{unpacked, is_record}
 use Rattle.c_answers.specs.Seen.{place_for}
@@ -31,31 +32,26 @@ use Rattle.ferjulm.specs.View.{ViewLeft, placed, view_place_of, c_view}
 use Rattle.ferjulm.proofs.CodesApart.{number_refuses}
 
 module _ (ssd hdd table : List ℕ) (state : Record) (b : Block) (before : Place) where
-  abbrev Found : Judged → Type 0
-  Found j = j ≡ judged_by (serves_then (length ssd) (length hdd) 4096 table state b 0 0) table b
-
   abbrev there : Place
   there = place_for (label_in state) b (condition_of table b)
 
-  -- judging found a number
-  pub view_stops : (j : Judged) → Found j → j.number ≢ 0
-      → record { code = j.number; place = before } ≡ view_place_of ssd hdd table state b before
+  -- judging refused
+  pub view_stops : (r : Refusal) → Err r ≡ judged_by (serves_then (length ssd) (length hdd) 4096 table state b 0 None) table b
+      → record { code = number_of r; place = before } ≡ view_place_of ssd hdd table state b before
   unfolding view_place_of
-  view_stops j e h =
-      let n = found _ table b e in
-      let f = first-judged (view b) (box_of ssd hdd table state) _ [] (view_judges ssd hdd table state b) (λ q. h (n ∙ q)) in
-      ap (λ (m : ℕ). record { code = m; place = before }) (n ∙ sym f.2) ∙ ap (λ (o : Option Reason). placed o there before) (sym f.1)
+  view_stops r e = ap (λ (o : Option Refusal). placed o there before)
+      (sym (first_judged (view b) (box_of ssd hdd table state) _ [] (view_judges ssd hdd table state b) r (is_refused _ _ r e)))
 
-  -- it found none
-  pub view_passes : (j : Judged) (p : Place) → Found j → j.number ≡ 0 → p ≡ place_for (label_in state) b j.condition
-      → record { code = 0; place = p } ≡ view_place_of ssd hdd table state b before
+  -- it did not
+  pub view_passes : (j : Judged) (p : Place) → Ok j ≡ judged_by (serves_then (length ssd) (length hdd) 4096 table state b 0 None) table b
+      → p ≡ place_for (label_in state) b j.condition → record { code = 0; place = p } ≡ view_place_of ssd hdd table state b before
   unfolding view_place_of first_of
-  view_passes j p e h g =
-      let k = looked _ table b e h in
+  view_passes j p e g =
+      let k = looked _ table b e in
       let o = judged_on (view b) (box_of ssd hdd table state) _ [] (view_judges ssd hdd table state b) k.none in
       ap (λ (t : Place). record { code = 0; place = t })
       (g ∙ ap (place_for (label_in state) b) k.condition_is)
-      ∙ ap (λ (q : Option Reason). placed q there before) (sym o)
+      ∙ ap (λ (q : Option Refusal). placed q there before) (sym o)
 
 -- by words that are no record, and by words that are one
 module _ (ssd hdd table words : List ℕ) (b : Block) (before : Place) where
@@ -96,8 +92,8 @@ pub same_view : (ssd hdd : Part) (table : List ℕ) (state : Record) (b : Block)
 unfolding view_of view_place_of
 same_view ssd hdd table state b before = by_reason (judged (view b) (box_of ssd.bytes hdd.bytes table state))
   where
-    by_reason : (o : Option Reason)
+    by_reason : (o : Option Refusal)
         → SameView (viewed o ssd hdd (label_in state) b (condition_of table b)) (placed o (place_for (label_in state) b (condition_of table b)) before)
         ssd hdd
-    by_reason (some r) = record { number = refl; handed = λ h. let n = number_refuses r in absurd (omega arith) }
-    by_reason none = record { number = refl; handed = λ h. sym (part_for ssd hdd (label_in state) b (condition_of table b)) }
+    by_reason (Some r) = record { number = refl; handed = λ h. let n = number_refuses r in absurd (omega arith) }
+    by_reason None = record { number = refl; handed = λ h. sym (part_for ssd hdd (label_in state) b (condition_of table b)) }

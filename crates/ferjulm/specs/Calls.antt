@@ -1,6 +1,6 @@
 -- What a call for C leaves: the result code, the record's words, the table and both images; the slot, and the place of the page stored.
 use Rattle.std.specs.Prelude.{ℕ, cond, List, length, eqb}
-use Rattle.std.proofs.Math.Option.{Option, some, none}
+use Rattle.std.specs.Prelude.{Option, Some, None}
 use Rattle.layout.specs.Places.{within_limits}
 use Rattle.record.specs.declared.Record.{Record}
 use Rattle.protocol.specs.Box.{Result}
@@ -35,26 +35,26 @@ left_by r words = record {
 
 -- a call's result on the record that the words are; none where they are none
 abbrev pub result_by : Option Record → Call → List ℕ → List ℕ → List ℕ → Option Result
-result_by none c ssd hdd table = none
-result_by (some r) c ssd hdd table = some (result_of c (box_of ssd hdd table r))
+result_by None c ssd hdd table = None
+result_by (Some r) c ssd hdd table = Some (result_of c (box_of ssd hdd table r))
 
 -- what is left by it; where there is none 3, and nothing changes
 abbrev pub left_in : Option Result → List ℕ → List ℕ → List ℕ → List ℕ → Left
-left_in none ssd hdd table words = kept 3 ssd hdd table words
-left_in (some r) ssd hdd table words = left_by r words
+left_in None ssd hdd table words = kept 3 ssd hdd table words
+left_in (Some r) ssd hdd table words = left_by r words
 
 abbrev pub slot_in : Option Result → ℕ → ℕ
-slot_in none before = before
-slot_in (some r) before = slot_after r.said before
+slot_in None before = before
+slot_in (Some r) before = slot_after r.said before
 
 -- document 02, N3: the places dealt with
 abbrev pub dealt_in : Option Result → ℕ → ℕ
-dealt_in none before = before
-dealt_in (some r) before = dealt_after r.said before
+dealt_in None before = before
+dealt_in (Some r) before = dealt_after r.said before
 
 abbrev pub place_in : Option Result → Place → Place
-place_in none before = before
-place_in (some r) before = place_after r.said r.stored before
+place_in None before = before
+place_in (Some r) before = place_after r.said r.stored before
 
 -- a call by words that must be a record: what it leaves, the slot or the places dealt with that its answer carries, and the place of the page that it
 -- stored

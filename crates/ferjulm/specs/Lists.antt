@@ -1,6 +1,6 @@
 -- Lists of C calls: each is given the words, the table and the images that the last one left.
 use Rattle.std.specs.Prelude.{ℕ, ◌≡◌, Bool, true, false, List, [], ◌∷◌, map, length, replicate, eqb}
-use Rattle.std.proofs.Math.Option.{some}
+use Rattle.std.specs.Prelude.{Some}
 use Rattle.layout.specs.declared.Block.{Block}
 use Rattle.protocol.specs.Box.{Box}
 use Rattle.protocol.specs.Plan.{Ask, slot_map, cost, Call, format, step, flush, reopen, offer, fetch, land_fetch, look_up, view, write_back, land, look_up_list, offer_list, ask}
@@ -89,5 +89,5 @@ pub record RunsAlike (cs : List Call) (k : Left) (d : Disk) : Type 0 where
   pub any : box_in (c_run cs k) ≡ ran_from k d (reached cs k)
   -- where they are a record, every call gets past them, and the words left are that record, packed
   pub all : is_record k.words ≡ true → reached cs k ≡ cs
-  pub unpacks : is_record k.words ≡ true → record_in (c_run cs k).words ≡ some (ran_from k d cs).state
+  pub unpacks : is_record k.words ≡ true → record_in (c_run cs k).words ≡ Some (ran_from k d cs).state
   pub packs : is_record k.words ≡ true → words_of (ran_from k d cs).state ≡ (c_run cs k).words

@@ -1,14 +1,14 @@
 // The calls but a view: the words are judged and unpacked, the box's call is made, and what it leaves is packed.
 ghost use Rattle.std.specs.Prelude.{◌≡◌, cond};
-ghost use Rattle.protocol.specs.Judge.{label_test};
+ghost use Rattle.protocol.specs.Judge.{number_of, label_test};
 ghost use Rattle.protocol.specs.Plan.{step, flush, offer, fetch, land_fetch, look_up, write_back, land};
 ghost use Rattle.ferjulm.specs.Calls.{c_call, c_slot, c_place, c_format, c_reopen};
 
-use c_answers::answers;
 use c_closing::{closing, fresh};
 use c_record::{RECORD_WORDS, words};
-use layout::{Block, LabelRead, places};
+use layout::{Block, places};
 use maintenance::format;
+use protocol::Refusal;
 use recovery::reopen;
 
 // Begins a format. The words handed in are not judged, but for their number; the new record goes straight into them.
@@ -25,15 +25,15 @@ pub extern "C" fn ferjulm_format(
 {
     let l = places::label(slots, blocks);
     if words.len() != RECORD_WORDS {
-        return fresh::unheld(l);
+        return fresh::unheld(l).number();
     }
-    let number = format::begin(l, ssd.len(), hdd.len(), table);
-    if number != 0 {
-        return number;
+    match format::begin(l, ssd.len(), hdd.len(), table) {
+        Ok(()) => {
+            words::pack(words, format::begun(l));
+            0
+        }
+        Err(refusal) => refusal.number(),
     }
-    let state = format::begun(l);
-    words::pack(words, state);
-    0
 }
 
 // Offers a block, for a caller.
@@ -51,12 +51,11 @@ pub extern "C" fn ferjulm_offer(
 ) -> u32
     ensures { (record { code = result; words = words.new; table = table.new; ssd = ssd.new; hdd = hdd.new } ≡ c_call (offer (record { 0 = block }) caller) ssd.old hdd.old table.old words.old) × (slot.new ≡ c_slot (offer (record { 0 = block }) caller) ssd.old hdd.old table.old words.old slot.old) × (record { image = image.exit.now; offset = offset.new } ≡ c_place (offer (record { 0 = block }) caller) ssd.old hdd.old table.old words.old (record { image = image.entry.now; offset = offset.old })) }
 {
-    if !words::is_record(words) {
-        return 3;
-    }
-    let state = words::unpack(words);
-    let outcome = write_path::offer::offer(ssd, hdd, table, state, Block(block), caller);
-    closing::ended_at(words, slot, image, offset, outcome)
+    let Some(state) = words::unpack(words) else {
+        return Refusal::BadRecord.number();
+    };
+    let made = write_path::offer::offer(ssd, hdd, table, state, Block(block), caller);
+    closing::ended_at(words, slot, image, offset, &made)
 }
 
 // Lands a page for a block.
@@ -73,12 +72,11 @@ pub extern "C" fn ferjulm_land(
 ) -> u32
     ensures { (record { code = result; words = words.new; table = table.new; ssd = ssd.new; hdd = hdd.now } ≡ c_call (land (record { 0 = block }) page.now) ssd.old hdd.now table.old words.old) × (record { image = image.exit.now; offset = offset.new } ≡ c_place (land (record { 0 = block }) page.now) ssd.old hdd.now table.old words.old (record { image = image.entry.now; offset = offset.old })) }
 {
-    if !words::is_record(words) {
-        return 3;
-    }
-    let state = words::unpack(words);
-    let outcome = write_path::land::land(ssd, hdd, table, state, Block(block), page);
-    closing::ended(words, image, offset, outcome)
+    let Some(state) = words::unpack(words) else {
+        return Refusal::BadRecord.number();
+    };
+    let made = write_path::land::land(ssd, hdd, table, state, Block(block), page);
+    closing::ended(words, image, offset, &made)
 }
 
 // Fetches a block, for a caller.
@@ -96,12 +94,11 @@ pub extern "C" fn ferjulm_fetch(
 ) -> u32
     ensures { (record { code = result; words = words.new; table = table.new; ssd = ssd.new; hdd = hdd.new } ≡ c_call (fetch (record { 0 = block }) caller) ssd.old hdd.old table.old words.old) × (slot.new ≡ c_slot (fetch (record { 0 = block }) caller) ssd.old hdd.old table.old words.old slot.old) × (record { image = image.exit.now; offset = offset.new } ≡ c_place (fetch (record { 0 = block }) caller) ssd.old hdd.old table.old words.old (record { image = image.entry.now; offset = offset.old })) }
 {
-    if !words::is_record(words) {
-        return 3;
-    }
-    let state = words::unpack(words);
-    let outcome = fetch_path::fetch::fetch(ssd, hdd, table, state, Block(block), caller);
-    closing::ended_at(words, slot, image, offset, outcome)
+    let Some(state) = words::unpack(words) else {
+        return Refusal::BadRecord.number();
+    };
+    let made = fetch_path::fetch::fetch(ssd, hdd, table, state, Block(block), caller);
+    closing::ended_at(words, slot, image, offset, &made)
 }
 
 // Lands a fetch.
@@ -117,12 +114,11 @@ pub extern "C" fn ferjulm_land_fetch(
 ) -> u32
     ensures { (record { code = result; words = words.new; table = table.new; ssd = ssd.new; hdd = hdd.now } ≡ c_call (land_fetch (record { 0 = block })) ssd.old hdd.now table.old words.old) × (record { image = image.exit.now; offset = offset.new } ≡ c_place (land_fetch (record { 0 = block })) ssd.old hdd.now table.old words.old (record { image = image.entry.now; offset = offset.old })) }
 {
-    if !words::is_record(words) {
-        return 3;
-    }
-    let state = words::unpack(words);
-    let outcome = fetch_path::land_fetch::land_fetch(ssd, hdd, table, state, Block(block));
-    closing::ended(words, image, offset, outcome)
+    let Some(state) = words::unpack(words) else {
+        return Refusal::BadRecord.number();
+    };
+    let made = fetch_path::land_fetch::land_fetch(ssd, hdd, table, state, Block(block));
+    closing::ended(words, image, offset, &made)
 }
 
 // Looks a block up. The record stays as it is, so the words are only read.
@@ -137,14 +133,11 @@ pub extern "C" fn ferjulm_look_up(
 ) -> u32
     ensures { (record { code = result; words = words.now; table = table.new; ssd = ssd.now; hdd = hdd.now } ≡ c_call (look_up (record { 0 = block })) ssd.now hdd.now table.old words.now) × (slot.new ≡ c_slot (look_up (record { 0 = block })) ssd.now hdd.now table.old words.now slot.old) }
 {
-    if !words::is_record(words) {
-        return 3;
-    }
-    let state = words::unpack(words);
-    let outcome = read_path::look_up::look_up(ssd, hdd, table, state, Block(block));
-    let answer = outcome.answer;
-    *slot = answers::slot_of(answer, *slot);
-    answers::code_of(answer)
+    let Some(state) = words::unpack(words) else {
+        return Refusal::BadRecord.number();
+    };
+    let made = read_path::look_up::look_up(ssd, hdd, table, state, Block(block));
+    closing::looked(slot, &made)
 }
 
 // Writes a block back.
@@ -160,12 +153,11 @@ pub extern "C" fn ferjulm_write_back(
 ) -> u32
     ensures { (record { code = result; words = words.new; table = table.new; ssd = ssd.now; hdd = hdd.new } ≡ c_call (write_back (record { 0 = block })) ssd.now hdd.old table.old words.old) × (record { image = image.exit.now; offset = offset.new } ≡ c_place (write_back (record { 0 = block })) ssd.now hdd.old table.old words.old (record { image = image.entry.now; offset = offset.old })) }
 {
-    if !words::is_record(words) {
-        return 3;
-    }
-    let state = words::unpack(words);
-    let outcome = maintenance::write_back::write_back(ssd, hdd, table, state, Block(block));
-    closing::ended(words, image, offset, outcome)
+    let Some(state) = words::unpack(words) else {
+        return Refusal::BadRecord.number();
+    };
+    let made = maintenance::write_back::write_back(ssd, hdd, table, state, Block(block));
+    closing::ended(words, image, offset, &made)
 }
 
 // Flushes.
@@ -180,12 +172,11 @@ pub extern "C" fn ferjulm_flush(
 ) -> u32
     ensures { (record { code = result; words = words.new; table = table.now; ssd = ssd.new; hdd = hdd.now } ≡ c_call flush ssd.old hdd.now table.now words.old) × (record { image = image.exit.now; offset = offset.new } ≡ c_place flush ssd.old hdd.now table.now words.old (record { image = image.entry.now; offset = offset.old })) }
 {
-    if !words::is_record(words) {
-        return 3;
-    }
-    let state = words::unpack(words);
-    let outcome = maintenance::flush::flush(ssd, hdd, table, state);
-    closing::ended(words, image, offset, outcome)
+    let Some(state) = words::unpack(words) else {
+        return Refusal::BadRecord.number();
+    };
+    let made = maintenance::flush::flush(ssd, hdd, table, state);
+    closing::ended(words, image, offset, &made)
 }
 
 // Makes a step, of a format or of mending.
@@ -200,21 +191,20 @@ pub extern "C" fn ferjulm_step(
 ) -> u32
     ensures { (record { code = result; words = words.new; table = table.now; ssd = ssd.new; hdd = hdd.now } ≡ c_call step ssd.old hdd.now table.now words.old) × (record { image = image.exit.now; offset = offset.new } ≡ c_place step ssd.old hdd.now table.now words.old (record { image = image.entry.now; offset = offset.old })) }
 {
-    if !words::is_record(words) {
-        return 3;
-    }
-    let state = words::unpack(words);
-    let outcome = steps::step::step(ssd, hdd, table, state);
-    closing::ended(words, image, offset, outcome)
+    let Some(state) = words::unpack(words) else {
+        return Refusal::BadRecord.number();
+    };
+    let made = steps::step::step(ssd, hdd, table, state);
+    closing::ended(words, image, offset, &made)
 }
 
-// The number of a reopening with words that can't hold a record.
-fn unheld(ssd: &[u8]) -> u32
-    ensures { result ≡ cond (label_test ssd.now) 3 2 }
+// Why a reopening with words that can't hold a record is refused: 3, after 2.
+fn unheld(ssd: &[u8]) -> Refusal
+    ensures { number_of result ≡ cond (label_test ssd.now) 3 2 }
 {
     match stored::image::label_of(ssd) {
-        LabelRead::Legal(_) => 3,
-        LabelRead::Illegal => 2,
+        Some(_) => Refusal::BadRecord,
+        None => Refusal::NoLabel,
     }
 }
 
@@ -229,9 +219,8 @@ pub extern "C" fn ferjulm_reopen(
     ensures { record { code = result; words = words.new; table = table.new; ssd = ssd.now; hdd = hdd.now } ≡ c_reopen ssd.now hdd.now table.old words.old }
 {
     if words.len() != RECORD_WORDS {
-        return unheld(ssd);
+        return unheld(ssd).number();
     }
-    let state = words::unpack(words);
-    let outcome = reopen::reopen(ssd, hdd, table, state);
-    closing::closed(words, outcome)
+    let made = reopen::reopen(ssd, hdd, table);
+    closing::closed(words, &made)
 }

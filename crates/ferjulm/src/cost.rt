@@ -5,6 +5,7 @@ ghost use Rattle.ferjulm.specs.Cost.{c_cost};
 use c_closing::counts;
 use c_record::words;
 use import_cost::cost;
+use protocol::Refusal;
 
 // Counts the stores that an import of the blocks by a caller would make, by kind: 0, or 113 where it would meet a refusal, with that number
 // and its place in the list; or the question is refused, which leaves everything. The scratch table becomes what the import would leave of the
@@ -26,10 +27,9 @@ pub extern "C" fn ferjulm_cost(
 ) -> u32
     ensures { record { code = result; scratch = scratch.new; numbers = record { copies = copies.exit.now; metadata = metadata.new; landings = landings.new; number = number.new; place = place.new } } ≡ c_cost ssd.now hdd.now table.now words.now blocks.now caller scratch.old (record { copies = copies.entry.now; metadata = metadata.old; landings = landings.old; number = number.old; place = place.old }) }
 {
-    if !words::is_record(words) {
-        return 3;
-    }
-    let state = words::unpack(words);
+    let Some(state) = words::unpack(words) else {
+        return Refusal::BadRecord.number();
+    };
     let answer = cost::cost(ssd, hdd, table, state, blocks, caller, scratch);
     counts::hand_out(answer, copies, metadata, landings, number, place)
 }

@@ -3,6 +3,7 @@ ghost use Rattle.std.specs.Prelude.{◌≡◌};
 ghost use Rattle.ferjulm.specs.Map.{c_map};
 
 use c_record::words;
+use protocol::Refusal;
 use slot_map::map;
 
 // Writes the map over the first bytes of `sheet`: 0, or a refusal, which leaves the buffer.
@@ -16,9 +17,11 @@ pub extern "C" fn ferjulm_map(
 ) -> u32
     ensures { record { number = result; sheet = sheet.new } ≡ c_map ssd.now hdd.now table.now words.now sheet.old }
 {
-    if !words::is_record(words) {
-        return 3;
+    let Some(state) = words::unpack(words) else {
+        return Refusal::BadRecord.number();
+    };
+    match map::map(ssd, hdd, table, state, sheet) {
+        Ok(()) => 0,
+        Err(refusal) => refusal.number(),
     }
-    let state = words::unpack(words);
-    map::map(ssd, hdd, table, state, sheet)
 }

@@ -5,6 +5,7 @@ ghost use Rattle.ferjulm.specs.View.{c_view};
 use c_answers::seen;
 use c_record::words;
 use layout::Block;
+use protocol::Refusal;
 
 // Views a block: `image` becomes 1 for the SSD or 2 for the HDD, `offset` the page's first byte in it.
 #[unsafe(no_mangle)]
@@ -19,19 +20,16 @@ pub extern "C" fn ferjulm_view(
 ) -> u32
     ensures { record { code = result; place = record { image = image.exit.now; offset = offset.new } } ≡ c_view ssd.now hdd.now table.now words.now (record { 0 = block }) (record { image = image.entry.now; offset = offset.old }) }
 {
-    if !words::is_record(words) {
-        return 3;
+    let Some(state) = words::unpack(words) else {
+        return Refusal::BadRecord.number();
+    };
+    match judging::judge_block(ssd.len(), hdd.len(), 4096, table, state, Block(block), 0) {
+        Ok(judged) => {
+            let place = seen::place_for(state.label, Block(block), judged.condition);
+            *image = place.image;
+            *offset = place.offset;
+            0
+        }
+        Err(refusal) => refusal.number(),
     }
-    let state = words::unpack(words);
-    let judged = judging::judge_block(ssd.len(), hdd.len(), 4096, table, state, Block(block), 0);
-    let number = judged.number;
-    if number != 0 {
-        return number;
-    }
-    let l = state.label;
-    let condition = judged.condition;
-    let place = seen::place_for(l, Block(block), condition);
-    *image = place.image;
-    *offset = place.offset;
-    0
 }

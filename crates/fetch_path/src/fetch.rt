@@ -1,10 +1,9 @@
 // "Fetch a block not cached: as an offer by sweep, with flags 5."
 ghost use Rattle.std.specs.Prelude.{◌≡◌};
-ghost use Rattle.protocol.specs.Calls.{leaves, fetch_of};
+ghost use Rattle.protocol.specs.Calls.{ends, fetch_of};
 
 use layout::Block;
-use moves::answers;
-use protocol::Outcome;
+use protocol::{Outcome, Refusal};
 use record::Record;
 use turns::turn;
 
@@ -15,15 +14,10 @@ pub fn fetch(
     state: Record,
     block: Block,
     caller: u32,
-) -> Outcome
-    ensures { leaves result ssd.new hdd.new table.new ≡ fetch_of ssd.old hdd.old table.old state block caller }
+) -> Result<Outcome, Refusal>
+    ensures { ends state result ssd.new hdd.new table.new ≡ fetch_of ssd.old hdd.old table.old state block caller }
 {
-    let seen = judging::judge_block(ssd.len(), hdd.len(), 4096, table, state, block, caller);
-    let number = seen.number;
-    if number != 0 {
-        return answers::refused(number, state);
-    }
-    let condition = seen.condition;
-    let turn = turn::fetch(table, state, caller, condition, seen.writing);
+    let seen = judging::judge_block(ssd.len(), hdd.len(), 4096, table, state, block, caller)?;
+    let turn = turn::fetch(table, state, caller, seen.condition, seen.writing)?;
     performing::perform(ssd, hdd, table, state, block, caller, turn)
 }

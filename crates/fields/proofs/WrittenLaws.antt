@@ -3,13 +3,12 @@ use Prim.Native.Nat.{ℕ, ◌+◌, ◌≤◌}
 use mathlib.Core.Path.{◌≡◌, refl, sym, ap, ◌∙◌}
 use mathlib.Core.List.{List, [], ◌∷◌, ◌++◌}
 use native.Mathlib.Omega.{arith}
-use lib.ListN.{length, length-append, take-append-drop, length-replicate}
+use lib.ListN.{length, length-append, take-append-drop}
 use borrow.Rule.Slice.PartMut.{put_mid}
 use Rattle.pages.specs.Pages.{padded}
 use Rattle.pages.proofs.PadLaws.{chunk_more, chunk_length, padded_put, padded_full}
 use Rattle.layout.specs.LabelPage.{decimal}
 use Rattle.layout.proofs.Decimal.{decimal-size}
-use Rattle.fields.specs.declared.Text.{Text}
 use Rattle.fields.specs.Written.{Written, text_of}
 
 -- a text
@@ -61,8 +60,3 @@ written-page b t end v =
     in
     let n : end ≡ length t = omega (arith, v.end_is) in
     rw (e, n)
-
--- a text lies within its page
-pub text_fits : (text : List ℕ) (t : Text) → t ≡ text_of text → t.len ≤ length t.bytes
-unfolding padded
-text_fits text t e = rw e (simp length-append (omega arith))

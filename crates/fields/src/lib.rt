@@ -2,7 +2,7 @@
 // load share.
 #![tactic(auto)]
 
-ghost use Rattle.std.specs.Prelude.{◌≡◌, ◌+◌, ◌≤◌, length};
+ghost use Rattle.std.specs.Prelude.{◌≡◌, ◌+◌, ◌≤◌, length, take};
 ghost use Rattle.fields.specs.Written.{Written};
 ghost use Rattle.fields.specs.Fields.{field, refusal_text};
 
@@ -11,6 +11,16 @@ ghost use Rattle.fields.specs.Fields.{field, refusal_text};
 pub struct Text {
     pub bytes: [u8; 4096],
     pub len: usize,
+}
+
+impl Text {
+    // The bytes up to the text's length, at most all.
+    pub fn text(&self) -> &[u8]
+        ensures { result.now ≡ take self.now.len self.now.bytes }
+    {
+        let n = self.len.min(4096);
+        &self.bytes[..n]
+    }
 }
 
 // A key, a number and the byte after it.
@@ -23,8 +33,7 @@ pub fn put_field(page: &mut [u8], at: usize, key: &[u8], n: u32, last: u8) -> us
 }
 
 // A refusal's only line.
-pub fn put_refusal(page: &mut [u8], number: u32) -> usize
-    requires { length page.old ≡ 4096 }
+pub fn put_refusal(page: &mut [u8; 4096], number: u32) -> usize
     ensures { Written page.old page.new 0 result 19 (refusal_text number) }
 {
     put_field(page, 0, b"refused=", number, 10)

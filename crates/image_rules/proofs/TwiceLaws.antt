@@ -6,7 +6,7 @@ use mathlib.Core.Bool.{Bool, true, false, not, ◌&&◌, ◌||◌}
 use mathlib.Core.List.{List, [], ◌∷◌}
 use native.Mathlib.Omega.{arith}
 use native.Mathlib.Decide.{dec_lt}
-use lib.ListN.{length, get_or, drop, set, replicate, drop_of_length-le, length-set, length-replicate}
+use lib.ListN.{length, get_or, drop, replicate, drop_of_length-le, length-set, length-replicate}
 use lib.Seq.{drop-cons}
 use lib.Dec.{eqb, leb, ltb}
 use borrow.Author.Tests.{eq-eqb, ne_eqb, le-leb, lt-leb, leb-true, lt-ltb, le-ltb, ltb-true, eqb-true}
@@ -20,7 +20,7 @@ use Rattle.protocol.specs.Rows.{valid, each_row}
 use Rattle.protocol.specs.Recovery.{entry_in, each_legal, block_in, none_twice, stored_rows}
 use Rattle.laws.proofs.refine.Entries.{length-rows, rows-block, rows_flags}
 use Rattle.laws.proofs.refine.Tables.{each_of}
-use Rattle.image_rules.specs.Twice.{bit_of, marked, in_span, visited, all_fresh}
+use Rattle.image_rules.specs.Twice.{bit_of, marked, in_span, visited, page_end, all_fresh}
 use Rattle.image_rules.proofs.BitLaws.{bit_marked, bit_none}
 use Rattle.stored.proofs.StoredLaws.{legal_at}
 
@@ -273,9 +273,15 @@ entry_on pages s p i e h =
     let b : s % 240 ≡ i = omega arith in
     rw (a, b)
 
-pub page-low : (l : Label) (s p : ℕ) → s ≡ 240 * p → s < l.slots → p < meta_pages l
+-- a metadata page has a slot
+pub page_first : (l : Label) (p : ℕ) → p < meta_pages l → 240 * p < l.slots
 unfolding meta_pages
-page-low l s p e h = omega arith
+page_first l p h = omega arith
+
+-- the metadata pages have all slots
+pub pages_all : (l : Label) (p : ℕ) → meta_pages l ≤ p → l.slots ≤ 240 * p
+unfolding meta_pages
+pages_all l p h = omega arith
 
 -- one row of a pass
 pub fresh-left : (start : ℕ) (map : List ℕ) (n : ℕ) (f : ℕ → Entry) (s : ℕ) → s < n
@@ -300,3 +306,12 @@ unfolding all_fresh
 fresh_end start map n f s h =
     let z = length-rows n f in
     rw (drop_of_length-le (rows_from n f) {i = 2 * s} (omega arith))
+
+-- a page's last slots: the next page's are left, or none
+pub page_over : (start : ℕ) (map : List ℕ) (n : ℕ) (f : ℕ → Entry) (s : ℕ)
+    → all_fresh start map (drop (2 * page_end s n) (rows_from n f)) ≡ all_fresh start map (drop (2 * (s + 240)) (rows_from n f))
+page_over start map n f s = go (dec_lt n (s + 240))
+  where
+    go : Dec (n < s + 240) → all_fresh start map (drop (2 * page_end s n) (rows_from n f)) ≡ all_fresh start map (drop (2 * (s + 240)) (rows_from n f))
+    go (yes k) = fresh_end start map n f (page_end s n) (omega arith) ∙ sym (fresh_end start map n f (s + 240) (omega arith))
+    go (no k) = let e : page_end s n ≡ s + 240 = omega arith in rw e

@@ -6,7 +6,7 @@ pub mod twice;
 ghost use Rattle.std.specs.Prelude.{◌≡◌, true, false, not, ◌&&◌, ◌||◌, ◌+◌, ◌≤◌, ◌<◌, length, drop, eqb};
 ghost use Rattle.layout.specs.Places.{Limits, meta_pages, ssd_length};
 ghost use Rattle.layout.specs.PageRule.{in_range};
-ghost use Rattle.layout.specs.Window.{window_most, slots_in};
+ghost use Rattle.layout.specs.Window.{slots_in};
 ghost use Rattle.protocol.specs.Rows.{valid, writing};
 ghost use Rattle.protocol.specs.Recovery.{metas_of, each_legal, stamp_in, stamps_differ, all_open_in, pages_test};
 
@@ -20,12 +20,10 @@ pub fn all_legal(ssd: &[u8], l: Label) -> bool
     ensures { result ≡ each_legal l 0 (metas_of l ssd.now) }
 {
     let m = places::meta_pages(l);
-    let mut p: u32 = 0;
-    while p < m {
+    for p in 0..m {
         if !page_rule::legal_page(l, p, image::meta_page(ssd, l, p)) {
             return false;
         }
-        p += 1;
     }
     true
 }
@@ -41,12 +39,10 @@ fn stamp_alone(ssd: &[u8], l: Label, stamp: u32, k: u32) -> bool
         return true;
     }
     let m = places::meta_pages(l);
-    let mut q: u32 = k;
-    while q < m {
+    for q in k..m {
         if stamp == image::stamp_at(ssd, l, q) {
             return false;
         }
-        q += 1;
     }
     true
 }
@@ -58,13 +54,11 @@ pub fn stamps_differ(ssd: &[u8], l: Label) -> bool
     ensures { result ≡ stamps_differ (metas_of l ssd.now) }
 {
     let m = places::meta_pages(l);
-    let mut p: u32 = 0;
-    while p < m {
+    for p in 0..m {
         let stamp = image::stamp_at(ssd, l, p);
         if !stamp_alone(ssd, l, stamp, p + 1) {
             return false;
         }
-        p += 1;
     }
     true
 }
@@ -73,31 +67,18 @@ pub fn stamps_differ(ssd: &[u8], l: Label) -> bool
 fn is_open(flags: u32) -> bool
     ensures { result ≡ (valid flags && writing flags) }
 {
-    if flags % 2 != 1 {
-        return false;
-    }
-    flags / 4 % 2 == 1
+    (flags % 2 == 1) & (flags / 4 % 2 == 1)
 }
 
 // Whether each of the window's slots has a valid, writing entry.
 pub fn all_open(ssd: &[u8], l: Label, w: Window) -> bool
     requires ssd_len { length ssd.now ≡ ssd_length l }
-    requires count_le_window_most { w.count ≤ window_most }
     requires w_value { in_range l (slots_in w) ≡ true }
     ensures { result ≡ all_open_in (metas_of l ssd.now) (slots_in w) }
 {
-    let slots = w.slots;
-    let n = w.count as usize;
-    let mut i: usize = 0;
-    while i < n {
-        let s = slots[i];
-        let entry = image::entry_of(ssd, l, s);
-        if !is_open(entry.flags) {
-            return false;
-        }
-        i += 1;
-    }
-    true
+    w.slots()
+        .iter()
+        .all(|s| is_open(image::entry_of(ssd, l, *s).flags))
 }
 
 // Whether every rule of every page and between pages is kept.

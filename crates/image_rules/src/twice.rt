@@ -4,7 +4,7 @@ ghost use Rattle.layout.specs.Places.{Limits, ssd_length};
 ghost use Rattle.protocol.specs.Recovery.{metas_of, each_legal, none_twice, stored_rows};
 ghost use Rattle.image_rules.specs.Twice.{bit_of, marked, Visit, visited, page_end, all_fresh};
 
-use layout::Label;
+use layout::{Label, places};
 use metadata::page;
 use stored::image;
 
@@ -54,10 +54,7 @@ fn page_end(s: u32, slots: u32) -> u32
     requires slots_bound { slots ≤ 57600 }
     ensures { result ≡ page_end s slots }
 {
-    if slots - s < 240 {
-        return slots;
-    }
-    s + 240
+    if slots - s < 240 { slots } else { s + 240 }
 }
 
 // Whether all stored entries are new to the map: page by page.
@@ -67,23 +64,18 @@ fn pass(map: &mut [u32], ssd: &[u8], l: Label, start: u32) -> bool
     requires limits { Limits l }
     ensures { result ≡ all_fresh start map.old (stored_rows l (metas_of l ssd.now)) }
 {
-    let slots = l.slots;
-    let mut p: u32 = 0;
-    let mut s: u32 = 0;
-    while s < slots {
+    let m = places::meta_pages(l);
+    for p in 0..m {
         let page = image::meta_page(ssd, l, p);
-        let end = page_end(s, slots);
-        let mut i: u32 = 0;
-        while s < end {
-            let entry = page::entry_at(page, i);
+        let first = 240 * p;
+        let end = page_end(first, l.slots);
+        for s in first..end {
+            let entry = page::entry_at(page, s - first);
             let block = entry.block;
             if !visit(map, start, block.0, entry.flags) {
                 return false;
             }
-            i += 1;
-            s += 1;
         }
-        p += 1;
     }
     true
 }
@@ -106,13 +98,11 @@ pub fn none_twice(ssd: &[u8], l: Label) -> bool
     requires ssd_value { each_legal l 0 (metas_of l ssd.now) ≡ true }
     ensures { result ≡ none_twice (stored_rows l (metas_of l ssd.now)) }
 {
-    let blocks = l.blocks;
-    let mut start: u32 = 0;
-    while start < blocks {
-        if !range_once(ssd, l, start) {
+    let ranges = l.blocks.div_ceil(524288);
+    for k in 0..ranges {
+        if !range_once(ssd, l, 524288 * k) {
             return false;
         }
-        start += 524288;
     }
     true
 }

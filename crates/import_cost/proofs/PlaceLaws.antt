@@ -1,15 +1,16 @@
 -- A place of an import, as the definition has it, is the place of the run in memory.
-use Prim.Native.Nat.{ℕ, zero, suc, ◌+◌, ◌*◌, ◌%◌, ◌≤◌, ◌<◌}
+use Prim.Native.Nat.{ℕ, ◌+◌, ◌*◌, ◌%◌, ◌≤◌, ◌<◌}
 use mathlib.Core.Path.{◌≡◌, refl, sym, ap, subst, ◌∙◌}
-use mathlib.Core.Logic.{◌≢◌, inl, inr}
+use mathlib.Core.Logic.{inl, inr}
 use mathlib.Core.Bool.{Bool, true, false, not}
-use mathlib.Core.List.{List, [], ◌∷◌, ◌++◌}
-use mathlib.Core.Option.{Option, some, none}
+use mathlib.Core.List.{List, [], ◌∷◌}
+use Rattle.std.specs.Prelude.{Option, Some, None, Result, Ok, Err}
+use Rattle.std.proofs.lemmas.Option.{none-some}
 use native.Mathlib.Omega.{arith}
-use lib.ListN.{length, get_or, set, length-set}
+use lib.ListN.{length, get_or, set}
 use lib.Seq.{get_or-set_same, get_or-set_other}
-use lib.Dec.{leb, eqb}
-use borrow.Author.Tests.{leb-true, leb-false, le-ltb, lt-leb, le-leb, eq-eqb}
+use lib.Dec.{leb}
+use borrow.Author.Tests.{leb-false, le-ltb, lt-leb, eq-eqb}
 use Rattle.pages.specs.Pages.{zero_page}
 use Rattle.pages.proofs.PageLaws.{length_zero}
 use Rattle.layout.specs.declared.Slot.{Slot}
@@ -20,21 +21,21 @@ use Rattle.layout.specs.PageRule.{listed}
 use Rattle.layout.proofs.Booleans.{Told, told, told_true, told_false, clash}
 use Rattle.record.specs.declared.Record.{Record}
 use Rattle.record.specs.declared.Phase.TheVariants.{Ready}
-use Rattle.record.specs.Callers.{open_by}
 use Rattle.record.specs.Record.{label_in, window_in, callers_in, with_stamp}
 use Rattle.record.specs.Rule.{record_test}
-use Rattle.protocol.specs.declared.Counts.{Counts}
 use Rattle.protocol.specs.declared.Condition.{Condition}
-use Rattle.protocol.specs.declared.Condition.TheVariants.{NotCached, Clean, Dirty, Writing, Fetching}
+use Rattle.protocol.specs.declared.Condition.TheVariants.{NotCached, Dirty, Writing}
 use Rattle.protocol.specs.Reply.{Reply, refusal, refused, copied_out}
 use Rattle.protocol.specs.Rows.{row_flags, set_row, valid, dirty, writing, open_rows}
 use Rattle.protocol.specs.Box.{Box, Effect, refusing}
-use Rattle.protocol.specs.Condition.{open_as, closed_as, condition_at, condition_of, takes_write}
+use Rattle.protocol.specs.Condition.{open_as, closed_as, condition_of, takes_write}
 use Rattle.protocol.specs.Sweep.{next_slot}
 use Rattle.protocol.specs.Plan.{offer, land, lands, opens as opening, landing, plan}
 use Rattle.protocol.specs.Perform.{joined, landed_state, confirmed, perform}
 use Rattle.protocol.specs.Kinds.{to_write, to_land}
-use Rattle.protocol.specs.Judge.{wrong_state, lengths_test, rows_test, test, judged}
+use Rattle.protocol.specs.declared.Refusal.{Refusal}
+use Rattle.protocol.specs.declared.Refusal.TheVariants.{BlockTooHigh, WrongState, WindowFull, StampsSpent, ImportFull}
+use Rattle.protocol.specs.Judge.{number_of, lengths_test, rows_test, test}
 use Rattle.protocol.specs.Calls.{effect_of, box_of}
 use Rattle.protocol.specs.Cost.{Tally, tallied, tallies, is_copied_out, repeats, offers_to, lands_unless, imports}
 use Rattle.laws.proofs.model.Model.{open_row}
@@ -44,10 +45,10 @@ use Rattle.laws.proofs.refine.Windows.{has_nums}
 use Rattle.laws.proofs.Judged.{first_no, refuses as refusing-is, does}
 use Rattle.judging.specs.Judging.{sound_then, ready_then, serves_then}
 use Rattle.judging.proofs.JudgingLaws.{goes_on, ready_asks}
-use Rattle.judging.proofs.ServeLaws.{end, first-judged, judged_on, offer_judges, land_judges}
+use Rattle.judging.proofs.ServeLaws.{end, first_judged, judged_on, offer_judges, land_judges}
 use Rattle.sweeping.specs.Sweeps.{cleared_from}
 use Rattle.turns.specs.declared.turn.Turn.{Turn}
-use Rattle.turns.specs.declared.turn.Turn.TheVariants.{Refused, Passes, Opens, CopiesOut}
+use Rattle.turns.specs.declared.turn.Turn.TheVariants.{Passes, Opens, CopiesOut}
 use Rattle.turns.specs.Turns.{held_by, crowd_by, offer_turn_at, spent, turned as performed}
 use Rattle.turns.proofs.TurnLaws.{hand-low, record_limits}
 use Rattle.performing.proofs.PerformLaws.{offer_turned}
@@ -56,8 +57,8 @@ use Rattle.list_run.specs.Runs.{Fair}
 use Rattle.list_run.proofs.FairLaws.{fair-rows, fair_sound, fair-count, opened-fair}
 use Rattle.list_turns.proofs.FoundLaws.{unheld_alike}
 use Rattle.import_run.specs.declared.Run.{Run}
-use Rattle.import_run.specs.Runs.{Steady, After, meets, copies_out, landed_row, lands_in, opens_if, taken, copied_table, offered, dirty_slot, place_in, place_after, counts_in}
-use Rattle.import_run.proofs.RowLaws.{ran_as, fair_of, Opened, OpensAt, CopiesAt, Turned, refuses, passes, opens, copies, turned, lands_sound, opened_flags, opened_sound, copied_sound, next_turn}
+use Rattle.import_run.specs.Runs.{Steady, After, meets, copies_out, landed_row, lands_in, opens_if, taken, copied_table, offered, dirty_slot, place_after, counts_in}
+use Rattle.import_run.proofs.RowLaws.{ran_as, fair_of, Opened, OpensAt, CopiesAt, Turned, refuses, passes, opens, copies, turned, lands_sound, opened_flags, opened_sound, next_turn}
 use Rattle.import_run.proofs.PlaceLaws.{is_copy, copied_fair, opens_next, still_unheld}
 use Rattle.import_cost.proofs.StateLaws.{landed-again, condition_at_lem, condition_none}
 
@@ -76,12 +77,12 @@ opened-row h (inl e) = rw e (record { flags = f7; low = λ _. h; free = λ q. cl
 opened-row h (inr e) = rw e (record { flags = f15; low = λ _. h; free = λ q. clash {b = true} refl q }, refl)
 
 -- where no number refuses another slot fewer than 63 are open
-room_few : (all mine : ℕ) → crowd_by all mine ≡ 0 → all < 63
+room_few : (all mine : ℕ) → crowd_by all mine ≡ None → all < 63
 room_few all mine e = go (told (leb 8 mine)) (told (leb 63 all))
   where
     go : Told (leb 8 mine) → Told (leb 63 all) → all < 63
-    go (told_true a) f = let z : 17 ≡ crowd_by all mine = rw (a, crowd_by) in absurd (omega (arith, z ∙ e))
-    go (told_false a) (told_true f) = let z : 11 ≡ crowd_by all mine = rw (a, f, crowd_by) in absurd (omega (arith, z ∙ e))
+    go (told_true a) f = let z : Some ImportFull ≡ crowd_by all mine = rw (a, crowd_by) in absurd (none-some ImportFull (sym (z ∙ e)))
+    go (told_false a) (told_true f) = let z : Some WindowFull ≡ crowd_by all mine = rw (a, f, crowd_by) in absurd (none-some WindowFull (sym (z ∙ e)))
     go (told_false a) (told_false f) = leb-false 63 all f
 
 -- a table and a record that 3 to 6 do not refuse, with images of the right lengths
@@ -90,21 +91,20 @@ module _ (ssd hdd t : List ℕ) (q : Record) (F : Fair t q) (ssd-size : length s
   abbrev y : Box
   y = box_of ssd hdd t q
 
-  is_ready_is : ready_then (length ssd) (length hdd) 4096 t q 0 ≡ 0
+  is_ready_is : ready_then (length ssd) (length hdd) 4096 t q None ≡ None
   unfolding sound_then lengths_test
   is_ready_is = rw (F.record_kept, eq-eqb _ _ ssd-size, eq-eqb _ _ hdd-size, eq-eqb _ _ F.size, F.rows, F.ready)
 
-  on : (rest : ℕ) → ready_then (length ssd) (length hdd) 4096 t q rest ≡ rest
+  on : (rest : Option Refusal) → ready_then (length ssd) (length hdd) 4096 t q rest ≡ rest
   on = goes_on (ready_asks (length ssd) (length hdd) 4096 t q) is_ready_is
 
-  serves : (b : Block) (caller : ℕ) → caller ≤ 1 → b.0 < q.label.blocks → serves_then (length ssd) (length hdd) 4096 t q b caller 0 ≡ 0
+  serves : (b : Block) (caller : ℕ) → caller ≤ 1 → b.0 < q.label.blocks → serves_then (length ssd) (length hdd) 4096 t q b caller None ≡ None
   serves b caller known bl = on _ ∙ rw (le-ltb 1 caller known, lt-leb q.label.blocks b.0 bl)
 
   offer_high : (b : Block) (caller : ℕ) → caller ≤ 1 → leb q.label.blocks b.0 ≡ true → effect_of (offer b caller) y ≡ refusing 7 y
   offer_high b caller known e =
-      let z : serves_then (length ssd) (length hdd) 4096 t q b caller 0 ≡ 7 = on _ ∙ rw (le-ltb 1 caller known, e) in
-      let f = first-judged (offer b caller) y _ _ (offer_judges ssd hdd t q b caller) (λ h. omega (arith, sym z ∙ h)) in
-      refusing-is (offer b caller) y f.0 f.1 ∙ ap (λ (n : ℕ). refusing n y) (f.2 ∙ z)
+      let z : serves_then (length ssd) (length hdd) 4096 t q b caller None ≡ Some BlockTooHigh = on _ ∙ rw (le-ltb 1 caller known, e) in
+      refusing-is (offer b caller) y BlockTooHigh (first_judged (offer b caller) y _ _ (offer_judges ssd hdd t q b caller) BlockTooHigh z)
 
   offer_low : (b : Block) (caller : ℕ) → caller ≤ 1 → b.0 < q.label.blocks
       → effect_of (offer b caller) y ≡ performed (offer_turn_at (label_in q) t q.hand (crowd_by q.count (held_by caller q))
@@ -118,8 +118,8 @@ module _ (ssd hdd t : List ℕ) (q : Record) (F : Fair t q) (ssd-size : length s
       → effect_of (land b zero_page) y ≡ perform (landing zero_page k) y
   unfolding test plan
   land-low b bl k e o = does (land b zero_page) y (landing zero_page k)
-      (judged_on (land b zero_page) y _ (wrong_state ∷ []) (land_judges ssd hdd t q b zero_page) (rw length_zero (serves b 0 (omega arith) bl))
-      ∙ first_no _ wrong_state [] (ap not (ap takes_write e ∙ o)) ∙ end _)
+      (judged_on (land b zero_page) y _ (WrongState ∷ []) (land_judges ssd hdd t q b zero_page) (rw length_zero (serves b 0 (omega arith) bl))
+      ∙ first_no _ WrongState [] (ap not (ap takes_write e ∙ o)) ∙ end _)
       (ap (landing zero_page) e)
 
 -- the run of one question
@@ -128,8 +128,8 @@ module _ (ssd hdd : List ℕ) (r : Record) (kept : record_test r ≡ true) (read
   abbrev l : Label
   l = label_in r
 
-  -- the number that refuses another slot is the same at every place
-  abbrev number : ℕ
+  -- what refuses another slot is the same at every place
+  abbrev number : Option Refusal
   number = crowd_by r.count (held_by caller r)
 
   abbrev box : List ℕ → Slot → ℕ → Bool → Box
@@ -137,14 +137,13 @@ module _ (ssd hdd : List ℕ) (r : Record) (kept : record_test r ≡ true) (read
 
   -- where a place ends: met a refusal, or went on
   pub data Done : Tally → After → Type 0 where
-    met : (y : Tally) (a : After) → y.said ≡ refusal a.run.met → a.run.met ≢ 0 → y.counts ≡ counts_in a.run
-        → y.box.table ≡ a.table
-        → Done y a
-    went : (y : Tally) (a : After) (u : Bool) → refused y.said ≡ false → a.run.met ≡ 0 → y.counts ≡ counts_in a.run
+    met : (y : Tally) (a : After) (e : Refusal) → y.said ≡ refusal (number_of e) → a.met ≡ Err e → y.counts ≡ counts_in a.run
+        → y.box.table ≡ a.table → Done y a
+    went : (y : Tally) (a : After) (u : Bool) → refused y.said ≡ false → a.met ≡ Ok tt → y.counts ≡ counts_in a.run
         → y.box ≡ box a.table a.run.hand a.run.newest u → Fair a.table (ran_as r a.run.hand a.run.newest u) → Done y a
 
   -- at a place: the table, the run so far, and the box with it
-  module _ (t : List ℕ) (z : Run) (u : Bool) (F : Fair t (ran_as r z.hand z.newest u)) (fresh : z.met ≡ 0) (b : Block) where
+  module _ (t : List ℕ) (z : Run) (u : Bool) (F : Fair t (ran_as r z.hand z.newest u)) (b : Block) where
     abbrev q : Record
     q = ran_as r z.hand z.newest u
 
@@ -164,23 +163,23 @@ module _ (ssd hdd : List ℕ) (r : Record) (kept : record_test r ≡ true) (read
 
     -- 7 refuses it
     high_ends : (said : Reply) → effect_of (offer b caller) x ≡ refusing 7 x
-        → Done (imports caller b (tally said)) (record { run = meets 7 z; table = t })
+        → Done (imports caller b (tally said)) (meets BlockTooHigh z t)
     unfolding imports offers_to tallies
     high_ends said e = subst
         (λ (f : Effect). let w : Tally = tallied to_write f (tally said) in
         let v : Tally = repeats (is_copied_out w.said) (offer b caller) w in Done (lands_unless (refused v.said) b v)
-        (record { run = meets 7 z; table = t }))
-        (sym e) (met _ _ refl (λ h. omega arith) refl refl)
+        (meets BlockTooHigh z t))
+        (sym e) (met _ _ BlockTooHigh refl refl refl refl)
 
     module _ (said : Reply) (bl : b.0 < r.label.blocks) where
       abbrev first : Tally
       first = tallies (offer b caller) (tally said)
 
-      by_turn : {T : Turn} → offer_turn_at l t z.hand number (condition_of t b) ≡ T
+      by_turn : {T : Result Turn Refusal} → offer_turn_at l t z.hand number (condition_of t b) ≡ T
           → first ≡ tallied to_write (performed T b caller x) (tally said)
       unfolding tallies
       by_turn e = ap (λ (f : Effect). tallied to_write f (tally said)) (effect_low bl)
-          ∙ ap (λ (T : Turn). tallied to_write (performed T b caller x) (tally said)) e
+          ∙ ap (λ (T : Result Turn Refusal). tallied to_write (performed T b caller x) (tally said)) e
 
       -- landed, unless it was refused
       abbrev lands_after : Tally → Tally
@@ -198,15 +197,14 @@ module _ (ssd hdd : List ℕ) (r : Record) (kept : record_test r ≡ true) (read
         end = subst (λ (w : Tally). Done (lands_after w) a) (sym e) d;
       }
 
-      refuses_ends : (n : ℕ) → n ≢ 0 → offer_turn_at l t z.hand number (condition_of t b) ≡ Refused n
-          → Finished (record { run = meets n z; table = t })
-      refuses_ends n h e = at (by_turn e) refl (met _ _ refl h refl refl)
+      refuses_ends : (e : Refusal) → offer_turn_at l t z.hand number (condition_of t b) ≡ Err e → Finished (meets e z t)
+      refuses_ends e k = at (by_turn k) refl (met _ _ e refl refl refl refl)
 
       passes-ends : (s : Slot) → s.0 < r.label.slots → valid (row_flags t s) ≡ true → writing (row_flags t s) ≡ false
-          → condition_of t b ≡ Dirty s → offer_turn_at l t z.hand number (condition_of t b) ≡ Passes → Finished (lands_in t z s)
+          → condition_of t b ≡ Dirty s → offer_turn_at l t z.hand number (condition_of t b) ≡ Ok Passes → Finished (lands_in t z s)
       unfolding tallies perform
       passes-ends s h v w k e = at (by_turn e) refl
-          (went _ _ u (ap (λ (f : Effect). refused f.said) landing_is) fresh (ap (λ (f : Effect). (tallied (to_land zero_page) f (tally
+          (went _ _ u (ap (λ (f : Effect). refused f.said) landing_is) refl (ap (λ (f : Effect). (tallied (to_land zero_page) f (tally
           first.said)).counts) landing_is)
           (ap (λ (f : Effect). record { images = x.images; table = f.table; state = f.state }) landing_is ∙ state_is)
           (fair_of q F.record_kept F.ready (lands_sound F b bl number s h v w) z.hand (hand-low q F.record_kept) z.newest u))
@@ -289,24 +287,24 @@ module _ (ssd hdd : List ℕ) (r : Record) (kept : record_test r ≡ true) (read
           | false ↦ perform (opening q s b caller f (cleared_from n l t z.hand) hand) x
         ]) (tally said)
 
-        opens-ends : offer_turn_at l t z.hand number (condition_of t b) ≡ Opens s f n hand
+        opens-ends : offer_turn_at l t z.hand number (condition_of t b) ≡ Ok (Opens s f n hand)
             → Finished (opens_if (spent l z.newest) l t z b s f n hand)
         unfolding tallies perform confirmed
         opens-ends e = go (told (spent l z.newest))
           where
             go : Told (spent l z.newest) → Finished (opens_if (spent l z.newest) l t z b s f n hand)
-            go (told_true p) = rw (p, opens_if) (at (by_turn e ∙ ap branch p) refl (met _ _ refl (λ h. omega arith) refl refl))
+            go (told_true p) = rw (p, opens_if) (at (by_turn e ∙ ap branch p) refl (met _ _ StampsSpent refl refl refl refl))
             go (told_false p) = rw (p, opens_if) (at (by_turn e ∙ ap branch p) refl
-                (went _ _ true (ap (λ (f : Effect). refused f.said) landing-₁) fresh
+                (went _ _ true (ap (λ (f : Effect). refused f.said) landing-₁) refl
                 (ap (λ (f : Effect). (tallied (to_land zero_page) f (branch false)).counts) landing-₁)
                 (ap (λ (f : Effect). record { images = x.images; table = f.table; state = f.state }) landing-₁
                 ∙ ap {B = Box} (λ (k : Record). record { images = x.images; table = landed_row t₁ s; state = k }) state-₁)
                 (fair_of q F.record_kept F.ready (opened_sound F b bl number s f n hand O) hand O.hand-low (z.newest + 1) true)))
 
       -- what a turn that copies nothing out leaves, and its landing
-      turn_ends : {k : Condition} {T : Turn} → Turned F b bl number k T → is_copy T ≡ false → condition_of t b ≡ k
+      turn_ends : {k : Condition} {T : Result Turn Refusal} → Turned F b bl number k T → is_copy T ≡ false → condition_of t b ≡ k
           → offer_turn_at l t z.hand number (condition_of t b) ≡ T → Finished (taken T l t z b (dirty_slot k))
-      turn_ends (refuses n h) c k e = refuses_ends n h e
+      turn_ends (refuses n) c k e = refuses_ends n e
       turn_ends (passes s h v w) c k e = passes-ends s h v w k e
       turn_ends (opens s f n hand O) c k e = opens-ends s f n hand O e
       turn_ends (copies s n C) c k e = clash {b = true} refl c
@@ -317,7 +315,7 @@ module _ (ssd hdd : List ℕ) (r : Record) (kept : record_test r ≡ true) (read
       offered-once {a} G = subst (λ (o : Bool). Done (lands_after (repeats o (offer b caller) first)) a) (sym G.once) G.end
 
   -- a slot is copied out, and then taken
-  module _ (t : List ℕ) (z : Run) (u : Bool) (F : Fair t (ran_as r z.hand z.newest u)) (fresh : z.met ≡ 0) (b : Block) (said : Reply)
+  module _ (t : List ℕ) (z : Run) (u : Bool) (F : Fair t (ran_as r z.hand z.newest u)) (b : Block) (said : Reply)
       (bl : b.0 < r.label.blocks) (s : Slot) (n : ℕ) (C : CopiesAt F b bl number s n) where
     abbrev t₂ : List ℕ
     t₂ = copied_table l t z.hand s n
@@ -332,48 +330,47 @@ module _ (ssd hdd : List ℕ) (r : Record) (kept : record_test r ≡ true) (read
     none-₂ = condition_none t₂ b r.label.slots F₂.size
         (still_unheld (ran_as r z.hand z.newest u) F b bl number s n C r.label.slots b.0 (omega arith) C.unheld)
 
-    again : offer_turn_at l t₂ s number (condition_of t₂ b) ≡ Opens s 7 0 (next_slot l s)
+    again : offer_turn_at l t₂ s number (condition_of t₂ b) ≡ Ok (Opens s 7 0 (next_slot l s))
     again = ap (offer_turn_at l t₂ s number) none-₂ ∙ next_turn F b bl number s n C
 
-    copies-ends : (d : Slot) → offer_turn_at l t z.hand number (condition_of t b) ≡ CopiesOut s n
-        → Done (imports caller b (tally t z u F fresh b said)) (offered (CopiesOut s n) l t z number b d)
+    copies-ends : (d : Slot) → offer_turn_at l t z.hand number (condition_of t b) ≡ Ok (CopiesOut s n)
+        → Done (imports caller b (tally t z u F b said)) (offered (Ok (CopiesOut s n)) l t z number b d)
     unfolding imports offers_to perform
     copies-ends d e =
         let y : Run = copies_out s z in
-        let G = turn_ends t₂ y u F₂ fresh b copied_out bl (opens {k = NotCached} s 7 0 (next_slot l s) O₂) refl none-₂ again in
-        let v : Tally = tallies (offer b caller) (tally t₂ y u F₂ fresh b copied_out) in
+        let G = turn_ends t₂ y u F₂ b copied_out bl (opens {k = NotCached} s 7 0 (next_slot l s) O₂) refl none-₂ again in
+        let v : Tally = tallies (offer b caller) (tally t₂ y u F₂ b copied_out) in
         subst
         (λ (w : Tally). let o : Tally = repeats (is_copied_out w.said) (offer b caller) w in
-        Done (lands_unless (refused o.said) b o) (offered (CopiesOut s n) l t z number b d))
-        (sym (by_turn t z u F fresh b said bl e))
-        (subst (λ (T : Turn). Done (lands_unless (refused v.said) b v) (taken T l t₂ y b d)) (sym (next_turn F b bl number s n C))
+        Done (lands_unless (refused o.said) b o) (offered (Ok (CopiesOut s n)) l t z number b d))
+        (sym (by_turn t z u F b said bl e))
+        (subst (λ (T : Result Turn Refusal). Done (lands_unless (refused v.said) b v) (taken T l t₂ y b d)) (sym (next_turn F b bl number s n C))
         G.end)
 
   -- any place
-  pub place-ends : (t : List ℕ) (z : Run) (u : Bool) (F : Fair t (ran_as r z.hand z.newest u)) (fresh : z.met
-      ≡ 0) (b : Block) (said : Reply)
-      → Done (imports caller b (tally t z u F fresh b said)) (place_after l t z number b)
+  pub place-ends : (t : List ℕ) (z : Run) (u : Bool) (F : Fair t (ran_as r z.hand z.newest u)) (b : Block) (said : Reply)
+      → Done (imports caller b (tally t z u F b said)) (place_after l t z number b)
   unfolding place_after
-  place-ends t z u F fresh b said = go (told (leb r.label.blocks b.0))
+  place-ends t z u F b said = go (told (leb r.label.blocks b.0))
     where
-      low : (bl : b.0 < r.label.blocks) {k : Condition} {T : Turn} → Turned F b bl number k T → condition_of t b ≡ k
+      low : (bl : b.0 < r.label.blocks) {k : Condition} {T : Result Turn Refusal} → Turned F b bl number k T → condition_of t b ≡ k
           → offer_turn_at l t z.hand number (condition_of t b) ≡ T
-          → Done (imports caller b (tally t z u F fresh b said)) (offered T l t z number b (dirty_slot k))
-      low bl {k} (refuses n h) c e = offered-once t z u F fresh b said bl (turn_ends t z u F fresh b said bl {k = k} (refuses n h) refl c e)
-      low bl (passes s h v w) c e = offered-once t z u F fresh b said bl (turn_ends t z u F fresh b said bl (passes s h v w) refl c e)
-      low bl {k} (opens s f n hand O) c e = offered-once t z u F fresh b said bl (turn_ends t z u F fresh b said bl {k = k}
+          → Done (imports caller b (tally t z u F b said)) (offered T l t z number b (dirty_slot k))
+      low bl {k} (refuses n) c e = offered-once t z u F b said bl (turn_ends t z u F b said bl {k = k} (refuses n) refl c e)
+      low bl (passes s h v w) c e = offered-once t z u F b said bl (turn_ends t z u F b said bl (passes s h v w) refl c e)
+      low bl {k} (opens s f n hand O) c e = offered-once t z u F b said bl (turn_ends t z u F b said bl {k = k}
           (opens s f n hand O) refl c e)
-      low bl (copies s n C) c e = copies-ends t z u F fresh b said bl s n C _ e
+      low bl (copies s n C) c e = copies-ends t z u F b said bl s n C _ e
 
       high : leb r.label.blocks b.0 ≡ true
-          → Done (imports caller b (tally t z u F fresh b said)) (record { run = meets 7 z; table = t })
+          → Done (imports caller b (tally t z u F b said)) (meets BlockTooHigh z t)
       high e = offered-once_high (offer_high ssd hdd t (ran_as r z.hand z.newest u) F ssd-size hdd-size b caller known e)
         where
           offered-once_high : effect_of (offer b caller) (box t z.hand z.newest u) ≡ refusing 7 (box t z.hand z.newest u)
-              → Done (imports caller b (tally t z u F fresh b said)) (record { run = meets 7 z; table = t })
-          offered-once_high f = high_ends t z u F fresh b said f
+              → Done (imports caller b (tally t z u F b said)) (meets BlockTooHigh z t)
+          offered-once_high f = high_ends t z u F b said f
 
-      go : Told (leb r.label.blocks b.0) → Done (imports caller b (tally t z u F fresh b said)) (place_after l t z number b)
+      go : Told (leb r.label.blocks b.0) → Done (imports caller b (tally t z u F b said)) (place_after l t z number b)
       go (told_true e) = rw (place_after, e) (high e)
       go (told_false e) = rw (place_after, e)
           (let bl : b.0 < r.label.blocks = leb-false _ _ e in low bl (turned F b bl number) refl refl)

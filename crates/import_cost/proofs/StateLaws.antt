@@ -1,13 +1,13 @@
 -- The record of a run: a slot that joins the window last and leaves it again leaves window and callers as they were; and a block that a slot
 -- was opened for is open there.
-use Prim.Native.Nat.{ℕ, suc, ◌+◌, ◌*◌, ◌<◌}
+use Prim.Native.Nat.{ℕ, ◌+◌, ◌*◌, ◌<◌}
 use mathlib.Core.Path.{◌≡◌, refl, sym, ap, ◌∙◌}
-use mathlib.Core.Bool.{Bool, true, false, ◌||◌}
+use mathlib.Core.Bool.{true, false}
 use mathlib.Core.List.{List, [], ◌∷◌, ◌++◌}
-use mathlib.Core.Option.{Option, some, none}
+use Rattle.std.specs.Prelude.{Option, Some, None}
 use native.Mathlib.Omega.{arith}
 use native.Mathlib.Decide.{dec_lt}
-use lib.ListN.{length, get_or, take, length-append}
+use lib.ListN.{length, take, length-append}
 use lib.Dec.{eqb}
 use borrow.Author.Tests.{eqb-true}
 use Rattle.layout.specs.declared.Slot.{Slot}
@@ -15,7 +15,7 @@ use Rattle.layout.specs.declared.Block.{Block}
 use Rattle.layout.specs.PageRule.{listed}
 use Rattle.layout.proofs.Booleans.{Told, told, told_true, told_false, clash, or_neither}
 use Rattle.record.specs.declared.Record.{Record}
-use Rattle.record.specs.Record.{label_in, window_in, callers_in, with_stamp, with_window, with_callers}
+use Rattle.record.specs.Record.{window_in, callers_in, with_stamp, with_window, with_callers}
 use Rattle.record.specs.Callers.{caller_array}
 use Rattle.record.specs.Window.{without, beside}
 use Rattle.record.specs.Rule.{record_test}
@@ -24,8 +24,7 @@ use Rattle.record.proofs.CallerLaws.{take-callers}
 use Rattle.record.proofs.RecordLaws.{Parts, parts, window-length, callers-length, remade-same}
 use Rattle.protocol.specs.declared.Condition.TheVariants.{NotCached}
 use Rattle.protocol.specs.Rows.{row_flags, row_block, valid}
-use Rattle.protocol.specs.Condition.{slot_of, condition_at, condition_of}
-use Rattle.protocol.specs.Plan.{grown}
+use Rattle.protocol.specs.Condition.{condition_at, condition_of}
 use Rattle.protocol.specs.Perform.{joined, landed_state}
 use Rattle.laws.proofs.model.Base.{eqb_same}
 use Rattle.laws.proofs.refine.Conditions.{Located, at, nowhere, located}
@@ -101,7 +100,7 @@ landed-again r e s out caller hand newest =
 
 -- a block's condition, by the lowest row that holds it; and where none does
 pub condition_at_lem : (t : List ℕ) (b : Block) (s : Slot) → 2 * s.0 + 1 < length t → valid (row_flags t s) ≡ true → (row_block t s).0 ≡ b.0
-    → Unheld s.0 t b.0 → condition_of t b ≡ condition_at t (some s)
+    → Unheld s.0 t b.0 → condition_of t b ≡ condition_at t (Some s)
 unfolding condition_of
 condition_at_lem t b s h v e un = ap (condition_at t) (go (located 0 t b))
   where
@@ -113,14 +112,14 @@ condition_at_lem t b s h v e un = ap (condition_at t) (go (located 0 t b))
         by (no k) (yes m) = absurd (q m)
         by (no k) (no m) = let z : 0 + i ≡ s.0 = omega arith in λ j. record { 0 = z j }
 
-    go : {o : Option Slot} → Located 0 t b.0 o → o ≡ some s
+    go : {o : Option Slot} → Located 0 t b.0 o → o ≡ Some s
     go (nowhere n) = absurd (n s.0 h v e)
-    go (at i m w q low) = ap (λ (u : Slot). some u) (same i (λ k. un i k w q) (λ k. low s.0 k v e))
+    go (at i m w q low) = ap (λ (u : Slot). Some u) (same i (λ k. un i k w q) (λ k. low s.0 k v e))
 
 pub condition_none : (t : List ℕ) (b : Block) (n : ℕ) → length t ≡ 2 * n → Unheld n t b.0 → condition_of t b ≡ NotCached
 unfolding condition_of
 condition_none t b n size un = ap (condition_at t) (go (located 0 t b))
   where
-    go : {o : Option Slot} → Located 0 t b.0 o → o ≡ none
+    go : {o : Option Slot} → Located 0 t b.0 o → o ≡ None
     go (nowhere m) = refl
     go (at i m w q low) = absurd (un i (omega (arith, size)) w q)

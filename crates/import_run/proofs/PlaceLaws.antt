@@ -1,44 +1,45 @@
 -- A place of a run: what its turn asks of the scratch table, and what it leaves.
-use Prim.Native.Nat.{ℕ, suc, ◌+◌, ◌*◌, ◌≤◌, ◌<◌}
+use Prim.Native.Nat.{ℕ, ◌+◌, ◌*◌, ◌≤◌, ◌<◌}
 use mathlib.Core.Path.{◌≡◌, refl, sym, ap, subst, ◌∙◌}
 use mathlib.Core.Logic.{◌≢◌, inl}
 use mathlib.Core.Bool.{Bool, true, false}
 use mathlib.Core.List.{List}
 use native.Mathlib.Omega.{arith}
+use Rattle.std.specs.Prelude.{Option, Result, Ok, Err}
+use Rattle.protocol.specs.declared.Refusal.{Refusal}
+use Rattle.protocol.specs.declared.Refusal.TheVariants.{BlockTooHigh, StampsSpent}
 use native.Mathlib.Decide.{ℕ_discrete}
 use lib.ListN.{length, get_or, set}
 use lib.Seq.{get_or-set_same, get_or-set_other}
 use lib.Dec.{leb}
-use borrow.Author.Tests.{leb-false}
+use borrow.Author.Tests.{leb-false, lt-leb}
 use Rattle.layout.specs.declared.Slot.{Slot}
 use Rattle.layout.specs.declared.Block.{Block}
 use Rattle.layout.specs.declared.Label.{Label}
-use Rattle.layout.specs.Places.{table_length}
 use Rattle.layout.proofs.Booleans.{Told, told, told_true, told_false, clash}
 use Rattle.record.specs.declared.Record.{Record}
 use Rattle.record.specs.Record.{label_in, window_in}
 use Rattle.protocol.specs.declared.Condition.{Condition}
 use Rattle.protocol.specs.declared.Condition.TheVariants.{NotCached}
-use Rattle.protocol.specs.Rows.{row_flags, set_row, valid, dirty, writing}
+use Rattle.protocol.specs.Rows.{row_flags, set_row, valid, dirty}
 use Rattle.protocol.specs.Condition.{condition_of}
 use Rattle.protocol.specs.Sweep.{next_slot}
-use Rattle.protocol.specs.Perform.{landed_flags}
 use Rattle.laws.proofs.refine.Flags.{changed_clean, changed_landed}
 use Rattle.laws.proofs.refine.Tables.{at_open}
 use Rattle.laws.proofs.refine.Conditions.{Stands, absent, is_clean, is_dirty, is_writing_is, is_fetching, stands}
-use Rattle.laws.proofs.refine.Sweeps.{Alike, alike_same, next_low}
+use Rattle.laws.proofs.refine.Sweeps.{alike_same, next_low}
 use Rattle.laws.proofs.Sound.{Sound}
 use Rattle.sweeping.specs.Sweeps.{cleared_from}
 use Rattle.turns.specs.declared.turn.Turn.{Turn}
-use Rattle.turns.specs.declared.turn.Turn.TheVariants.{Refused, Passes, Opens, CopiesOut}
+use Rattle.turns.specs.declared.turn.Turn.TheVariants.{Passes, Opens, CopiesOut}
 use Rattle.turns.specs.Turns.{Sweepable, Within, offer_turn_at, spent}
 use Rattle.turns.proofs.TurnLaws.{hand-low}
 use Rattle.list_turns.specs.Found.{Unheld}
 use Rattle.list_run.specs.Runs.{Fair}
-use Rattle.list_run.proofs.FairLaws.{fair-legal, fair-rows, fair_sound}
+use Rattle.list_run.proofs.FairLaws.{fair-legal, fair-rows}
 use Rattle.list_turns.proofs.FoundLaws.{unheld_alike, unheld_row}
 use Rattle.import_run.specs.declared.Run.{Run}
-use Rattle.import_run.specs.Runs.{After, meets, lands, announces, copies_out, landed_row, lands_in, opens_if, taken, copied_table, offered, dirty_slot, place_in, place_after, Steady, Takes}
+use Rattle.import_run.specs.Runs.{After, meets, copies_out, landed_row, opens_if, taken, copied_table, offered, dirty_slot, place_in, place_after, Steady, Takes}
 use Rattle.import_run.proofs.RowLaws.{ran_as, fair_of, opened_few, OpensAt, CopiesAt, Turned, refuses, passes, opens, copies, turned, lands_in_is, lands_sound, landed_is, opened_sound, copied_sound, copied_shut, next_turn}
 
 -- flags that stay valid, or not, leave every block where it is
@@ -84,33 +85,33 @@ condition_within {l} {t} S b = go (stands l t (steady_sweeps S).size b)
     go (is_fetching s H w d) = H.low
 
 -- what the turn of a place asks for
-pub steady_takes : {l : Label} {t : List ℕ} {h : Slot} → Steady l t h → (number : ℕ) (b : Block) → b.0 < l.blocks
+pub steady_takes : {l : Label} {t : List ℕ} {h : Slot} → Steady l t h → (number : Option Refusal) (b : Block) → b.0 < l.blocks
     → Takes (offer_turn_at l t h number (condition_of t b)) l t (dirty_slot (condition_of t b))
 steady_takes {t = t} S number b = steady_by
     (λ l h. b.0 < l.blocks → Takes (offer_turn_at l t h number (condition_of t b)) l t (dirty_slot (condition_of t b))) S (λ bl. go bl
     (turned S.fair b bl number))
   where
-    go : (bl : b.0 < S.state.label.blocks) → {k : Condition} {T : Turn} → Turned S.fair b bl number k T
+    go : (bl : b.0 < S.state.label.blocks) → {k : Condition} {T : Result Turn Refusal} → Turned S.fair b bl number k T
         → Takes T (label_in S.state) t (dirty_slot k)
-    go bl (refuses n z) = tt
+    go bl (refuses n) = tt
     go bl (passes s h v w) = lands_in_is S.fair b bl number s h
     go bl (opens s f n hand O) = (O.low, opened_few O.flags)
     go bl (copies s n C) = tt
 
 -- a slot is copied out, and then taken
-pub record Copied (l : Label) (t : List ℕ) (h : Slot) (number : ℕ) (s : Slot) (n : ℕ) : Type 0 where
+pub record Copied (l : Label) (t : List ℕ) (h : Slot) (number : Option Refusal) (s : Slot) (n : ℕ) : Type 0 where
   pub low : s.0 < l.slots
   pub was_dirty : dirty (row_flags (cleared_from n l t h) s) ≡ true
   pub steady : Steady l (copied_table l t h s n) s
-  pub next : offer_turn_at l (copied_table l t h s n) s number NotCached ≡ Opens s 7 0 (next_slot l s)
+  pub next : offer_turn_at l (copied_table l t h s n) s number NotCached ≡ Ok (Opens s 7 0 (next_slot l s))
 
-abbrev pub is_copy : Turn → Bool
-is_copy (Refused n) = false
-is_copy Passes = false
-is_copy (Opens s f n hand) = false
-is_copy (CopiesOut s n) = true
+abbrev pub is_copy : Result Turn Refusal → Bool
+is_copy (Err e) = false
+is_copy (Ok Passes) = false
+is_copy (Ok (Opens s f n hand)) = false
+is_copy (Ok (CopiesOut s n)) = true
 
-copied_by : {t : List ℕ} (r : Record) (F : Fair t r) (number : ℕ) (b : Block) (bl : b.0 < r.label.blocks) (s : Slot) (n : ℕ)
+copied_by : {t : List ℕ} (r : Record) (F : Fair t r) (number : Option Refusal) (b : Block) (bl : b.0 < r.label.blocks) (s : Slot) (n : ℕ)
     → CopiesAt F b bl number s n → Copied (label_in r) t r.hand number s n
 copied_by r F number b bl s n C = record {
   low = C.low;
@@ -119,15 +120,15 @@ copied_by r F number b bl s n C = record {
   next = next_turn F b bl number s n C;
 }
 
-pub steady_copies : {l : Label} {t : List ℕ} {h : Slot} → Steady l t h → (number : ℕ) (b : Block) → b.0 < l.blocks → (s : Slot) (n : ℕ)
-    → offer_turn_at l t h number (condition_of t b) ≡ CopiesOut s n → Copied l t h number s n
+pub steady_copies : {l : Label} {t : List ℕ} {h : Slot} → Steady l t h → (number : Option Refusal) (b : Block) → b.0 < l.blocks → (s : Slot) (n : ℕ)
+    → offer_turn_at l t h number (condition_of t b) ≡ Ok (CopiesOut s n) → Copied l t h number s n
 steady_copies {t = t} S number b bl s n = steady_by
-    (λ l h. b.0 < l.blocks → offer_turn_at l t h number (condition_of t b) ≡ CopiesOut s n → Copied l t h number s n) S
+    (λ l h. b.0 < l.blocks → offer_turn_at l t h number (condition_of t b) ≡ Ok (CopiesOut s n) → Copied l t h number s n) S
     (λ bl. go bl (turned S.fair b bl number)) bl
   where
-    go : (bl : b.0 < S.state.label.blocks) → {k : Condition} {T : Turn} → Turned S.fair b bl number k T → T ≡ CopiesOut s n
+    go : (bl : b.0 < S.state.label.blocks) → {k : Condition} {T : Result Turn Refusal} → Turned S.fair b bl number k T → T ≡ Ok (CopiesOut s n)
         → Copied (label_in S.state) t S.state.hand number s n
-    go bl (refuses m z) e = clash {b = true} refl (sym (ap is_copy e))
+    go bl (refuses m) e = clash {b = true} refl (sym (ap is_copy e))
     go bl (passes u h v w) e = clash {b = true} refl (sym (ap is_copy e))
     go bl (opens u f m hand O) e = clash {b = true} refl (sym (ap is_copy e))
     go bl (copies u m C) e =
@@ -144,9 +145,9 @@ pub record Placed (l : Label) (t : List ℕ) (r : Run) (b : Block) (a : After) :
   pub few_landings : a.run.landings ≤ r.landings + 1
   pub unheld : (n c : ℕ) → n ≤ l.slots → b.0 ≢ c → Unheld n t c → Unheld n a.table c
 
-unmoved : {l : Label} {t : List ℕ} {r : Run} {b : Block} → Steady l t r.hand → (m : ℕ)
-    → Placed l t r b (record { run = meets m r; table = t })
-unmoved S m = record {
+unmoved : {l : Label} {t : List ℕ} {r : Run} {b : Block} → Steady l t r.hand → (e : Refusal)
+    → Placed l t r b (meets e r t)
+unmoved S e = record {
   steady = S;
   same_size = refl;
   few_copies = omega arith;
@@ -156,14 +157,14 @@ unmoved S m = record {
 }
 
 -- of a fair table and its record
-module _ {t : List ℕ} (s : Record) (F : Fair t s) (b : Block) (bl : b.0 < s.label.blocks) (number : ℕ) where
+module _ {t : List ℕ} (s : Record) (F : Fair t s) (b : Block) (bl : b.0 < s.label.blocks) (number : Option Refusal) where
   abbrev l : Label
   l = label_in s
 
   -- one that copies nothing out
-  takes-placed : {k : Condition} {T : Turn} → Turned F b bl number k T → is_copy T ≡ false → (r : Run) → r.hand ≡ s.hand
+  takes-placed : {k : Condition} {T : Result Turn Refusal} → Turned F b bl number k T → is_copy T ≡ false → (r : Run) → r.hand ≡ s.hand
       → Placed l t r b (taken T l t r b (dirty_slot k))
-  takes-placed (refuses n z) e r q = unmoved (rw q (steady_of s F)) n
+  takes-placed (refuses n) e r q = unmoved (rw q (steady_of s F)) n
   takes-placed (passes u h v w) e r q =
       let S = lands_sound F b bl number u h v w in
       record {
@@ -182,7 +183,7 @@ module _ {t : List ℕ} (s : Record) (F : Fair t s) (b : Block) (bl : b.0 < s.la
       S = opened_sound F b bl number u f n hand O
 
       go : Told (spent l r.newest) → Placed l t r b (opens_if (spent l r.newest) l t r b u f n hand)
-      go (told_true z) = rw (z, opens_if) (unmoved (rw q (steady_of s F)) 13)
+      go (told_true z) = rw (z, opens_if) (unmoved (rw q (steady_of s F)) StampsSpent)
       go (told_false z) = rw (z, opens_if, q) (record {
         steady = steady_of (ran_as s hand 0 false) (fair_of s F.record_kept F.ready S hand O.hand-low 0 false);
         same_size = S.size ∙ sym F.size;
@@ -195,18 +196,18 @@ module _ {t : List ℕ} (s : Record) (F : Fair t s) (b : Block) (bl : b.0 < s.la
       })
   takes-placed (copies u n C) e r q = clash {b = true} refl e
 
-  takes-copies : (T : Turn) (r : Run) (d : Slot) → (taken T l t r b d).run.copies ≡ r.copies
-  takes-copies (Refused n) r d = refl
-  takes-copies Passes r d = refl
-  takes-copies (Opens u f n hand) r d = go (spent l r.newest)
+  takes-copies : (T : Result Turn Refusal) (r : Run) (d : Slot) → (taken T l t r b d).run.copies ≡ r.copies
+  takes-copies (Err e) r d = refl
+  takes-copies (Ok Passes) r d = refl
+  takes-copies (Ok (Opens u f n hand)) r d = go (spent l r.newest)
     where
       go : (z : Bool) → (opens_if z l t r b u f n hand).run.copies ≡ r.copies
       go true = refl
       go false = refl
-  takes-copies (CopiesOut u n) r d = refl
+  takes-copies (Ok (CopiesOut u n)) r d = refl
 
 -- one that copies a slot out, which it then takes
-module _ {t : List ℕ} (s : Record) (F : Fair t s) (b : Block) (bl : b.0 < s.label.blocks) (number : ℕ) (u : Slot) (n : ℕ)
+module _ {t : List ℕ} (s : Record) (F : Fair t s) (b : Block) (bl : b.0 < s.label.blocks) (number : Option Refusal) (u : Slot) (n : ℕ)
     (C : CopiesAt F b bl number u n) where
   abbrev m : Label
   m = label_in s
@@ -238,10 +239,10 @@ module _ {t : List ℕ} (s : Record) (F : Fair t s) (b : Block) (bl : b.0 < s.la
         room = C.room;
       }
 
-  copies-placed : (r : Run) → r.hand ≡ s.hand → (d : Slot) → Placed m t r b (offered (CopiesOut u n) m t r number b d)
+  copies-placed : (r : Run) → r.hand ≡ s.hand → (d : Slot) → Placed m t r b (offered (Ok (CopiesOut u n)) m t r number b d)
   copies-placed r q d =
       let G = copied_fair 0 false in
-      let T : Turn = Opens u 7 0 (next_slot m u) in
+      let T : Result Turn Refusal = Ok (Opens u 7 0 (next_slot m u)) in
       let P = takes-placed (ran_as s u 0 false) G b bl number (opens {k = NotCached} u 7 0 (next_slot m u) (opens_next 0 false)) refl
       (copies_out u r) refl in
       let e = takes-copies (ran_as s u 0 false) G b bl number T (copies_out u r) d in
@@ -255,14 +256,14 @@ module _ {t : List ℕ} (s : Record) (F : Fair t s) (b : Block) (bl : b.0 < s.la
       })
 
 -- any
-turns-placed : {t : List ℕ} (s : Record) (F : Fair t s) (b : Block) (bl : b.0 < s.label.blocks) (number : ℕ) {k : Condition} {T : Turn}
+turns-placed : {t : List ℕ} (s : Record) (F : Fair t s) (b : Block) (bl : b.0 < s.label.blocks) (number : Option Refusal) {k : Condition} {T : Result Turn Refusal}
     → Turned F b bl number k T → (r : Run) → r.hand ≡ s.hand → Placed (label_in s) t r b (offered T (label_in s) t r number b (dirty_slot k))
-turns-placed s F b bl number {k} (refuses n z) r q = takes-placed s F b bl number {k = k} (refuses n z) refl r q
+turns-placed s F b bl number {k} (refuses n) r q = takes-placed s F b bl number {k = k} (refuses n) refl r q
 turns-placed s F b bl number (passes u h v w) r q = takes-placed s F b bl number (passes u h v w) refl r q
 turns-placed s F b bl number {k} (opens u f n hand O) r q = takes-placed s F b bl number {k = k} (opens u f n hand O) refl r q
 turns-placed s F b bl number (copies u n C) r q = copies-placed s F b bl number u n C r q _
 
-pub steady_placed : {l : Label} {t : List ℕ} (r : Run) → Steady l t r.hand → (number : ℕ) (b : Block)
+pub steady_placed : {l : Label} {t : List ℕ} (r : Run) → Steady l t r.hand → (number : Option Refusal) (b : Block)
     → Placed l t r b (place_after l t r number b)
 unfolding place_after
 steady_placed {l} {t} r S number b = go (told (leb l.blocks b.0))
@@ -276,5 +277,13 @@ steady_placed {l} {t} r S number b = go (told (leb l.blocks b.0))
         S.hand_is (turns-placed S.state S.fair b bl number (turned S.fair b bl number) r (sym S.hand_is)))
 
     go : Told (leb l.blocks b.0) → Placed l t r b (place_after l t r number b)
-    go (told_true e) = rw (place_after, e) (unmoved S 7)
+    go (told_true e) = rw (place_after, e) (unmoved S BlockTooHigh)
     go (told_false e) = rw (place_after, e) (low (leb-false _ _ e))
+
+-- a place that 7 does not refuse, by its condition and its turn
+pub place_low : (l : Label) (t : List ℕ) (r : Run) (full : Option Refusal) (b : Block) → b.0 < l.blocks → {k : Condition} → k ≡ condition_of t b
+    → {T : Result Turn Refusal} → T ≡ offer_turn_at l t r.hand full k → offered T l t r full b (dirty_slot k) ≡ place_after l t r full b
+unfolding place_after
+place_low l t r full b h {k} e f =
+    ap (λ (T : Result Turn Refusal). offered T l t r full b (dirty_slot k)) f
+    ∙ ap (λ (k : Condition). place_in k l t r full b) e ∙ rw (place_after, lt-leb l.blocks b.0 h)

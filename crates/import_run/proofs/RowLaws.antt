@@ -1,16 +1,18 @@
 -- What a turn of a place rests on, and the tables that it leaves: closed slots stay closed, so table and window stay sound.
-use Prim.Native.Nat.{ℕ, zero, suc, ◌+◌, ◌-◌, ◌*◌, ◌%◌, ◌≤◌, ◌<◌}
+use Prim.Native.Nat.{ℕ, suc, ◌+◌, ◌-◌, ◌*◌, ◌%◌, ◌<◌}
 use mathlib.Core.Path.{◌≡◌, refl, sym, ap, subst, ◌∙◌}
-use mathlib.Core.Logic.{◌≢◌, ◌⊎◌, inl, inr}
+use mathlib.Core.Logic.{◌⊎◌, inl, inr}
 use mathlib.Core.Bool.{Bool, true, false}
-use mathlib.Core.List.{List, [], ◌∷◌}
-use mathlib.Core.Option.{Option, some, none}
+use mathlib.Core.List.{List}
+use Rattle.std.specs.Prelude.{Option, Some, None, Result, Ok, Err}
+use Rattle.protocol.specs.declared.Refusal.{Refusal}
+use Rattle.protocol.specs.declared.Refusal.TheVariants.{SlotOpen, AllOpen}
 use native.Mathlib.Omega.{arith}
 use native.Mathlib.Decide.{ℕ_discrete}
 use native.Mathlib.Nat.{zero-add}
 use lib.ListN.{length, get_or, set, length-set}
 use lib.Dec.{ltb}
-use lib.Seq.{get_or-set_same, get_or-set_other, set-set}
+use lib.Seq.{get_or-set_same, set-set}
 use borrow.Author.Tests.{lt-ltb, le-leb, eq-eqb, ltb-true}
 use Rattle.layout.specs.declared.Slot.{Slot}
 use Rattle.layout.specs.declared.Block.{Block}
@@ -23,10 +25,10 @@ use Rattle.record.specs.Record.{label_in, window_in, window_of, with_hand, with_
 use Rattle.record.specs.Rule.{record_test}
 use Rattle.record.proofs.RecordLaws.{parts}
 use Rattle.protocol.specs.declared.Condition.{Condition}
-use Rattle.protocol.specs.declared.Condition.TheVariants.{NotCached, Clean, Dirty, Writing, Fetching}
+use Rattle.protocol.specs.declared.Condition.TheVariants.{NotCached, Dirty}
 use Rattle.protocol.specs.Rows.{row_flags, set_flags, set_row, valid, dirty, writing, used, without_dirty, with_writing}
 use Rattle.protocol.specs.Condition.{condition_at, condition_of}
-use Rattle.protocol.specs.Sweep.{Victim, next_slot, sweep}
+use Rattle.protocol.specs.Sweep.{Victim, next_slot}
 use Rattle.protocol.specs.Perform.{landed_flags}
 use Rattle.protocol.specs.Judge.{agree_test, rows_test}
 use Rattle.laws.proofs.model.Base.{upd, upd_same, upd_other, has}
@@ -40,10 +42,9 @@ use Rattle.laws.proofs.refine.Sweeps.{Alike, alike_same, next_low}
 use Rattle.laws.proofs.Sound.{Sound, sound_agree, sound_alike, sound_copies, sound_lands, rows-legal}
 use Rattle.laws.proofs.why.RowsRules.{agree_same}
 use Rattle.sweeping.specs.declared.Swept.{Swept}
-use Rattle.sweeping.specs.declared.Swept.TheVariants.{Took, Stuck}
-use Rattle.sweeping.specs.Sweeps.{lap_from, swept_of, cleared_from}
+use Rattle.sweeping.specs.Sweeps.{lap_from, swept_of, cleared_from, swept_after}
 use Rattle.turns.specs.declared.turn.Turn.{Turn}
-use Rattle.turns.specs.declared.turn.Turn.TheVariants.{Refused, Passes, Opens, CopiesOut}
+use Rattle.turns.specs.declared.turn.Turn.TheVariants.{Passes, Opens, CopiesOut}
 use Rattle.turns.specs.Turns.{if_room, take_turn, offer_turn_at}
 use Rattle.turns.proofs.SweepingLaws.{swept_is, passed_is}
 use Rattle.turns.proofs.TurnLaws.{hand-low}
@@ -118,15 +119,15 @@ clean-opened f15 v w d = clash {b = true} refl w
 
 -- a sweep from such a slot takes it
 sweeps-first : (l : Label) (t : List ℕ) (s : Slot) → 0 < l.slots → writing (row_flags t s) ≡ false → used (row_flags t s) ≡ false
-    → swept_of l t s ≡ Took s 0
+    → swept_of l t s ≡ swept_after s 0
 unfolding lap_from
 sweeps-first l t s h w u =
     let n : ℕ = l.slots - 1 in
     let e : l.slots ≡ suc n = omega arith in
-    ap (λ (m : ℕ). lap_from m 0 l t s l.slots) e ∙ rw (lap_from, w, u)
+    ap (λ (m : ℕ). lap_from m 0 l t s None) e ∙ rw (lap_from, w, u)
 
--- a place of a fair table, whose block is low; the number refuses another slot, or is 0
-module _ {t : List ℕ} {r : Record} (F : Fair t r) (b : Block) (bl : b.0 < r.label.blocks) (number : ℕ) where
+-- a place of a fair table, whose block is low; this refuses another slot, if anything does
+module _ {t : List ℕ} {r : Record} (F : Fair t r) (b : Block) (bl : b.0 < r.label.blocks) (number : Option Refusal) where
   abbrev l : Label
   l = label_in r
 
@@ -141,7 +142,7 @@ module _ {t : List ℕ} {r : Record} (F : Fair t r) (b : Block) (bl : b.0 < r.la
     pub flags : Opened f
     pub was_shut : open_row (row_at t s.0) ≡ false
     pub unheld : Unheld s.0 t b.0
-    pub room : number ≡ 0
+    pub room : number ≡ None
 
   -- a closed, dirty slot is copied out; no row holds the block
   pub record CopiesAt (s : Slot) (n : ℕ) : Type 0 where
@@ -151,14 +152,14 @@ module _ {t : List ℕ} {r : Record} (F : Fair t r) (b : Block) (bl : b.0 < r.la
     pub is_unused : used (row_flags (v n) s) ≡ false
     pub is_dirty : dirty (row_flags (v n) s) ≡ true
     pub unheld : Unheld r.label.slots t b.0
-    pub room : number ≡ 0
+    pub room : number ≡ None
 
   -- what a turn is
-  pub data Turned : Condition → Turn → Type 0 where
-    refuses : {k : Condition} (n : ℕ) → n ≢ 0 → Turned k (Refused n)
-    passes : (s : Slot) → s.0 < r.label.slots → valid (row_flags t s) ≡ true → writing (row_flags t s) ≡ false → Turned (Dirty s) Passes
-    opens : {k : Condition} (s : Slot) (f n : ℕ) (hand : Slot) → OpensAt s f n hand → Turned k (Opens s f n hand)
-    copies : (s : Slot) (n : ℕ) → CopiesAt s n → Turned NotCached (CopiesOut s n)
+  pub data Turned : Condition → Result Turn Refusal → Type 0 where
+    refuses : {k : Condition} (e : Refusal) → Turned k (Err e)
+    passes : (s : Slot) → s.0 < r.label.slots → valid (row_flags t s) ≡ true → writing (row_flags t s) ≡ false → Turned (Dirty s) (Ok Passes)
+    opens : {k : Condition} (s : Slot) (f n : ℕ) (hand : Slot) → OpensAt s f n hand → Turned k (Ok (Opens s f n hand))
+    copies : (s : Slot) (n : ℕ) → CopiesAt s n → Turned NotCached (Ok (CopiesOut s n))
 
   R : Rows l t
   R = fair-rows F
@@ -166,26 +167,26 @@ module _ {t : List ℕ} {r : Record} (F : Fair t r) (b : Block) (bl : b.0 < r.la
   low : r.hand.0 < r.label.slots
   low = hand-low r F.record_kept
 
-  -- a number refuses, or there is room
-  roomy : {k : Condition} (T : Turn) → (number ≡ 0 → Turned k T) → Turned k (if_room number T)
+  -- another slot is refused, or there is room
+  roomy : {k : Condition} (T : Result Turn Refusal) → (number ≡ None → Turned k T) → Turned k (if_room number T)
   roomy {k} T f = go number f
     where
-      go : (n : ℕ) → (n ≡ 0 → Turned k T) → Turned k (if_room n T)
-      go zero g = g refl
-      go (suc n) g = refuses (suc n) (λ e. omega arith)
+      go : (o : Option Refusal) → (o ≡ None → Turned k T) → Turned k (if_room o T)
+      go None g = g refl
+      go (Some e) g = refuses e
 
-  module _ (none-holds : Unheld r.label.slots t b.0) (room : number ≡ 0) where
-    took : (s : Slot) (n : ℕ) → swept_of l t r.hand ≡ Took s n → Turned NotCached (take_turn l t 7 (Took s n))
+  module _ (none-holds : Unheld r.label.slots t b.0) (room : number ≡ None) where
+    took : (s : Slot) (n : ℕ) → swept_of l t r.hand ≡ swept_after s n → Turned NotCached (take_turn l t 7 (swept_after s n))
     took s n e = go (subst (λ (o : Option Victim). sweeps.Swept l t o) (swept_is l t r.hand s n F.size R low (sym e))
         (sweeps.swept (2 * l.slots) l t t (alike_same l t F.size R) r.hand low))
       where
-        go : sweeps.Swept l t (some (record { slot = s; table = v n })) → Turned NotCached (take_turn l t 7 (Took s n))
+        go : sweeps.Swept l t (Some (record { slot = s; table = v n })) → Turned NotCached (take_turn l t 7 (swept_after s n))
         go (sweeps.took _ a w u A) = by (told (dirty (row_flags t s)))
           where
             was_shut : open_row (row_at t s.0) ≡ false
             was_shut = ap open_row (sym (A.row s.0)) ∙ at_open l (v n) A.legal s.0 a ∙ w
 
-            by : Told (dirty (row_flags t s)) → Turned NotCached (take_turn l t 7 (Took s n))
+            by : Told (dirty (row_flags t s)) → Turned NotCached (take_turn l t 7 (swept_after s n))
             by (told_true d) = rw (d, take_turn) (copies s n (record {
               low = a;
               alike = A;
@@ -205,9 +206,9 @@ module _ {t : List ℕ} {r : Record} (F : Fair t r) (b : Block) (bl : b.0 < r.la
               room = room;
             }))
 
-    swept : (w : Swept) → swept_of l t r.hand ≡ w → Turned NotCached (take_turn l t 7 w)
-    swept Stuck e = refuses 12 (λ q. omega arith)
-    swept (Took s n) e = took s n e
+    swept : (w : Option Swept) → swept_of l t r.hand ≡ w → Turned NotCached (take_turn l t 7 w)
+    swept None e = refuses AllOpen
+    swept (Some v) e = took v.slot v.passed e
 
   pub turned : Turned (condition_of t b) (offer_turn_at l t r.hand number (condition_of t b))
   unfolding condition_of cleared_from
@@ -215,9 +216,9 @@ module _ {t : List ℕ} {r : Record} (F : Fair t r) (b : Block) (bl : b.0 < r.la
     where
       by_flags : (s : Slot) → s.0 < r.label.slots → valid (row_flags t s) ≡ true → Unheld s.0 t b.0
           → Told (writing (row_flags t s)) → Told (dirty (row_flags t s))
-          → Turned (condition_at t (some s)) (offer_turn_at l t r.hand number (condition_at t (some s)))
-      by_flags s h val un (told_true w) (told_true d) = rw (condition_at, w, d) (refuses 8 (λ q. omega arith))
-      by_flags s h val un (told_true w) (told_false d) = rw (condition_at, w, d) (refuses 8 (λ q. omega arith))
+          → Turned (condition_at t (Some s)) (offer_turn_at l t r.hand number (condition_at t (Some s)))
+      by_flags s h val un (told_true w) (told_true d) = rw (condition_at, w, d) (refuses SlotOpen)
+      by_flags s h val un (told_true w) (told_false d) = rw (condition_at, w, d) (refuses SlotOpen)
       by_flags s h val un (told_false w) (told_true d) = rw (condition_at, w, d) (passes s h val w)
       by_flags s h val un (told_false w) (told_false d) = rw (condition_at, w, d) (roomy _ (λ z. opens s (with_writing (row_flags t s)) 0
           r.hand (record {
@@ -289,9 +290,9 @@ module _ {t : List ℕ} {r : Record} (F : Fair t r) (b : Block) (bl : b.0 < r.la
     copied_shut =
         ap writing flags_are ∙ (cleaned_flags (C.alike.legal s.0 C.low).flags C.is_shut C.is_unused).0
 
-    pub next_turn : offer_turn_at l t₂ s number NotCached ≡ Opens s 7 0 (next_slot l s)
+    pub next_turn : offer_turn_at l t₂ s number NotCached ≡ Ok (Opens s 7 0 (next_slot l s))
     next_turn =
         let f = cleaned_flags (C.alike.legal s.0 C.low).flags C.is_shut C.is_unused in
-        ap (λ (m : ℕ). if_room m (take_turn l t₂ 7 (swept_of l t₂ s))) C.room
+        ap (λ (m : Option Refusal). if_room m (take_turn l t₂ 7 (swept_of l t₂ s))) C.room
         ∙ ap (take_turn l t₂ 7) (sweeps-first l t₂ s (omega (arith, C.low)) (ap writing flags_are ∙ f.0) (ap used flags_are ∙ f.1))
-        ∙ ap (λ (d : Bool). elim d [ true ↦ CopiesOut s 0 | false ↦ Opens s 7 0 (next_slot l s) ]) (ap dirty flags_are ∙ f.2)
+        ∙ ap (λ (d : Bool). elim d [ true ↦ Ok (CopiesOut s 0) | false ↦ Ok (Opens s 7 0 (next_slot l s)) ]) (ap dirty flags_are ∙ f.2)

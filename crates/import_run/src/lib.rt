@@ -8,8 +8,7 @@ pub mod place;
 
 use layout::Slot;
 
-// Where a run stands: the hand, the newest stamp, the stores so far by kind, and the number of the refusal that it met, or 0. No record is
-// passed, which would be copied.
+// Where a run stands: the hand, the newest stamp, and the stores so far by kind. It changes in place.
 #[derive(Clone, Copy)]
 pub struct Run {
     pub hand: Slot,
@@ -17,5 +16,4 @@ pub struct Run {
     pub copies: u32,
     pub metadata: u32,
     pub landings: u32,
-    pub met: u32,
 }

@@ -1,11 +1,15 @@
 -- A box that passes 3 to 6, and a block that passes 7: what the calls ask of them.
-use Prim.Native.Nat.{ℕ, suc, ◌+◌, ◌*◌, ◌<◌}
+use Prim.Native.Nat.{ℕ, ◌+◌, ◌*◌, ◌<◌}
 use mathlib.Core.Path.{◌≡◌, refl, sym, ap, ◌∙◌}
 use mathlib.Core.Bool.{Bool, true, false, not, ◌&&◌, ◌||◌}
 use mathlib.Core.List.{List}
 use native.Mathlib.Omega.{arith}
 use native.Mathlib.Nat.{zero-add}
 use lib.ListN.{length, take}
+use Rattle.std.specs.Prelude.{Option, None}
+use Rattle.std.proofs.lemmas.Option.{none-some}
+use Rattle.protocol.specs.declared.Refusal.{Refusal}
+use Rattle.protocol.specs.declared.Refusal.TheVariants.{BadRecord, WrongLength, BadRows, WrongPhase, BlockTooHigh, UnknownCaller}
 use lib.Dec.{eqb, ltb, leb}
 use borrow.Author.Tests.{eqb-true, leb-false, not-false}
 use Rattle.layout.specs.declared.Slot.{Slot}
@@ -31,12 +35,9 @@ use Rattle.judging.specs.Judging.{refuse_if, sound_then, ready_then, serves_then
 use Rattle.judging.specs.Fits.{FitsRecord}
 use Rattle.judging.proofs.JudgingLaws.{Asks, stopped, passed, sound_asks, ready_asks}
 
-pass : (a : Bool) (n rest : ℕ) → refuse_if a (suc n) rest ≡ 0 → (a ≡ false) × (rest ≡ 0)
-pass true n rest h = absurd (omega arith)
-pass false n rest h = (refl, h)
-
-never : (n : ℕ) → suc n ≡ 0 → ⊥
-never n q = omega arith
+pass : (a : Bool) (r : Refusal) (rest : Option Refusal) → refuse_if a r rest ≡ None → (a ≡ false) × (rest ≡ None)
+pass true r rest h = absurd (none-some r (sym h))
+pass false r rest h = (refl, h)
 
 -- what 3 to 5 leave of a box
 pub record SoundBox (ssd hdd : List ℕ) (page : ℕ) (t : List ℕ) (r : Record) : Type 0 where
@@ -57,14 +58,14 @@ ready_only Recovering e = clash e refl
 ready_only Ready e = refl
 
 module _ (ssd hdd : List ℕ) (page : ℕ) (t : List ℕ) (r : Record) where
-  pub sound : sound_then (length ssd) (length hdd) page t r 0 ≡ 0 → SoundBox ssd hdd page t r
+  pub sound : sound_then (length ssd) (length hdd) page t r None ≡ None → SoundBox ssd hdd page t r
   unfolding sound_then length_test rows_test
   sound z =
-      let p3 = pass (not (record_test r)) 2 _ z in
-      let p4 = pass (not (lengths_test (label_in r) (length ssd) (length hdd) (length t) && eqb page 4096)) 3 _ p3.1 in
+      let p3 = pass (not (record_test r)) BadRecord _ z in
+      let p4 = pass (not (lengths_test (label_in r) (length ssd) (length hdd) (length t) && eqb page 4096)) WrongLength _ p3.1 in
       let k = not-false _ p3.0 in
       let n = not-false _ p4.0 in
-      let w = not-false _ (pass (not (rows_test r t)) 4 _ p4.1).0 in
+      let w = not-false _ (pass (not (rows_test r t)) BadRows _ p4.1).0 in
       let L : Legal (box_of ssd hdd t r) =
       legal (box_of ssd hdd t r) k (and_parts (lengths_test (label_in r) (length ssd) (length hdd) (length t)) _ n).0 w in
       record {
@@ -80,25 +81,25 @@ module _ (ssd hdd : List ℕ) (page : ℕ) (t : List ℕ) (r : Record) where
         };
       }
 
-  pub ready : ready_then (length ssd) (length hdd) page t r 0 ≡ 0 → ReadyBox ssd hdd page t r
+  pub ready : ready_then (length ssd) (length hdd) page t r None ≡ None → ReadyBox ssd hdd page t r
   ready z = go (sound_asks (length ssd) (length hdd) page t r)
     where
       go : Asks (sound_then (length ssd) (length hdd) page t r) → ReadyBox ssd hdd page t r
-      go (stopped n e) = absurd (never n (sym (e _) ∙ z))
+      go (stopped r e) = absurd (none-some r (sym z ∙ e _))
       go (passed e) = record {
-        box = sound (e 0);
-        phase_is = ready_only r.phase (not-false _ (pass (not (is_ready r.phase)) 5 0 (sym (e _) ∙ z)).0);
+        box = sound (e None);
+        phase_is = ready_only r.phase (not-false _ (pass (not (is_ready r.phase)) WrongPhase None (sym (e _) ∙ z)).0);
       }
 
   -- a block that passes 7 besides, and a caller that passes 18
-  pub serves : (b : Block) (caller : ℕ) → serves_then (length ssd) (length hdd) page t r b caller 0 ≡ 0 → ReadyBox ssd hdd page t r × (b.0 < r.label.blocks)
+  pub serves : (b : Block) (caller : ℕ) → serves_then (length ssd) (length hdd) page t r b caller None ≡ None → ReadyBox ssd hdd page t r × (b.0 < r.label.blocks)
   serves b caller z = go (ready_asks (length ssd) (length hdd) page t r)
     where
       go : Asks (ready_then (length ssd) (length hdd) page t r) → ReadyBox ssd hdd page t r × (b.0 < r.label.blocks)
-      go (stopped n e) = absurd (never n (sym (e _) ∙ z))
+      go (stopped r e) = absurd (none-some r (sym z ∙ e _))
       go (passed e) =
-          let p = pass (ltb 1 caller) 17 (refuse_if (leb r.label.blocks b.0) 7 0) (sym (e _) ∙ z) in
-          (ready (e 0), leb-false _ _ (pass (leb r.label.blocks b.0) 6 0 p.1).0)
+          let p = pass (ltb 1 caller) UnknownCaller (refuse_if (leb r.label.blocks b.0) BlockTooHigh None) (sym (e _) ∙ z) in
+          (ready (e None), leb-false _ _ (pass (leb r.label.blocks b.0) BlockTooHigh None p.1).0)
 
 -- where table and window of a ready record agree, the window has as many slots as there are writing rows
 pub agree-count : (t : List ℕ) (r : Record) → record_test r ≡ true → length t ≡ table_length (label_in r) → agree_test Ready t (window_in r) ≡ true

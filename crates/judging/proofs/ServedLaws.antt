@@ -1,4 +1,5 @@
 -- A block that is served: what a call knows once 3 to 7, and 18 of its caller, are passed.
+use Rattle.std.specs.Prelude.{None, Ok}
 use Prim.Native.Nat.{ℕ, ◌<◌}
 use mathlib.Core.Path.{◌≡◌, sym, ◌∙◌}
 use mathlib.Core.List.{List}
@@ -15,7 +16,7 @@ use Rattle.judging.proofs.ReadyLaws.{ReadyBox, serves}
 use Rattle.judging.proofs.SlotLaws.{Where, where_is}
 
 pub record Served (ssd hdd : List ℕ) (page : ℕ) (t : List ℕ) (r : Record) (b : Block) (caller : ℕ) (j : Judged) : Type 0 where
-  pub none : serves_then (length ssd) (length hdd) page t r b caller 0 ≡ 0
+  pub none : serves_then (length ssd) (length hdd) page t r b caller None ≡ None
   pub writing_is : j.writing ≡ open_rows t
   pub box : ReadyBox ssd hdd page t r
   pub low : b.0 < r.label.blocks
@@ -24,9 +25,9 @@ pub record Served (ssd hdd : List ℕ) (page : ℕ) (t : List ℕ) (r : Record) 
   pub row : (k : Condition) → j.condition ≡ k → Where r t b k
 
 pub served : (ssd hdd : List ℕ) (page : ℕ) (t : List ℕ) (r : Record) (b : Block) (caller : ℕ) {j : Judged}
-    → j ≡ judged_by (serves_then (length ssd) (length hdd) page t r b caller 0) t b → j.number ≡ 0 → Served ssd hdd page t r b caller j
-served ssd hdd page t r b caller e z =
-    let k = looked _ t b e z in
+    → Ok j ≡ judged_by (serves_then (length ssd) (length hdd) page t r b caller None) t b → Served ssd hdd page t r b caller j
+served ssd hdd page t r b caller e =
+    let k = looked _ t b e in
     let s = serves ssd hdd page t r b caller k.none in
     record {
       none = k.none;

@@ -1,71 +1,51 @@
 // Judging what a call is lent: document 01's numbers 3 to 7, least first, and document 02's 18 between 6 and 7.
 #![tactic(auto)]
 
-ghost use Rattle.std.specs.Prelude.{◌≡◌, true, false, not, length};
+ghost use Rattle.std.specs.Prelude.{◌≡◌, true, not, length, None};
 ghost use Rattle.layout.specs.Places.{table_length};
-ghost use Rattle.protocol.specs.declared.Condition.TheVariants.{NotCached};
+ghost use Rattle.protocol.specs.declared.Refusal.TheVariants.{BadRows};
 ghost use Rattle.record.specs.Record.{label_in};
 ghost use Rattle.record.specs.Rule.{record_test};
-ghost use Rattle.protocol.specs.Judge.{lengths_test, rows_test, is_ready};
+ghost use Rattle.protocol.specs.Judge.{lengths_test, rows_test};
 ghost use Rattle.judging.specs.Judging.{refuse_if, sound_then, ready_then, serves_then, judged_by};
 
 use layout::{Block, Label, places};
-use protocol::Condition;
+use protocol::{Condition, Refusal};
 use record::{IMPORT, Phase, Record};
 use table::{condition, rows};
 
-// What judging finds: the least number of a refusal, or 0 and then the block's condition and how many rows are writing.
+// What judging finds of a block where nothing is refused: its condition, and how many rows are writing.
 #[derive(Clone, Copy)]
 pub struct Judged {
-    pub number: u32,
     pub condition: Condition,
     pub writing: u32,
 }
 
 // Whether images and table have the label's lengths.
+#[tactic(auto, unfolding(protocol::specs::Judge::lengths_test))]
 pub fn lengths_ok(l: Label, ssd: usize, hdd: usize, table: usize) -> bool
     ensures { result ≡ lengths_test l ssd hdd table }
 {
-    if ssd != places::ssd_length(l) {
-        return false;
-    }
-    if hdd != places::hdd_length(l) {
-        return false;
-    }
-    table == places::table_length(l)
-}
-
-// Refused by a number.
-fn refused(number: u32) -> Judged
-    ensures { result ≡ record { number = number; condition = NotCached; writing = 0 } }
-{
-    Judged {
-        number,
-        condition: Condition::NotCached,
-        writing: 0,
-    }
+    ssd == places::ssd_length(l) && hdd == places::hdd_length(l) && table == places::table_length(l)
 }
 
 // The rows, and what a call needs to know of them: number 5.
-fn look(table: &[u32], state: Record, b: Block) -> Judged
+fn look(table: &[u32], state: Record, b: Block) -> Result<Judged, Refusal>
     requires state_value { record_test state ≡ true }
     requires table_len { length table.now ≡ table_length (label_in state) }
-    ensures { result ≡ judged_by (refuse_if (not (rows_test state table.now)) 5 0) table.now b }
+    ensures { result ≡ judged_by (refuse_if (not (rows_test state table.now)) BadRows None) table.now b }
 {
     let l = state.label;
-    let scan = rows::scan(l, table, b);
-    if !scan.legal {
-        return refused(5);
-    }
+    let Some(scan) = rows::scan(l, table, b) else {
+        return Err(Refusal::BadRows);
+    };
     if !agreement::agrees(table, scan, state) {
-        return refused(5);
+        return Err(Refusal::BadRows);
     }
-    let condition = condition::condition(table, scan.at, l.slots);
-    Judged {
-        number: 0,
-        condition,
+    Ok(Judged {
+        condition: condition::condition(table, scan.at),
         writing: scan.writing,
-    }
+    })
 }
 
 // Numbers 3, 4 and 5; `page` is the length of the page that the call is lent, 4096 where it is lent none.
@@ -76,31 +56,19 @@ pub fn judge_box(
     table: &[u32],
     state: Record,
     b: Block,
-) -> Judged
-    ensures { result ≡ judged_by (sound_then ssd hdd page table.now state 0) table.now b }
+) -> Result<Judged, Refusal>
+    ensures { result ≡ judged_by (sound_then ssd hdd page table.now state None) table.now b }
 {
     if !record_rule::record_ok(state) {
-        return refused(3);
+        return Err(Refusal::BadRecord);
     }
-    let l = state.label;
-    if !lengths_ok(l, ssd, hdd, table.len()) {
-        return refused(4);
+    if !lengths_ok(state.label, ssd, hdd, table.len()) {
+        return Err(Refusal::WrongLength);
     }
     if page != 4096 {
-        return refused(4);
+        return Err(Refusal::WrongLength);
     }
     look(table, state, b)
-}
-
-// Whether a phase is ready.
-fn is_ready(phase: Phase) -> bool
-    ensures { result ≡ is_ready phase }
-{
-    match phase {
-        Phase::Ready => true,
-        Phase::Recovering => false,
-        Phase::Formatting(_) => false,
-    }
 }
 
 // Numbers 3 to 6.
@@ -111,18 +79,14 @@ pub fn judge_ready(
     table: &[u32],
     state: Record,
     b: Block,
-) -> Judged
-    ensures { result ≡ judged_by (ready_then ssd hdd page table.now state 0) table.now b }
+) -> Result<Judged, Refusal>
+    ensures { result ≡ judged_by (ready_then ssd hdd page table.now state None) table.now b }
 {
-    let judged = judge_box(ssd, hdd, page, table, state, b);
-    if judged.number != 0 {
-        return judged;
+    let judged = judge_box(ssd, hdd, page, table, state, b)?;
+    match state.phase {
+        Phase::Ready => Ok(judged),
+        Phase::Recovering | Phase::Formatting(_) => Err(Refusal::WrongPhase),
     }
-    let phase = state.phase;
-    if !is_ready(phase) {
-        return refused(6);
-    }
-    judged
 }
 
 // Numbers 3 to 6, 18 and 7; `caller` is 0 where the call names none.
@@ -134,18 +98,15 @@ pub fn judge_block(
     state: Record,
     b: Block,
     caller: u32,
-) -> Judged
-    ensures { result ≡ judged_by (serves_then ssd hdd page table.now state b caller 0) table.now b }
+) -> Result<Judged, Refusal>
+    ensures { result ≡ judged_by (serves_then ssd hdd page table.now state b caller None) table.now b }
 {
-    let judged = judge_ready(ssd, hdd, page, table, state, b);
-    if judged.number != 0 {
-        return judged;
-    }
+    let judged = judge_ready(ssd, hdd, page, table, state, b)?;
     if IMPORT < caller {
-        return refused(18);
+        return Err(Refusal::UnknownCaller);
     }
     if state.label.blocks <= b.0 {
-        return refused(7);
+        return Err(Refusal::BlockTooHigh);
     }
-    judged
+    Ok(judged)
 }

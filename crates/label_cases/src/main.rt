@@ -3,15 +3,15 @@
 
 ghost use Rattle.std.specs.Prelude.{◌≤◌, length};
 
-use layout::{LabelRead, places};
+use layout::{Label, places};
 use std::io;
 
 // What was read, after the case's name.
-fn print(rt: &impl Print, name: &[u8], read: LabelRead) -> io::Result<()> {
+fn print(rt: &impl Print, name: &[u8], read: Option<Label>) -> io::Result<()> {
     rt.write_all(name)?;
     match read {
-        LabelRead::Illegal => println!(rt; ": refused"),
-        LabelRead::Legal(l) => println!(rt; ": slots {} blocks {}", l.slots, l.blocks),
+        None => println!(rt; ": refused"),
+        Some(l) => println!(rt; ": slots {} blocks {}", l.slots, l.blocks),
     }
 }
 
@@ -22,7 +22,7 @@ fn case_with(rt: &impl Print, name: &[u8], text: &[u8], last: u8) -> io::Result<
     let mut page = [0u8; 4096];
     page[4095] = last;
     let end = text.len();
-    pages::copy(&mut page[0..end], text);
+    page[..end].copy_from_slice(text);
     print(rt, name, label_page::decode_label(&page))
 }
 

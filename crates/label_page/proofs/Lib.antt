@@ -1,3 +1,2 @@
-pub mod LabelSteps
 pub mod LabelReads
 pub mod LabelBuilt

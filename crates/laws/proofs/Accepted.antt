@@ -3,7 +3,7 @@ use Prim.Native.Nat.{ℕ, ◌≤◌, ◌<◌}
 use mathlib.Core.Path.{◌≡◌, refl, sym, ap, subst, ◌∙◌}
 use mathlib.Core.Bool.{Bool, true, false, not, ◌&&◌}
 use mathlib.Core.List.{List}
-use mathlib.Core.Option.{none}
+use Rattle.std.specs.Prelude.{None}
 use native.Mathlib.Omega.{arith}
 use lib.ListN.{length, drop, length-take}
 use lib.Dec.{leb}
@@ -20,7 +20,8 @@ use Rattle.protocol.specs.Rows.{each_row}
 use Rattle.protocol.specs.Box.{Box}
 use Rattle.protocol.specs.Plan.{Call, step}
 use Rattle.protocol.specs.Kinds.{Aim, a_service, kind}
-use Rattle.protocol.specs.Judge.{bad_record, wrong_length, bad_rows, wrong_phase, lengths_test, length_test, row_test, agree_test, rows_test, is_ready, lent_test, test, asked_first, judged}
+use Rattle.protocol.specs.declared.Refusal.TheVariants.{BadRecord, WrongLength, BadRows, WrongPhase}
+use Rattle.protocol.specs.Judge.{lengths_test, length_test, row_test, agree_test, rows_test, is_ready, lent_test, test, asked_first, judged}
 use Rattle.record.specs.Window.{each_place, zero_slots}
 use Rattle.record.specs.Callers.{named_places, callers_test}
 use Rattle.record.proofs.CallerLaws.{Named, named_of}
@@ -80,20 +81,20 @@ legal-judged x t e f g = legal x (not-false _ e) (and_parts (length_test (label_
     (not-false _ g)
 
 -- of a step, or of a service, that no reason refuses
-pub step_legal : (x : Box) → judged step x ≡ none → Legal x
+pub step_legal : (x : Box) → judged step x ≡ None → Legal x
 unfolding test
-step_legal x e = let q = passed step x e in legal-judged x true (q bad_record refl) (q wrong_length refl) (q bad_rows refl)
+step_legal x e = let q = passed step x e in legal-judged x true (q BadRecord refl) (q WrongLength refl) (q BadRows refl)
 
-module _ (c : Call) (x : Box) {a : Aim} (k : kind c ≡ a_service a) (e : judged c x ≡ none) where
+module _ (c : Call) (x : Box) {a : Aim} (k : kind c ≡ a_service a) (e : judged c x ≡ None) where
   pub service_legal : Legal x
   unfolding test
   service_legal =
       let q = passed_first c x e k in
-      legal-judged x (lent_test a.purpose (length x.table)) (q bad_record refl) (rw k at (q wrong_length refl)) (rw k at (q bad_rows refl))
+      legal-judged x (lent_test a.purpose (length x.table)) (q BadRecord refl) (rw k at (q WrongLength refl)) (rw k at (q BadRows refl))
 
   pub service_ready : x.state.phase ≡ Ready
   unfolding test
-  service_ready = ready_of x.state.phase (rw k at (passed_first c x e k wrong_phase refl))
+  service_ready = ready_of x.state.phase (rw k at (passed_first c x e k WrongPhase refl))
     where
       ready_of : (p : Phase) → not (is_ready p) ≡ false → p ≡ Ready
       ready_of Ready q = refl

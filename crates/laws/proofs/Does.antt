@@ -4,7 +4,7 @@ use mathlib.Core.Path.{◌≡◌, refl, sym, ap, subst, ◌∙◌}
 use mathlib.Core.Logic.{◌≢◌, ◌⊎◌, inl, inr}
 use mathlib.Core.Bool.{Bool, true, false, not, ◌&&◌}
 use mathlib.Core.List.{List, [], ◌∷◌, ◌++◌}
-use mathlib.Core.Option.{Option, none}
+use Rattle.std.specs.Prelude.{Option, None}
 use lib.ListN.{length, get_or}
 use native.Mathlib.Omega.{arith}
 use lib.Dec.{eqb, ltb, leb}
@@ -28,7 +28,8 @@ use Rattle.protocol.specs.Sweep.{Victim, sweep}
 use Rattle.protocol.specs.Plan.{flush, offer, fetch, land_fetch, look_up, view, write_back, land, look_up_list, ask, Ask, slot_map, cost, grown, Move, stay, uses, uses_all, announces, opens, lands, copies, confirms, takes_as, takes, offering, fetching, landing, landing_fetch, looking_up, writing_back, flushing, plan, stores_meta, import_open}
 use Rattle.protocol.specs.Perform.{confirmed, landed_flags, landed_state, used_all, perform}
 use Rattle.protocol.specs.Kinds.{to_serve, to_settle, to_write, to_fetch, to_land_fetch, to_land, Aim, aims, aims_by, aims_all, ask_aim, no_block}
-use Rattle.protocol.specs.Judge.{wrong_length, block_too_high, slot_open, wrong_state, window_full, stamps_spent, import_full, unknown_caller, length_test, test, judged}
+use Rattle.protocol.specs.declared.Refusal.TheVariants.{WrongLength, BlockTooHigh, SlotOpen, WrongState, WindowFull, StampsSpent, ImportFull, UnknownCaller}
+use Rattle.protocol.specs.Judge.{length_test, test, judged}
 use Rattle.protocol.specs.ReferenceDisk.{Disk, fed_call}
 use Rattle.layout.proofs.Booleans.{Told, told, told_true, told_false, clash, and_parts}
 use Rattle.laws.proofs.model.Model.{dirty_row, open_row, block_of}
@@ -332,62 +333,62 @@ module _ (x : Box) (L : Fit x) where
 
 -- each service, not refused
 module _ (x : Box) where
-  pub flush_does : judged flush x ≡ none → Does x (aims no_block to_settle) (plan flush x)
+  pub flush_does : judged flush x ≡ None → Does x (aims no_block to_settle) (plan flush x)
   unfolding test plan
-  flush_does e = flushes x (fit (service_legal flush x refl e)) x.state.unconfirmed refl (passed flush x e stamps_spent refl)
+  flush_does e = flushes x (fit (service_legal flush x refl e)) x.state.unconfirmed refl (passed flush x e StampsSpent refl)
 
-  pub ask_does : (a : Ask) → judged (ask a) x ≡ none → Does x (ask_aim a) (plan (ask a) x)
+  pub ask_does : (a : Ask) → judged (ask a) x ≡ None → Does x (ask_aim a) (plan (ask a) x)
   unfolding plan
   ask_does (slot_map n) e = does_nothing (λ d. refl) refl
   ask_does (cost blocks caller n) e = does_nothing (λ d. refl) refl
 
-  pub look_up_list_does : (blocks : List ℕ) (room : ℕ) → judged (look_up_list blocks room) x ≡ none
+  pub look_up_list_does : (blocks : List ℕ) (room : ℕ) → judged (look_up_list blocks room) x ≡ None
       → Does x (aims_all blocks room) (plan (look_up_list blocks room) x)
   unfolding plan
   look_up_list_does blocks room e = looks_up_all x (fit (service_legal (look_up_list blocks room) x refl e)) blocks room
 
   module _ (b : Block) where
-    pub offer_does : (c : ℕ) → judged (offer b c) x ≡ none → Does x (aims_by b to_write c) (plan (offer b c) x)
+    pub offer_does : (c : ℕ) → judged (offer b c) x ≡ None → Does x (aims_by b to_write c) (plan (offer b c) x)
     unfolding test plan
     offer_does c e =
         let L = fit (service_legal (offer b c) x refl e) in
         let q = passed (offer b c) x e in
         taken_does (λ d. refl)
-        (offers x L b c (q unknown_caller refl) (leb-false _ _ (q block_too_high refl)) (here x L b) (q slot_open refl) (q import_full refl)
-        (q window_full refl)) (q stamps_spent refl)
+        (offers x L b c (q UnknownCaller refl) (leb-false _ _ (q BlockTooHigh refl)) (here x L b) (q SlotOpen refl) (q ImportFull refl)
+        (q WindowFull refl)) (q StampsSpent refl)
 
-    pub fetch_does : (c : ℕ) → judged (fetch b c) x ≡ none → Does x (aims_by b to_fetch c) (plan (fetch b c) x)
+    pub fetch_does : (c : ℕ) → judged (fetch b c) x ≡ None → Does x (aims_by b to_fetch c) (plan (fetch b c) x)
     unfolding test plan
     fetch_does c e =
         let L = fit (service_legal (fetch b c) x refl e) in
         let q = passed (fetch b c) x e in
         taken_does (λ d. refl)
-        (fetches x L b c (q unknown_caller refl) (leb-false _ _ (q block_too_high refl)) (here x L b) (q import_full refl)
-        (q window_full refl)) (q stamps_spent refl)
+        (fetches x L b c (q UnknownCaller refl) (leb-false _ _ (q BlockTooHigh refl)) (here x L b) (q ImportFull refl)
+        (q WindowFull refl)) (q StampsSpent refl)
 
-    pub land_fetch_does : judged (land_fetch b) x ≡ none → Does x (aims b to_land_fetch) (plan (land_fetch b) x)
+    pub land_fetch_does : judged (land_fetch b) x ≡ None → Does x (aims b to_land_fetch) (plan (land_fetch b) x)
     unfolding test plan
     land_fetch_does e =
         let L = fit (service_legal (land_fetch b) x refl e) in
         let q = passed (land_fetch b) x e in
-        land_fetches x L b (leb-false _ _ (q block_too_high refl)) (here x L b) (not-false _ (q wrong_state refl))
+        land_fetches x L b (leb-false _ _ (q BlockTooHigh refl)) (here x L b) (not-false _ (q WrongState refl))
 
-    pub look_up_does : judged (look_up b) x ≡ none → Does x (aims b to_serve) (plan (look_up b) x)
+    pub look_up_does : judged (look_up b) x ≡ None → Does x (aims b to_serve) (plan (look_up b) x)
     unfolding plan
     look_up_does e = let L = fit (service_legal (look_up b) x refl e) in looks_up x L b (here x L b)
 
-    pub view_does : judged (view b) x ≡ none → Does x (aims b to_serve) (plan (view b) x)
+    pub view_does : judged (view b) x ≡ None → Does x (aims b to_serve) (plan (view b) x)
     unfolding plan
     view_does e = does_nothing (λ d. refl) refl
 
-    pub write_back_does : judged (write_back b) x ≡ none → Does x (aims b to_serve) (plan (write_back b) x)
+    pub write_back_does : judged (write_back b) x ≡ None → Does x (aims b to_serve) (plan (write_back b) x)
     unfolding plan
     write_back_does e = let L = fit (service_legal (write_back b) x refl e) in writes_back x L b (here x L b)
 
-    pub land_does : (page : List ℕ) → judged (land b page) x ≡ none → Does x (aims b (to_land page)) (plan (land b page) x)
+    pub land_does : (page : List ℕ) → judged (land b page) x ≡ None → Does x (aims b (to_land page)) (plan (land b page) x)
     unfolding test plan
     land_does page e =
         let L = fit (service_legal (land b page) x refl e) in
         let q = passed (land b page) x e in
-        let sizes = and_parts (length_test (label_in x.state) x.images x.table) _ (not-false _ (q wrong_length refl)) in
-        landings x L b page (leb-false _ _ (q block_too_high refl)) (eqb-true _ _ sizes.1) (here x L b) (not-false _ (q wrong_state refl))
+        let sizes = and_parts (length_test (label_in x.state) x.images x.table) _ (not-false _ (q WrongLength refl)) in
+        landings x L b page (leb-false _ _ (q BlockTooHigh refl)) (eqb-true _ _ sizes.1) (here x L b) (not-false _ (q WrongState refl))

@@ -4,7 +4,7 @@ use Prim.Native.Nat.{ℕ, zero, suc, ◌<◌}
 use mathlib.Core.Path.{◌≡◌, refl, sym, subst, ◌∙◌}
 use mathlib.Core.Bool.{Bool, true, false, not, ◌&&◌, ◌||◌}
 use mathlib.Core.List.{List, [], ◌∷◌, ◌++◌}
-use mathlib.Core.Option.{Option, some, none}
+use Rattle.std.specs.Prelude.{Option, Some, None}
 use native.Mathlib.Omega.{arith}
 use lib.ListN.{length, take}
 use lib.Dec.{ltb, leb}
@@ -20,7 +20,8 @@ use Rattle.protocol.specs.Box.{Box}
 use Rattle.protocol.specs.Condition.{condition_of, is_open, takes_write}
 use Rattle.protocol.specs.Plan.{offer_list, grown, Move, import_open, opens, offering, Offered, not_yet, offered_box, declines, on_page, dealt_with, placed_as, placed, offers_from, announcing, together, first_block, plan, stores_meta}
 use Rattle.protocol.specs.Kinds.{Aim, aims_first}
-use Rattle.protocol.specs.Judge.{block_too_high, slot_open, window_full, stamps_spent, import_full, unknown_caller, test, judged}
+use Rattle.protocol.specs.declared.Refusal.TheVariants.{BlockTooHigh, SlotOpen, WindowFull, StampsSpent, ImportFull, UnknownCaller}
+use Rattle.protocol.specs.Judge.{test, judged}
 use Rattle.layout.proofs.Booleans.{Told, told, told_true, told_false, or_neither}
 use Rattle.laws.proofs.Sound.{Sound}
 use Rattle.laws.proofs.Judged.{passed}
@@ -48,21 +49,21 @@ module _ (x : Box) (L : Legal x) (S : Sound (label_in x.state) x.table (window_i
     (known : ltb 1 caller ≡ false) where
   -- what the places dealt with have left: nothing announced yet, or openings on one page
   pub data Ran : Option ℕ → List ℕ → Slot → List Slot → List ℕ → Type 0 where
-    ran_none : Ran none x.table x.state.hand (window_in x.state) (callers_in x.state)
-    ran_some : {q : ℕ} {t : List ℕ} {h : Slot} {w : List Slot} {cs : List ℕ} → Openings x q t h w cs → Ran (some q) t h w cs
+    ran_none : Ran None x.table x.state.hand (window_in x.state) (callers_in x.state)
+    ran_some : {q : ℕ} {t : List ℕ} {h : Slot} {w : List Slot} {cs : List ℕ} → Openings x q t h w cs → Ran (Some q) t h w cs
 
   abbrev pub RanTo : Offered → Type 0
   RanTo z = Ran z.page z.table z.hand z.window z.callers
 
   -- the list ends before a place, or goes on after it
   data Goes : Option Offered → Type 0 where
-    ends : Goes none
-    goes : {z : Offered} → RanTo z → Goes (some z)
+    ends : Goes None
+    goes : {z : Offered} → RanTo z → Goes (Some z)
 
   -- a place in box y, which the places before it left
   module _ (y : Box) (F : Fit y) (z : Offered) (R : RanTo z) (b : Block)
       (more : (s : Slot) (b : Block) (c f : ℕ) (v : List ℕ) (hand : Slot) → Opening y s b c f v hand → on_page z.page (meta_of s) ≡ true
-      → Ran (some (meta_of s)) (set_row v s b f) hand (window_in y.state ++ (s ∷ [])) (callers_in y.state ++ (c ∷ []))) where
+      → Ran (Some (meta_of s)) (set_row v s b f) hand (window_in y.state ++ (s ∷ [])) (callers_in y.state ++ (c ∷ []))) where
     by_turn : {m : Move} → Taken y m → Goes (dealt_with z m)
     by_turn (taken-stay n) = goes R
     by_turn (taken_open {s} {b} {c} {f} {v} {hand} O) = go (told (on_page z.page (meta_of s)))
@@ -94,7 +95,7 @@ module _ (x : Box) (L : Legal x) (S : Sound (label_in x.state) x.table (window_i
   place_after_is : {o : Option ℕ} {t : List ℕ} {h : Slot} {w : List Slot} {cs : List ℕ} → Ran o t h w cs → (n : ℕ) (b : Block)
       → Goes (placed (later x t h w cs) caller (offered_of n o t h w cs) b)
   place_after_is ran_none n b =
-      subst (λ (y : Box). Goes (placed y caller (offered_of n none x.table x.state.hand (window_in x.state) (callers_in x.state)) b))
+      subst (λ (y : Box). Goes (placed y caller (offered_of n None x.table x.state.hand (window_in x.state) (callers_in x.state)) b))
       (sym start) (place x (fit L) _ ran_none b (λ s b c f v hand O e. ran_some (opens_one O refl)))
   place_after_is (ran_some {q} {t} {h} {w} {cs} Os) n b =
       let T = openings_sound Os S in
@@ -108,7 +109,7 @@ module _ (x : Box) (L : Legal x) (S : Sound (label_in x.state) x.table (window_i
       go (ran blocks) (place_after_is R z.places (record { 0 = b }))
     where
       go : ((y : Offered) → RanTo y → RanTo (offers_from x caller y blocks)) → {o : Option Offered} → Goes o
-          → RanTo (elim o [ none ↦ z | some y ↦ offers_from x caller y blocks ])
+          → RanTo (elim o [ None ↦ z | Some y ↦ offers_from x caller y blocks ])
       go rest ends = R
       go rest (goes {z = y} R') = rest y R'
 
@@ -125,7 +126,7 @@ module _ (x : Box) (L : Legal x) (S : Sound (label_in x.state) x.table (window_i
   together_does q T z R zero spent = taken_does q T spent
   together_does q T z R (suc n) spent = announces_does q R z.places spent
 
-pub offer_list_does : (x : Box) (blocks : List ℕ) (c : ℕ) → judged (offer_list blocks c) x ≡ none
+pub offer_list_does : (x : Box) (blocks : List ℕ) (c : ℕ) → judged (offer_list blocks c) x ≡ None
     → Does x (aims_first blocks c) (plan (offer_list blocks c) x)
 unfolding test plan
 offer_list_does x blocks c e =
@@ -133,9 +134,9 @@ offer_list_does x blocks c e =
     let S = legal_sound x L (service_ready (offer_list blocks c) x refl e) in
     let q = passed (offer_list blocks c) x e in
     let b : Block = first_block blocks in
-    let first = offers x (fit L) b c (q unknown_caller refl) (leb-false _ _ (q block_too_high refl)) (here x (fit L) b) (q slot_open refl)
-    (q import_full refl) (q window_full refl)
+    let first = offers x (fit L) b c (q UnknownCaller refl) (leb-false _ _ (q BlockTooHigh refl)) (here x (fit L) b) (q SlotOpen refl)
+    (q ImportFull refl) (q WindowFull refl)
     in
     let z = offers_from x c (not_yet x) blocks in
-    together_does x L S c (q unknown_caller refl) (λ d. refl) first z (ran x L S c (q unknown_caller refl) blocks (not_yet x) ran_none) z.places
-    (q stamps_spent refl)
+    together_does x L S c (q UnknownCaller refl) (λ d. refl) first z (ran x L S c (q UnknownCaller refl) blocks (not_yet x) ran_none) z.places
+    (q StampsSpent refl)

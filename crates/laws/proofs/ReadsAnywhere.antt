@@ -2,7 +2,7 @@
 use Prim.Native.Nat.{ℕ}
 use mathlib.Core.Path.{◌≡◌, refl}
 use mathlib.Core.List.{List}
-use mathlib.Core.Option.{Option, some, none}
+use Rattle.std.specs.Prelude.{Option, Some, None}
 use Rattle.pages.specs.Parts.{Part, page_part}
 use Rattle.layout.specs.declared.Block.{Block}
 use Rattle.record.specs.declared.Record.{Record}
@@ -11,7 +11,8 @@ use Rattle.protocol.specs.declared.Condition.{Condition}
 use Rattle.protocol.specs.declared.Condition.TheVariants.{NotCached, Clean, Dirty, Writing, Fetching}
 use Rattle.protocol.specs.Condition.{condition_of}
 use Rattle.protocol.specs.Plan.{view}
-use Rattle.protocol.specs.Judge.{Reason, judged}
+use Rattle.protocol.specs.declared.Refusal.{Refusal}
+use Rattle.protocol.specs.Judge.{judged}
 use Rattle.protocol.specs.Calls.{box_of, view_part, viewed, view_of}
 use Rattle.protocol.specs.Events.{lent, read_of}
 use Rattle.protocol.specs.Beside.{ReadsAnywhere}
@@ -22,10 +23,10 @@ reads_anywhere ssd hdd table state b =
     let o = judged (view b) (box_of ssd.bytes hdd.bytes table state) in
     record { number = numbers o; bytes = handed o }
   where
-    numbers : (o : Option Reason) → (viewed o ssd hdd (label_in state) b (condition_of table b)).number
+    numbers : (o : Option Refusal) → (viewed o ssd hdd (label_in state) b (condition_of table b)).number
         ≡ (viewed o (lent ssd.bytes) (lent hdd.bytes) (label_in state) b (condition_of table b)).number
-    numbers (some r) = refl
-    numbers none = refl
+    numbers (Some r) = refl
+    numbers None = refl
 
     parts : (k : Condition) → (view_part ssd hdd (label_in state) b k).bytes
         ≡ (view_part (lent ssd.bytes) (lent hdd.bytes) (label_in state) b k).bytes
@@ -35,7 +36,7 @@ reads_anywhere ssd hdd table state b =
     parts (Writing s) = refl
     parts (Fetching s) = refl
 
-    handed : (o : Option Reason) → (viewed o ssd hdd (label_in state) b (condition_of table b)).handed.bytes
+    handed : (o : Option Refusal) → (viewed o ssd hdd (label_in state) b (condition_of table b)).handed.bytes
         ≡ (viewed o (lent ssd.bytes) (lent hdd.bytes) (label_in state) b (condition_of table b)).handed.bytes
-    handed (some r) = refl
-    handed none = parts (condition_of table b)
+    handed (Some r) = refl
+    handed None = parts (condition_of table b)

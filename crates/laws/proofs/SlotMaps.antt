@@ -4,7 +4,7 @@ use mathlib.Core.Path.{◌≡◌, refl, sym, ap, subst, ◌∙◌}
 use mathlib.Core.Logic.{◌≢◌, ◌↔◌}
 use mathlib.Core.Bool.{Bool, true, false, cond}
 use mathlib.Core.List.{List, [], ◌∷◌, ◌++◌, append_assoc}
-use mathlib.Core.Option.{Option, some, none}
+use Rattle.std.specs.Prelude.{Option, Some, None}
 use native.Mathlib.Omega.{arith}
 use native.Mathlib.Nat.{pow-suc}
 use native.Mathlib.Decide.{dec_lt}
@@ -25,14 +25,15 @@ use Rattle.record.specs.Record.{label_in}
 use Rattle.protocol.specs.declared.Condition.{Condition}
 use Rattle.protocol.specs.declared.Condition.TheVariants.{NotCached, Clean, Dirty, Writing, Fetching}
 use Rattle.protocol.specs.Rows.{row_flags, valid, dirty, writing}
-use Rattle.protocol.specs.declared.Stored.TheVariants.{Nothing}
 use Rattle.protocol.specs.Reply.{refusal, refused}
 use Rattle.protocol.specs.Box.{Box, left, box_after}
 use Rattle.protocol.specs.Condition.{condition_of}
 use Rattle.protocol.specs.Plan.{Ask, slot_map, Call, ask, plan}
 use Rattle.protocol.specs.Perform.{perform}
 use Rattle.protocol.specs.SlotMap.{held_letter, letter_of, letter_at, aligned, map_line, lines_of, map_lines, map_bytes, map_text}
-use Rattle.protocol.specs.Judge.{Reason, sheet_short, number_of, test, judged}
+use Rattle.protocol.specs.declared.Refusal.{Refusal}
+use Rattle.protocol.specs.declared.Refusal.TheVariants.{SheetShort}
+use Rattle.protocol.specs.Judge.{number_of, test, judged}
 use Rattle.protocol.specs.Calls.{decided, effect_of, box_of, mapped, map_of}
 use Rattle.protocol.specs.Why.{SlotOf, Why, FirstWhy}
 use Rattle.protocol.specs.Beside.{ChangesNothing, said_by, MapSays, MapsSlots, MapKeeps, LetterSays}
@@ -190,13 +191,13 @@ pub changes_nothing : (a : Ask) (x : Box) → ChangesNothing a x
 unfolding effect_of plan perform
 changes_nothing a x = record { box = box (judged (ask a) x); stored = stored (judged (ask a) x) }
   where
-    box : (o : Option Reason) → box_after (left (decided o (ask a) x) x.images) ≡ x
-    box (some r) = refl
-    box none = refl
+    box : (o : Option Refusal) → box_after (left (decided o (ask a) x) x.images) ≡ x
+    box (Some r) = refl
+    box None = refl
 
-    stored : (o : Option Reason) → (left (decided o (ask a) x) x.images).stored ≡ Nothing
-    stored (some r) = refl
-    stored none = refl
+    stored : (o : Option Refusal) → (left (decided o (ask a) x) x.images).stored ≡ None
+    stored (Some r) = refl
+    stored None = refl
 
 -- A map's number, as demand 3's lists have it.
 pub said_some : (n : ℕ) → n ≢ 0 → refusal n ≡ said_by n
@@ -207,10 +208,10 @@ pub map_says : (ssd hdd table : List ℕ) (state : Record) (sheet : List ℕ) �
 unfolding effect_of plan perform map_of
 map_says ssd hdd table state sheet = by_reason (judged (ask (slot_map (length sheet))) (box_of ssd hdd table state))
   where
-    by_reason : (o : Option Reason) → let x = box_of ssd hdd table state in
+    by_reason : (o : Option Refusal) → let x = box_of ssd hdd table state in
         (left (decided o (ask (slot_map (length sheet))) x) x.images).said ≡ said_by (mapped o (label_in state) table sheet).number
-    by_reason (some r) = said_some (number_of r) (number_some r)
-    by_reason none = refl
+    by_reason (Some r) = said_some (number_of r) (number_some r)
+    by_reason None = refl
 
 -- "A number is used if its condition holds for that call, and in no other case": of the number that a map gives
 said-number : (m n : ℕ) → said_by m ≡ refusal n → m ≡ n
@@ -243,25 +244,25 @@ map-keeps ssd hdd table state sheet = record {
     l : Label
     l = label_in state
 
-    refused-same : (o : Option Reason) → (mapped o l table sheet).number ≢ 0 → (mapped o l table sheet).sheet ≡ sheet
-    refused-same (some r) h = refl
-    refused-same none h = absurd (h refl)
+    refused-same : (o : Option Refusal) → (mapped o l table sheet).number ≢ 0 → (mapped o l table sheet).sheet ≡ sheet
+    refused-same (Some r) h = refl
+    refused-same None h = absurd (h refl)
 
     -- of a map that is not refused: the text's length, and that there is room for it
-    text : judged c x ≡ none → length (map_text l table) ≡ map_bytes l
+    text : judged c x ≡ None → length (map_text l table) ≡ map_bytes l
     text e = (maps_slots l table (service_legal c x refl e).limits).size
 
-    room : judged c x ≡ none → map_bytes l ≤ length sheet
-    room e = ltb-false (length sheet) (map_bytes l) (passed c x e sheet_short refl)
+    room : judged c x ≡ None → map_bytes l ≤ length sheet
+    room e = ltb-false (length sheet) (map_bytes l) (passed c x e SheetShort refl)
 
-    begins : (o : Option Reason) → judged c x ≡ o → (mapped o l table sheet).number ≡ 0
+    begins : (o : Option Refusal) → judged c x ≡ o → (mapped o l table sheet).number ≡ 0
         → take (map_bytes l) (mapped o l table sheet).sheet ≡ map_text l table
-    begins (some r) e h = absurd (number_some r h)
-    begins none e h = take_at (map_text l table) (drop (map_bytes l) sheet) (map_bytes l) (text e)
+    begins (Some r) e h = absurd (number_some r h)
+    begins None e h = take_at (map_text l table) (drop (map_bytes l) sheet) (map_bytes l) (text e)
 
-    after_stays : (o : Option Reason) → judged c x ≡ o → (k : ℕ) → map_bytes l ≤ k → get_or (mapped o l table sheet).sheet k 0 ≡ get_or sheet k 0
-    after_stays (some r) e k h = refl
-    after_stays none e k h =
+    after_stays : (o : Option Refusal) → judged c x ≡ o → (k : ℕ) → map_bytes l ≤ k → get_or (mapped o l table sheet).sheet k 0 ≡ get_or sheet k 0
+    after_stays (Some r) e k h = refl
+    after_stays None e k h =
         let i : ℕ = k - map_bytes l in
         let a : k ≡ length (map_text l table) + i = omega (arith, text e) in
         let b : map_bytes l + i ≡ k = omega arith in
@@ -270,9 +271,9 @@ map-keeps ssd hdd table state sheet = record {
         ∙ get_or-drop (map_bytes l) sheet i 0
         ∙ ap (λ (j : ℕ). get_or sheet j 0) b
 
-    size : (o : Option Reason) → judged c x ≡ o → length (mapped o l table sheet).sheet ≡ length sheet
-    size (some r) e = refl
-    size none e =
+    size : (o : Option Refusal) → judged c x ≡ o → length (mapped o l table sheet).sheet ≡ length sheet
+    size (Some r) e = refl
+    size None e =
         length-append (map_text l table) (drop (map_bytes l) sheet)
         ∙ omega (arith, text e, room e, length-drop (map_bytes l) sheet)
 

@@ -1,7 +1,7 @@
 -- Each call by its kind: a format, a reopening, a step, or a service of a ready box, with what it does.
 use Prim.Native.Nat.{ℕ}
 use mathlib.Core.Path.{◌≡◌, refl}
-use mathlib.Core.Option.{none}
+use Rattle.std.specs.Prelude.{None}
 use Rattle.protocol.specs.Box.{Box}
 use Rattle.protocol.specs.Plan.{Call, format, step, flush, reopen, offer, fetch, land_fetch, look_up, view, write_back, land, look_up_list, offer_list, ask, plan}
 use Rattle.protocol.specs.Kinds.{Aim, a_service, kind}
@@ -13,7 +13,7 @@ pub data Sorted : Call → Type 0 where
   is_format : (slots blocks : ℕ) → Sorted (format slots blocks)
   is_reopen : Sorted reopen
   is_step : Sorted step
-  is_service : {c : Call} {a : Aim} → kind c ≡ a_service a → ((x : Box) → judged c x ≡ none → Does x a (plan c x)) → Sorted c
+  is_service : {c : Call} {a : Aim} → kind c ≡ a_service a → ((x : Box) → judged c x ≡ None → Does x a (plan c x)) → Sorted c
 
 pub sorted : (c : Call) → Sorted c
 sorted (format slots blocks) = is_format slots blocks

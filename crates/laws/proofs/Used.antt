@@ -3,7 +3,7 @@ use Prim.Native.Nat.{ℕ, ◌+◌, ◌*◌, ◌/◌, ◌%◌, ◌<◌}
 use mathlib.Core.Path.{◌≡◌, refl, sym, ap, subst, ◌∙◌}
 use mathlib.Core.Bool.{Bool, true, false}
 use mathlib.Core.List.{List, [], ◌∷◌, ◌++◌}
-use mathlib.Core.Option.{Option, some, none}
+use Rattle.std.specs.Prelude.{Option, Some, None}
 use native.Mathlib.Omega.{arith}
 use native.Mathlib.Decide.{ℕ_discrete}
 use lib.ListN.{length, get_or, length-set}
@@ -112,8 +112,8 @@ module _ (t : List ℕ) (s : Slot) (row : 2 * s.0 + 1 < length t) where
 
   -- so do the slot of every block and what is there
   pub used_at : (o : Option Slot) → condition_at after o ≡ condition_at t o
-  used_at none = refl
-  used_at (some u) =
+  used_at None = refl
+  used_at (Some u) =
       let w = flag_kept writing (λ f. let q : (f + 8) / 4 % 2 ≡ f / 4 % 2 = omega arith in rw q) u.0 in
       let d = flag_kept dirty (λ f. let q : (f + 8) / 2 % 2 ≡ f / 2 % 2 = omega arith in rw q) u.0 in
       (λ i. elim (w i) [ true ↦ open_as (d i) u | false ↦ closed_as (d i) u ])

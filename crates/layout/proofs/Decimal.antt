@@ -3,7 +3,8 @@ use Prim.Native.Nat.{ℕ, zero, suc, ◌+◌, ◌-◌, ◌*◌, ◌/◌, ◌%◌
 use mathlib.Core.Path.{◌≡◌, refl, sym, ap, ◌∙◌}
 use mathlib.Core.Logic.{◌≢◌}
 use mathlib.Core.List.{List, [], ◌∷◌, ◌++◌, append_assoc}
-use mathlib.Core.Option.{Option, some, none, some-injective, none-ne-some}
+use Rattle.std.specs.Prelude.{Option, Some, None}
+use Rattle.std.proofs.lemmas.Option.{same_Some, none-some}
 use native.Mathlib.Omega.{arith}
 use native.Mathlib.Nat.{pow-suc, pow-le-pow_right}
 use native.Mathlib.Decide.{dec_lt, ℕ_discrete}
@@ -81,7 +82,7 @@ decimal_push a d p l h =
 
 -- Read, a byte at a time.
 
-pub from_line : (k n : ℕ) (rest : List ℕ) → number_from k n (10 ∷ rest) ≡ some (record { value = n; rest = rest })
+pub from_line : (k n : ℕ) (rest : List ℕ) → number_from k n (10 ∷ rest) ≡ Some (record { value = n; rest = rest })
 unfolding number_from
 from_line zero n rest = refl
 from_line (suc k) n rest = refl
@@ -90,21 +91,21 @@ pub from_digit : (k n b : ℕ) (rest : List ℕ) → 48 ≤ b → b ≤ 57 → n
 unfolding number_from
 from_digit k n b rest l h = rw (ne_eqb b 10 (omega arith), number_from) (rw (le-leb 48 b l, le-leb b 57 h))
 
-pub from_full : (n b : ℕ) (rest : List ℕ) → b ≢ 10 → number_from 0 n (b ∷ rest) ≡ none
+pub from_full : (n b : ℕ) (rest : List ℕ) → b ≢ 10 → number_from 0 n (b ∷ rest) ≡ None
 unfolding number_from
 from_full n b rest h = rw (ne_eqb b 10 h, number_from)
 
-pub from_low : (k n b : ℕ) (rest : List ℕ) → b ≢ 10 → b < 48 → number_from k n (b ∷ rest) ≡ none
+pub from_low : (k n b : ℕ) (rest : List ℕ) → b ≢ 10 → b < 48 → number_from k n (b ∷ rest) ≡ None
 unfolding number_from
 from_low zero n b rest h l = rw (ne_eqb b 10 h, number_from)
 from_low (suc k) n b rest h l = rw (ne_eqb b 10 h, number_from) (rw (lt-leb 48 b l))
 
-pub from_high : (k n b : ℕ) (rest : List ℕ) → 57 < b → number_from k n (b ∷ rest) ≡ none
+pub from_high : (k n b : ℕ) (rest : List ℕ) → 57 < b → number_from k n (b ∷ rest) ≡ None
 unfolding number_from
 from_high zero n b rest l = rw (ne_eqb b 10 (omega arith), number_from)
 from_high (suc k) n b rest l = rw (ne_eqb b 10 (omega arith), number_from) (rw (le-leb 48 b (omega arith), lt-leb b 57 l))
 
-pub from_none : (k n : ℕ) → number_from k n [] ≡ none
+pub from_none : (k n : ℕ) → number_from k n [] ≡ None
 unfolding number_from
 from_none k n = refl
 
@@ -112,15 +113,15 @@ pub number-first : (b : ℕ) (rest : List ℕ) → 49 ≤ b → b ≤ 57 → num
 unfolding number
 number-first b rest l h = rw (le-leb 49 b l, number) (rw (le-leb b 57 h))
 
-pub number-low : (b : ℕ) (rest : List ℕ) → b < 49 → number (b ∷ rest) ≡ none
+pub number-low : (b : ℕ) (rest : List ℕ) → b < 49 → number (b ∷ rest) ≡ None
 unfolding number
 number-low b rest l = rw (lt-leb 49 b l, number)
 
-pub number_high : (b : ℕ) (rest : List ℕ) → 57 < b → number (b ∷ rest) ≡ none
+pub number_high : (b : ℕ) (rest : List ℕ) → 57 < b → number (b ∷ rest) ≡ None
 unfolding number
 number_high b rest l = rw (le-leb 49 b (omega arith), number) (rw (lt-leb b 57 l))
 
-pub number_none : number [] ≡ none
+pub number_none : number [] ≡ None
 unfolding number
 number_none = refl
 
@@ -154,7 +155,7 @@ read-digits (suc k) n t m p h =
         ∙ ap (λ (x : ℕ). number_from j x t) v
 
 -- a number that was written is read again
-pub number_back : (n : ℕ) (rest : List ℕ) → 0 < n → n < 100000000 → number (decimal n ++ (10 ∷ rest)) ≡ some (record { value = n; rest = rest })
+pub number_back : (n : ℕ) (rest : List ℕ) → 0 < n → n < 100000000 → number (decimal n ++ (10 ∷ rest)) ≡ Some (record { value = n; rest = rest })
 number_back n rest p h =
     let e : decimal n ≡ digits 8 n = spare 8 n (omega arith) ∙ spare 7 n h in
     ap (λ (t : List ℕ). number (t ++ (10 ∷ rest))) e
@@ -176,10 +177,10 @@ fits j k n h s =
     let m : j ≤ 8 = omega arith in
     omega (arith, pow-le-pow_right {n = 10} z {i = j} {j = 8} m)
 
-at_line : (k n b : ℕ) (rest : List ℕ) (r : Number) → 0 < n → n < 100000000 → b ≡ 10 → number_from k n (b ∷ rest) ≡ some r → ReadOf (decimal n ++ (b ∷ rest)) r
+at_line : (k n b : ℕ) (rest : List ℕ) (r : Number) → 0 < n → n < 100000000 → b ≡ 10 → number_from k n (b ∷ rest) ≡ Some r → ReadOf (decimal n ++ (b ∷ rest)) r
 at_line k n b rest r p h t e =
-    let f : number_from k n (10 ∷ rest) ≡ some r = rw t at e in
-    let q : record { value = n; rest = rest } ≡ r = some-injective _ _ (sym (from_line k n rest) ∙ f) in
+    let f : number_from k n (10 ∷ rest) ≡ Some r = rw t at e in
+    let q : record { value = n; rest = rest } ≡ r = same_Some _ _ (sym (from_line k n rest) ∙ f) in
     rw (t, ← q) (record { written = refl; some_value = p; value-most = h })
 
 -- a digit more
@@ -194,10 +195,10 @@ at_digit n b rest r p l m h o =
     in
     record { written = sym e ∙ o.written; some_value = o.some_value; value-most = o.value-most }
 
-never : {P : Type 0} {o : Option Number} {r : Number} → o ≡ some r → o ≡ none → P
-never {r = r} e f = absurd (none-ne-some r (sym f ∙ e))
+never : {P : Type 0} {o : Option Number} {r : Number} → o ≡ Some r → o ≡ None → P
+never {r = r} e f = absurd (none-some r (sym f ∙ e))
 
-from_only : (k j n : ℕ) (bytes : List ℕ) (r : Number) → 0 < n → n < 10 ^ j → j + k ≡ 8 → number_from k n bytes ≡ some r → ReadOf (decimal n ++ bytes) r
+from_only : (k j n : ℕ) (bytes : List ℕ) (r : Number) → 0 < n → n < 10 ^ j → j + k ≡ 8 → number_from k n bytes ≡ Some r → ReadOf (decimal n ++ bytes) r
 from_only k j n [] r p h s e = never e (from_none k n)
 from_only zero j n (b ∷ bytes) r p h s e = go (ℕ_discrete b 10)
   where
@@ -219,7 +220,7 @@ from_only (suc k) j n (b ∷ bytes) r p h s e =
         at_digit n b bytes r p (omega arith) (omega arith) (fits (suc j) k (10 * n + (b - 48)) t (omega arith)) (f (omega arith) (omega arith))
 
 -- a number that was read is written again so
-pub number_only : (bytes : List ℕ) (r : Number) → number bytes ≡ some r → ReadOf bytes r
+pub number_only : (bytes : List ℕ) (r : Number) → number bytes ≡ Some r → ReadOf bytes r
 number_only [] r e = never e number_none
 number_only (b ∷ bytes) r e = go (dec_lt b 49) (dec_lt 57 b)
   where

@@ -3,7 +3,8 @@ use Prim.Native.Nat.{ℕ, ◌-◌, ◌≤◌}
 use mathlib.Core.Path.{◌≡◌, refl, sym, ap, ◌∙◌}
 use mathlib.Core.Bool.{Bool, true, false, ◌&&◌}
 use mathlib.Core.List.{List, [], ◌∷◌, ◌++◌, append_assoc}
-use mathlib.Core.Option.{Option, some, none, none-ne-some, some-injective}
+use Rattle.std.specs.Prelude.{Option, Some, None}
+use Rattle.std.proofs.lemmas.Option.{none-some, same_Some}
 use native.Mathlib.Decide.{ℕ_discrete}
 use native.Mathlib.Omega.{arith}
 use lib.ListN.{length, replicate, length-append}
@@ -11,8 +12,6 @@ use borrow.Author.Tests.{eq-eqb, ne_eqb}
 use Rattle.pages.specs.Pages.{padded}
 use Rattle.pages.proofs.PadLaws.{length-padded}
 use Rattle.layout.specs.declared.Label.{Label}
-use Rattle.layout.specs.declared.LabelRead.{LabelRead}
-use Rattle.layout.specs.declared.LabelRead.TheVariants.{Legal}
 use Rattle.layout.specs.Places.{label_of, within_limits}
 use Rattle.layout.specs.LabelPage.{cache_line, layout_line, slots_key, blocks_key, decimal, label_text, encode_label, after, Number, number, all_zero, then_bytes, then_number, legal_if, decode_label}
 use Rattle.layout.proofs.PlaceLaws.{within}
@@ -22,20 +21,20 @@ use Rattle.layout.proofs.Decimal.{ReadOf, decimal-size, number_back, number_only
 
 -- A text is found where it stands, and nowhere else.
 
-pub after_back : (text rest : List ℕ) → after text (text ++ rest) ≡ some rest
+pub after_back : (text rest : List ℕ) → after text (text ++ rest) ≡ Some rest
 unfolding after
 after_back [] rest = refl
 after_back (t ∷ text) rest = rw (eq-eqb t t refl, after) (after_back text rest)
 
-pub after_only : (text bytes rest : List ℕ) → after text bytes ≡ some rest → bytes ≡ text ++ rest
+pub after_only : (text bytes rest : List ℕ) → after text bytes ≡ Some rest → bytes ≡ text ++ rest
 unfolding after
-after_only [] bytes rest e = some-injective _ _ e
-after_only (t ∷ text) [] rest e = absurd (none-ne-some rest e)
+after_only [] bytes rest e = same_Some _ _ e
+after_only (t ∷ text) [] rest e = absurd (none-some rest e)
 after_only (t ∷ text) (b ∷ bytes) rest e = go (ℕ_discrete t b) (after_only text bytes rest)
   where
-    go : Dec (t ≡ b) → (after text bytes ≡ some rest → bytes ≡ text ++ rest) → b ∷ bytes ≡ t ∷ text ++ rest
+    go : Dec (t ≡ b) → (after text bytes ≡ Some rest → bytes ≡ text ++ rest) → b ∷ bytes ≡ t ∷ text ++ rest
     go (yes q) f = rw q (ap (λ (l : List ℕ). b ∷ l) (f (rw (eq-eqb t b q, after) at e)))
-    go (no q) f = absurd (none-ne-some rest (rw (ne_eqb t b q, after) at e))
+    go (no q) f = absurd (none-some rest (rw (ne_eqb t b q, after) at e))
 
 -- The text of a label, and whatever stands after it.
 abbrev text_then : Label → List ℕ → List ℕ
@@ -60,7 +59,7 @@ unfolding encode_label
 length_encode l = length-padded 4096 (label_text l) (omega (arith, text-size l))
 
 -- decoding an encoded label gives it back
-pub label_back : (l : Label) → within_limits l ≡ true → decode_label (encode_label l) ≡ Legal l
+pub label_back : (l : Label) → within_limits l ≡ true → decode_label (encode_label l) ≡ Some l
 unfolding decode_label encode_label padded
 label_back l h =
     let m = (within l).0 h in
@@ -79,15 +78,15 @@ label_back l h =
     ))
 
 -- What was met on the way to a legal label.
-bytes-met : (o : Option (List ℕ)) (f : List ℕ → LabelRead) (l : Label) → then_bytes o f ≡ Legal l → (bytes : List ℕ) × (o ≡ some bytes) × (f bytes ≡ Legal l)
-bytes-met none f l e = let z : ◌≡◌ {A = ℕ} 0 1 = cc in absurd (omega arith)
-bytes-met (some bytes) f l e = (bytes, refl, e)
+bytes-met : (o : Option (List ℕ)) (f : List ℕ → Option Label) (l : Label) → then_bytes o f ≡ Some l → (bytes : List ℕ) × (o ≡ Some bytes) × (f bytes ≡ Some l)
+bytes-met None f l e = let z : ◌≡◌ {A = ℕ} 0 1 = cc in absurd (omega arith)
+bytes-met (Some bytes) f l e = (bytes, refl, e)
 
-number-met : (o : Option Number) (f : ℕ → List ℕ → LabelRead) (l : Label) → then_number o f ≡ Legal l → (n : Number) × (o ≡ some n) × (f n.value n.rest ≡ Legal l)
-number-met none f l e = let z : ◌≡◌ {A = ℕ} 0 1 = cc in absurd (omega arith)
-number-met (some n) f l e = (n, refl, e)
+number-met : (o : Option Number) (f : ℕ → List ℕ → Option Label) (l : Label) → then_number o f ≡ Some l → (n : Number) × (o ≡ Some n) × (f n.value n.rest ≡ Some l)
+number-met None f l e = let z : ◌≡◌ {A = ℕ} 0 1 = cc in absurd (omega arith)
+number-met (Some n) f l e = (n, refl, e)
 
-legal-met : (t : Bool) (k l : Label) → legal_if t k ≡ Legal l → (t ≡ true) × (k ≡ l)
+legal-met : (t : Bool) (k l : Label) → legal_if t k ≡ Some l → (t ≡ true) × (k ≡ l)
 legal-met true k l e = (refl, cc)
 legal-met false k l e = let z : ◌≡◌ {A = ℕ} 0 1 = cc in absurd (omega arith)
 
@@ -108,7 +107,7 @@ as_page page rest k l w h t len =
     (e ∙ ap (λ (x : List ℕ). text ++ x) (zero_only rest r.1 ∙ ap (λ (x : ℕ). replicate x 0) m), ap within_limits (sym h) ∙ r.0)
 
 -- a page that decodes is the encoding of what it decodes to: a label has exactly one page, and everything else is refused
-pub label_only : (page : List ℕ) (l : Label) → decode_label page ≡ Legal l → length page ≡ 4096 → (page ≡ encode_label l) × (within_limits l ≡ true)
+pub label_only : (page : List ℕ) (l : Label) → decode_label page ≡ Some l → length page ≡ 4096 → (page ≡ encode_label l) × (within_limits l ≡ true)
 unfolding decode_label
 label_only page l e len =
     let a = bytes-met (after cache_line page) _ l e in

@@ -1,16 +1,17 @@
 -- Ranges of zero bytes.
-use Prim.Native.Nat.{ℕ, zero, suc, ◌+◌, ◌-◌, ◌≤◌, ◌<◌}
-use mathlib.Core.Path.{◌≡◌, refl, ap}
-use mathlib.Core.Bool.{true, ◌&&◌}
+use Prim.Native.Nat.{ℕ, zero, suc, ◌+◌, ◌-◌, ◌≤◌, ◌<◌, min}
+use mathlib.Core.Path.{◌≡◌, refl, sym, ap, ◌∙◌}
+use mathlib.Core.Bool.{Bool, true, ◌&&◌}
 use mathlib.Core.List.{List, [], ◌∷◌}
 use native.Mathlib.Omega.{arith}
 use lib.ListN.{length, get_or, take, drop, replicate, length-drop}
 use lib.Seq.{take_all}
-use lib.Dec.{eqb}
-use borrow.Author.Tests.{eq-eqb, eqb-true}
+use lib.Dec.{eqb, leb}
+use borrow.Author.Tests.{eq-eqb, eqb-true, leb-true, leb-false}
+use Rattle.std.specs.List.{list_all}
 use Rattle.layout.specs.LabelPage.{all_zero}
 use Rattle.layout.specs.PageRule.{zero_test}
-use Rattle.layout.proofs.Booleans.{and_of, and_parts}
+use Rattle.layout.proofs.Booleans.{Told, told, told_true, told_false, and_of, and_parts}
 use Rattle.layout.proofs.Loops.{left}
 
 -- zeros are all zero, and nothing else is
@@ -54,3 +55,22 @@ zero_done l i to h = let e : to - i ≡ 0 = omega arith in rw e
 pub zero_to_end : (l : List ℕ) (at : ℕ) → zero_test at (length l) l ≡ all_zero (drop at l)
 unfolding zero_test
 zero_to_end l at = ap all_zero (take_all (length l - at) (drop at l) (simp length-drop (omega arith)))
+
+-- the library's test of each element
+pub zeros_all : (bytes : List ℕ) → all_zero bytes ≡ list_all (λ b. eqb b 0) bytes
+unfolding all_zero
+zeros_all [] = refl
+zeros_all (b ∷ bytes) = ap (λ (t : Bool). eqb b 0 && t) (zeros_all bytes)
+
+-- a range as the code takes it, which begins at `to` where `from` lies past it
+pub zeros_in : (l : List ℕ) (from to m : ℕ) → m ≡ min from to → list_all (λ b. eqb b 0) (take (to - m) (drop m l)) ≡ zero_test from to l
+unfolding zero_test
+zeros_in l from to m e = sym (zeros_all (take (to - m) (drop m l))) ∙ go (told (leb from to))
+  where
+    go : Told (leb from to) → all_zero (take (to - m) (drop m l)) ≡ all_zero (take (to - from) (drop from l))
+    go (told_true h) = let k : from ≤ to = leb-true _ _ h in let s : m ≡ from = omega arith in rw s
+    go (told_false h) =
+        let k : to < from = leb-false _ _ h in
+        let s : to - m ≡ 0 = omega arith in
+        let z : to - from ≡ 0 = omega arith in
+        rw (s, z)

@@ -1,10 +1,8 @@
 -- The label page (document 01, "Label").
 use Rattle.std.specs.Prelude.{ℕ, zero, suc, ◌+◌, ◌-◌, ◌*◌, ◌/◌, ◌%◌, Bool, true, false, ◌&&◌, List, [], ◌∷◌, ◌++◌, eqb, ltb, leb}
-use Rattle.std.proofs.Math.Option.{Option, some, none}
+use Rattle.std.specs.Prelude.{Option, Some, None}
 use Rattle.pages.specs.Pages.{padded}
 use Rattle.layout.specs.declared.Label.{Label}
-use Rattle.layout.specs.declared.LabelRead.{LabelRead}
-use Rattle.layout.specs.declared.LabelRead.TheVariants.{Legal, Illegal}
 use Rattle.layout.specs.Places.{label_of, within_limits}
 
 -- "the lines `cache=lufuw`, `layout=1`, `slots=N`, `blocks=N`, each ended by byte 10"
@@ -42,9 +40,9 @@ encode_label l = padded 4096 (label_text l)
 
 -- the bytes after the text, if they begin with it
 unfoldable pub after : List ℕ → List ℕ → Option (List ℕ)
-after [] bytes = some bytes
-after (t ∷ text) [] = none
-after (t ∷ text) (b ∷ bytes) = elim (eqb t b) [ true ↦ after text bytes | false ↦ none ]
+after [] bytes = Some bytes
+after (t ∷ text) [] = None
+after (t ∷ text) (b ∷ bytes) = elim (eqb t b) [ true ↦ after text bytes | false ↦ None ]
 
 -- a number that was read, and the bytes after its line
 pub record Number : Type 0 where
@@ -53,38 +51,38 @@ pub record Number : Type 0 where
 
 -- up to k digits more, then byte 10
 unfoldable pub number_from : ℕ → ℕ → List ℕ → Option Number
-number_from k n [] = none
-number_from zero n (b ∷ bytes) = elim (eqb b 10) [ true ↦ some (record { value = n; rest = bytes }) | false ↦ none ]
+number_from k n [] = None
+number_from zero n (b ∷ bytes) = elim (eqb b 10) [ true ↦ Some (record { value = n; rest = bytes }) | false ↦ None ]
 number_from (suc k) n (b ∷ bytes) =
     elim (eqb b 10) [
-      | true ↦ some (record { value = n; rest = bytes })
-      | false ↦ elim (leb 48 b && leb b 57) [ true ↦ number_from k (10 * n + (b - 48)) bytes | false ↦ none ]
+      | true ↦ Some (record { value = n; rest = bytes })
+      | false ↦ elim (leb 48 b && leb b 57) [ true ↦ number_from k (10 * n + (b - 48)) bytes | false ↦ None ]
     ]
 
 -- a first digit from 1 to 9, then up to 7 more
 unfoldable pub number : List ℕ → Option Number
-number [] = none
-number (b ∷ bytes) = elim (leb 49 b && leb b 57) [ true ↦ number_from 7 (b - 48) bytes | false ↦ none ]
+number [] = None
+number (b ∷ bytes) = elim (leb 49 b && leb b 57) [ true ↦ number_from 7 (b - 48) bytes | false ↦ None ]
 
 unfoldable pub all_zero : List ℕ → Bool
 all_zero [] = true
 all_zero (b ∷ bytes) = eqb b 0 && all_zero bytes
 
-abbrev pub then_bytes : Option (List ℕ) → (List ℕ → LabelRead) → LabelRead
-then_bytes none f = Illegal
-then_bytes (some bytes) f = f bytes
+abbrev pub then_bytes : Option (List ℕ) → (List ℕ → Option Label) → Option Label
+then_bytes None f = None
+then_bytes (Some bytes) f = f bytes
 
-abbrev pub then_number : Option Number → (ℕ → List ℕ → LabelRead) → LabelRead
-then_number none f = Illegal
-then_number (some n) f = f n.value n.rest
+abbrev pub then_number : Option Number → (ℕ → List ℕ → Option Label) → Option Label
+then_number None f = None
+then_number (Some n) f = f n.value n.rest
 
 -- "within the limits, then zero bytes to the page's end"
-abbrev pub legal_if : Bool → Label → LabelRead
-legal_if true l = Legal l
-legal_if false l = Illegal
+abbrev pub legal_if : Bool → Label → Option Label
+legal_if true l = Some l
+legal_if false l = None
 
 -- the label that a page is, if it is one
-unfoldable pub decode_label : List ℕ → LabelRead
+unfoldable pub decode_label : List ℕ → Option Label
 decode_label page =
     then_bytes (after cache_line page) λ bytes.
     then_bytes (after layout_line bytes) λ bytes.

@@ -15,19 +15,7 @@ pub fn label(slots: u32, blocks: u32) -> Label
 pub fn within_limits(l: Label) -> bool
     ensures { result ≡ within_limits l }
 {
-    if l.slots < 1 {
-        return false;
-    }
-    if 57600 < l.slots {
-        return false;
-    }
-    if l.blocks < 1 {
-        return false;
-    }
-    if 16777216 < l.blocks {
-        return false;
-    }
-    true
+    1 <= l.slots && l.slots <= 57600 && 1 <= l.blocks && l.blocks <= 16777216
 }
 
 // The number of metadata pages, M.

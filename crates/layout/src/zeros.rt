@@ -7,12 +7,5 @@ pub fn all_zero(bytes: &[u8], from: usize, to: usize) -> bool
     requires { to ≤ length bytes.now }
     ensures { result ≡ zero_test from to bytes.now }
 {
-    let mut i = from;
-    while i < to {
-        if bytes[i] != 0 {
-            return false;
-        }
-        i += 1;
-    }
-    true
+    bytes[from.min(to)..to].iter().all(|b| *b == 0)
 }

@@ -11,8 +11,7 @@ use borrow.Author.Tests.{eq-eqb, eqb-true, le-leb}
 use Rattle.layout.specs.declared.Slot.{Slot}
 use Rattle.layout.specs.declared.Entry.{Entry}
 use Rattle.layout.specs.declared.Label.{Label}
-use Rattle.layout.specs.declared.LabelRead.{LabelRead}
-use Rattle.layout.specs.declared.LabelRead.TheVariants.{Legal, Illegal}
+use Rattle.std.specs.Prelude.{Option, Some, None}
 use Rattle.layout.specs.Places.{ssd_length}
 use Rattle.layout.specs.LabelPage.{decimal}
 use Rattle.layout.proofs.Booleans.{Told, told, told_true, told_false, clash}
@@ -61,7 +60,7 @@ entry_none s e a q = omega (arith, ap length q)
 -- what becomes of an image: both refuse with the same number, or both read the same pages
 data Verdict (ssd : List ℕ) (r : Result) : Type 0 where
   refuses : (n : ℕ) → n < 10 → listing_of ssd ≡ refusal_text n → r.said ≡ refusal n → Verdict ssd r
-  lists : (l : Label) → label_if ssd ≡ Legal l → image_text l (metas_of l ssd) (newest_of (metas_of l ssd)) ≡ listing_of ssd
+  lists : (l : Label) → label_if ssd ≡ Some l → image_text l (metas_of l ssd) (newest_of (metas_of l ssd)) ≡ listing_of ssd
       → refused r.said ≡ false → r.table ≡ (recover l (metas_of l ssd) (spent_stamp l ssd)).table → Verdict ssd r
 
 module _ (ssd hdd table : List ℕ) (state : Record) (b : Beside ssd hdd table) where
@@ -69,13 +68,13 @@ module _ (ssd hdd table : List ℕ) (state : Record) (b : Beside ssd hdd table) 
   result = reopen_of ssd hdd table state
 
   -- number 4 of the reopening, by the SSD's length alone
-  by_length : (l : Label) → label_if ssd ≡ Legal l → (t : Bool) → eqb (length ssd) (ssd_length l) ≡ t
+  by_length : (l : Label) → label_if ssd ≡ Some l → (t : Bool) → eqb (length ssd) (ssd_length l) ≡ t
       → lengths_test l (length ssd) (length hdd) (length table) ≡ t
   unfolding lengths_test
   by_length l e true h = rw (h, eq-eqb _ _ (b.sizes l e).0, eq-eqb _ _ (b.sizes l e).1)
   by_length l e false h = rw h
 
-  measured : (l : Label) → label_if ssd ≡ Legal l → eqb (length ssd) (ssd_length l) ≡ true → Told (pages_test l (metas_of l ssd)) → Verdict ssd result
+  measured : (l : Label) → label_if ssd ≡ Some l → eqb (length ssd) (ssd_length l) ≡ true → Told (pages_test l (metas_of l ssd)) → Verdict ssd result
   measured l e h (told_false q) =
       refuses 5 (omega arith) (sym (bad_pages ssd l e h (le-leb _ _ b.short) q))
       (sym (ap (λ (r : Result). r.said) (reopens.bad_pages ssd hdd table state l e (by_length l e true h) q)))
@@ -83,7 +82,7 @@ module _ (ssd hdd table : List ℕ) (state : Record) (b : Beside ssd hdd table) 
       let r = reopens.taken ssd hdd table state l e (by_length l e true h) (recover l (metas_of l ssd) (spent_stamp l ssd)) q refl in
       lists l e (listed_as ssd l e h (le-leb _ _ b.short) q) (ap (λ (x : Result). refused x.said) (sym r)) (ap (λ (x : Result). x.table) (sym r))
 
-  labelled : (l : Label) → label_if ssd ≡ Legal l → Told (eqb (length ssd) (ssd_length l)) → Verdict ssd result
+  labelled : (l : Label) → label_if ssd ≡ Some l → Told (eqb (length ssd) (ssd_length l)) → Verdict ssd result
   labelled l e (told_true h) = measured l e h (told _)
   labelled l e (told_false h) =
       refuses 4 (omega arith) (sym (wrong_length_is ssd l e h))
@@ -92,9 +91,9 @@ module _ (ssd hdd table : List ℕ) (state : Record) (b : Beside ssd hdd table) 
   verdict : Verdict ssd result
   verdict = go (label_if ssd) refl
     where
-      go : (r : LabelRead) → label_if ssd ≡ r → Verdict ssd result
-      go Illegal e = refuses 2 (omega arith) (sym (unlabelled ssd e)) (sym (ap (λ (r : Result). r.said) (reopens.unlabelled ssd hdd table state e)))
-      go (Legal l) e = labelled l e (told _)
+      go : (r : Option Label) → label_if ssd ≡ r → Verdict ssd result
+      go None e = refuses 2 (omega arith) (sym (unlabelled ssd e)) (sym (ap (λ (r : Result). r.said) (reopens.unlabelled ssd hdd table state e)))
+      go (Some l) e = labelled l e (told _)
 
   -- "A refusal prints only `refused=N`"
   pub same-refusal : SameRefusal ssd result

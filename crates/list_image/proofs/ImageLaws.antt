@@ -9,8 +9,7 @@ use lib.ListN.{length}
 use lib.Dec.{eqb, leb}
 use Rattle.layout.specs.declared.Slot.{Slot}
 use Rattle.layout.specs.declared.Label.{Label}
-use Rattle.layout.specs.declared.LabelRead.{LabelRead}
-use Rattle.layout.specs.declared.LabelRead.TheVariants.{Legal, Illegal}
+use Rattle.std.specs.Prelude.{Option, Some, None}
 use Rattle.layout.specs.Places.{ssd_length}
 use Rattle.layout.proofs.PlaceLaws.{slots_within}
 use Rattle.protocol.specs.Recovery.{metas_of, entry_in, Newest, newest_of, pages_test}
@@ -43,14 +42,14 @@ few_slots l n e h = omega (arith, e, slots_within l)
 
 -- 2
 module _ (ssd : List ℕ) where
-  pub unlabelled : label_if ssd ≡ Illegal → refusal_text 2 ≡ listing_of ssd
+  pub unlabelled : label_if ssd ≡ None → refusal_text 2 ≡ listing_of ssd
   unfolding listing_of
-  unlabelled e = ap (λ (r : LabelRead). judged_text r ssd) (sym e)
+  unlabelled e = ap (λ (r : Option Label). judged_text r ssd) (sym e)
 
-  module _ (l : Label) (e : label_if ssd ≡ Legal l) where
-    labelled : judged_text (Legal l) ssd ≡ listing_of ssd
+  module _ (l : Label) (e : label_if ssd ≡ Some l) where
+    labelled : judged_text (Some l) ssd ≡ listing_of ssd
     unfolding listing_of
-    labelled = ap (λ (r : LabelRead). judged_text r ssd) (sym e)
+    labelled = ap (λ (r : Option Label). judged_text r ssd) (sym e)
 
     -- 4
     pub wrong_length_is : eqb (length ssd) (ssd_length l) ≡ false → refusal_text 4 ≡ listing_of ssd

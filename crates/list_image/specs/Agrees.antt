@@ -3,7 +3,7 @@ use Rattle.std.specs.Prelude.{ℕ, ◌≤◌, ◌<◌, ◌≡◌, Bool, true, fa
 use Rattle.layout.specs.declared.Slot.{Slot}
 use Rattle.layout.specs.declared.Entry.{Entry}
 use Rattle.layout.specs.declared.Label.{Label}
-use Rattle.layout.specs.declared.LabelRead.TheVariants.{Legal}
+use Rattle.std.specs.Prelude.{Some}
 use Rattle.layout.specs.Places.{hdd_length, table_length}
 use Rattle.protocol.specs.Reply.{refusal}
 use Rattle.protocol.specs.Rows.{row_block, row_flags, valid}
@@ -17,7 +17,7 @@ use Rattle.list_image.specs.Listing.{line_of, image_text, listing_of}
 -- an SSD image of at most 64 KiB, with an HDD and a table of the label's lengths, where it has a label
 pub record Beside (ssd hdd table : List ℕ) : Type 0 where
   pub short : length ssd ≤ 65536
-  pub sizes : (l : Label) → label_if ssd ≡ Legal l → (length hdd ≡ hdd_length l) × (length table ≡ table_length l)
+  pub sizes : (l : Label) → label_if ssd ≡ Some l → (length hdd ≡ hdd_length l) × (length table ≡ table_length l)
 
 -- the listing says `refused=n` exactly if the reopening refuses with n
 pub record SameRefusal (ssd : List ℕ) (r : Result) : Type 0 where
@@ -35,7 +35,7 @@ pub record SameFate (line : List ℕ) (s : Slot) (e : Entry) (table : List ℕ) 
 -- the listing of an image whose reopening is taken: its text, with a line of that kind for each slot
 pub record SameFates (ssd : List ℕ) (r : Result) : Type 0 where
   pub label : Label
-  pub labelled : label_if ssd ≡ Legal label
+  pub labelled : label_if ssd ≡ Some label
   pub text : listing_of ssd ≡ image_text label (metas_of label ssd) (newest_of (metas_of label ssd))
   pub fates : (s : Slot) → s.0 < label.slots
       → SameFate (line_of (newest_of (metas_of label ssd)).window s (entry_in (metas_of label ssd) s)) s (entry_in (metas_of label ssd) s) r.table

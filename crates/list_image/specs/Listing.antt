@@ -3,8 +3,7 @@ use Rattle.std.specs.Prelude.{ℕ, zero, suc, Bool, true, false, ◌&&◌, List,
 use Rattle.layout.specs.declared.Slot.{Slot}
 use Rattle.layout.specs.declared.Label.{Label}
 use Rattle.layout.specs.declared.Entry.{Entry}
-use Rattle.layout.specs.declared.LabelRead.{LabelRead}
-use Rattle.layout.specs.declared.LabelRead.TheVariants.{Legal, Illegal}
+use Rattle.std.specs.Prelude.{Option, Some, None}
 use Rattle.layout.specs.Places.{ssd_length}
 use Rattle.layout.specs.PageRule.{listed}
 use Rattle.protocol.specs.Rows.{valid, writing}
@@ -38,9 +37,9 @@ text_if true n text = text
 text_if false n text = refusal_text n
 
 -- 2; then 4, also "for a longer input with a legal label"; then 5
-abbrev pub judged_text : LabelRead → List ℕ → List ℕ
-judged_text Illegal ssd = refusal_text 2
-judged_text (Legal l) ssd =
+abbrev pub judged_text : Option Label → List ℕ → List ℕ
+judged_text None ssd = refusal_text 2
+judged_text (Some l) ssd =
     text_if (eqb (length ssd) (ssd_length l) && leb (length ssd) 65536) 4
     (text_if (pages_test l (metas_of l ssd)) 5 (image_text l (metas_of l ssd) (newest_of (metas_of l ssd))))
 

@@ -1,6 +1,5 @@
 // The listing of an image: judged as a reopening judges it, without HDD and table; then written.
 ghost use Rattle.std.specs.Prelude.{◌≡◌, true, ◌+◌, ◌*◌, ◌≤◌, ◌<◌, length};
-ghost use Rattle.layout.specs.Window.{window_most, slots_in};
 ghost use Rattle.layout.specs.Places.{Limits, ssd_length};
 ghost use Rattle.protocol.specs.Recovery.{metas_of, newest_of, pages_test};
 ghost use Rattle.fields.specs.Written.{Written, text_of};
@@ -8,30 +7,26 @@ ghost use Rattle.list_image.specs.Listing.{lines_of, image_text, listing_of};
 
 use crate::lines;
 use fields::Text;
-use layout::{Label, LabelRead, Slot, Window, places};
+use layout::{Label, Slot, places};
 use stored::image;
 
 // A line for each valid entry.
-fn put_lines(page: &mut [u8], at: usize, ssd: &[u8], l: Label, w: Window) -> usize
+fn put_lines(page: &mut [u8], at: usize, ssd: &[u8], l: Label, pending: &[Slot]) -> usize
     requires slots_in_bounds { at + 63 * l.slots ≤ length page.old }
     requires ssd_len { length ssd.now ≡ ssd_length l }
-    requires count_le_window_most { w.count ≤ window_most }
-    ensures { Written page.old page.new at result (63 * l.slots) (lines_of (slots_in w) (metas_of l ssd.now) l.slots) }
+    ensures { Written page.old page.new at result (63 * l.slots) (lines_of pending.now (metas_of l ssd.now) l.slots) }
 {
     let slots = l.slots;
     let mut end = at;
-    let mut s: u32 = 0;
-    while s < slots {
+    for s in 0..slots {
         let entry = image::entry_of(ssd, l, Slot(s));
-        end = lines::put_line(page, end, Slot(s), entry, w);
-        s += 1;
+        end = lines::put_line(page, end, Slot(s), entry, pending);
     }
     end
 }
 
 // The text of an image that keeps every rule.
-fn put_image(page: &mut [u8], ssd: &[u8], l: Label) -> usize
-    requires page_len { length page.old ≡ 4096 }
+fn put_image(page: &mut [u8; 4096], ssd: &[u8], l: Label) -> usize
     requires ssd_len { (length ssd.now ≡ ssd_length l) × (length ssd.now ≤ 65536) }
     requires limits { Limits l }
     requires ssd_value { pages_test l (metas_of l ssd.now) ≡ true }
@@ -40,15 +35,14 @@ fn put_image(page: &mut [u8], ssd: &[u8], l: Label) -> usize
     let found = image::newest(ssd, l);
     let pending = image::pending(ssd, l, found.at);
     let at = list_text::put_head(page, l, found.stamp, pending.count);
-    put_lines(page, at, ssd, l, pending)
+    put_lines(page, at, ssd, l, pending.slots())
 }
 
 // The listing of an image, or its refusal: 2, then 4, then 5.
-fn put_listing(page: &mut [u8], ssd: &[u8]) -> usize
-    requires { length page.old ≡ 4096 }
+fn put_listing(page: &mut [u8; 4096], ssd: &[u8]) -> usize
     ensures { Written page.old page.new 0 result 4096 (listing_of ssd.now) }
 {
-    let LabelRead::Legal(l) = image::label_of(ssd) else {
+    let Some(l) = image::label_of(ssd) else {
         return fields::put_refusal(page, 2);
     };
     if ssd.len() != places::ssd_length(l) {

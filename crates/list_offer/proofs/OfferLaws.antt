@@ -1,10 +1,10 @@
 -- What a list leaves that is offered, once it was run in memory: refused, the first block's offer alone, or one store for all.
-use Prim.Native.Nat.{ℕ, zero, suc, ◌-◌, ◌<◌}
+use Prim.Native.Nat.{ℕ, zero, suc, ◌<◌}
 use mathlib.Core.Path.{◌≡◌, refl, sym, ap, subst, ◌∙◌}
 use mathlib.Core.Logic.{◌≢◌}
 use mathlib.Core.Bool.{Bool, true, false, not, ◌&&◌, ◌||◌}
 use mathlib.Core.List.{List, [], ◌∷◌}
-use mathlib.Core.Option.{Option, some, none}
+use Rattle.std.specs.Prelude.{Option, Some, None, Result}
 use native.Mathlib.Omega.{arith}
 use lib.ListN.{length}
 use lib.Dec.{leb}
@@ -24,7 +24,9 @@ use Rattle.protocol.specs.Box.{Box, Effect, refusing, left}
 use Rattle.protocol.specs.Condition.{condition_of, is_open, takes_write}
 use Rattle.protocol.specs.Plan.{Call, Move, offer, offer_list, stay, import_open, offering, Offered, not_yet, offered_box, declines, placed_as, placed, offers_from, announcing, together, first_block, plan, stores_meta}
 use Rattle.protocol.specs.Perform.{confirmed, perform}
-use Rattle.protocol.specs.Judge.{Reason, block_too_high, slot_open, import_full, window_full, all_open, stamps_spent, test, first_of, judged}
+use Rattle.protocol.specs.declared.Refusal.{Refusal}
+use Rattle.protocol.specs.declared.Refusal.TheVariants.{BlockTooHigh, SlotOpen, ImportFull, WindowFull, AllOpen, StampsSpent}
+use Rattle.protocol.specs.Judge.{number_of, test, first_of, judged}
 use Rattle.protocol.specs.Calls.{decided, effect_of, result_of, box_of}
 use Rattle.laws.proofs.Judged.{first_yes, first_no, refused_as, performs}
 use Rattle.laws.proofs.OfferLists.{both}
@@ -36,7 +38,6 @@ use Rattle.turns.specs.declared.turn.Turn.{Turn}
 use Rattle.turns.specs.Turns.{crowd_of, turned, spent}
 use Rattle.performing.proofs.PerformLaws.{offer_turned}
 use Rattle.list_run.specs.declared.Run.{Run}
-use Rattle.list_turns.specs.PlaceTurns.{page_of}
 use Rattle.list_run.specs.Runs.{Fair, bare, place_turn, offered_by, offered_as, announces_any, refused13, Ended}
 use Rattle.scan_rule.proofs.ScanLaws.{scans}
 use Rattle.list_run.proofs.RunLaws.{offers_ends}
@@ -57,36 +58,36 @@ module _ (ssd hdd t : List ℕ) (r : Record) (caller : ℕ) where
   unfolding offers_from placed
   offers_bare [] z = refl
   offers_bare (b ∷ blocks) z =
-      ap (λ (o : Option Offered). elim o [ none ↦ z | some y ↦ offers_from (box_of ssd hdd t r) caller y blocks ])
+      ap (λ (o : Option Offered). elim o [ None ↦ z | Some y ↦ offers_from (box_of ssd hdd t r) caller y blocks ])
       (same_place (record { 0 = b }) z z (condition_of z.table (record { 0 = b })))
       ∙ go (placed (offered_box (bare t r) z) caller z (record { 0 = b })) (offers_bare blocks)
     where
       go : (o : Option Offered) → ((y : Offered) → offers_from (box_of ssd hdd t r) caller y blocks ≡ offers_from (bare t r) caller y blocks)
-          → ◌≡◌ {A = Offered} (elim o [ none ↦ z | some y ↦ offers_from (box_of ssd hdd t r) caller y blocks ])
-          (elim o [ none ↦ z | some y ↦ offers_from (bare t r) caller y blocks ])
-      go none ih = refl
-      go (some y) ih = ih y
+          → ◌≡◌ {A = Offered} (elim o [ None ↦ z | Some y ↦ offers_from (box_of ssd hdd t r) caller y blocks ])
+          (elim o [ None ↦ z | Some y ↦ offers_from (bare t r) caller y blocks ])
+      go None ih = refl
+      go (Some y) ih = ih y
 
 -- two calls with the same tests and the same plan do the same
-module _ (h g : Reason → Bool) where
-  abbrev Agree : List Reason → Type 0
+module _ (h g : Refusal → Bool) where
+  abbrev Agree : List Refusal → Type 0
   Agree [] = Unit {0}
   Agree (q ∷ qs) = (h q ≡ g q) × Agree qs
 
-  first-same : (qs : List Reason) → Agree qs → first_of qs h ≡ first_of qs g
+  first-same : (qs : List Refusal) → Agree qs → first_of qs h ≡ first_of qs g
   unfolding first_of
   first-same [] a = refl
   first-same (q ∷ qs) a =
-      ap (λ (b : Bool). elim b [ true ↦ some q | false ↦ first_of qs h ]) a.0 ∙ go (g q) (first-same qs a.1)
+      ap (λ (b : Bool). elim b [ true ↦ Some q | false ↦ first_of qs h ]) a.0 ∙ go (g q) (first-same qs a.1)
     where
       go : (b : Bool) → first_of qs h ≡ first_of qs g
-          → ◌≡◌ {A = Option Reason} (elim b [ true ↦ some q | false ↦ first_of qs h ]) (elim b [ true ↦ some q | false ↦ first_of qs g ])
+          → ◌≡◌ {A = Option Refusal} (elim b [ true ↦ Some q | false ↦ first_of qs h ]) (elim b [ true ↦ Some q | false ↦ first_of qs g ])
       go true e = refl
       go false e = e
 
-decided-same : (c d : Call) (x : Box) → plan c x ≡ plan d x → (o : Option Reason) → decided o c x ≡ decided o d x
-decided-same c d x e (some q) = refl
-decided-same c d x e none = ap (λ (m : Move). perform m x) e
+decided-same : (c d : Call) (x : Box) → plan c x ≡ plan d x → (o : Option Refusal) → decided o c x ≡ decided o d x
+decided-same c d x e (Some q) = refl
+decided-same c d x e None = ap (λ (m : Move). perform m x) e
 
 module _ (ssd hdd t : List ℕ) (r : Record) (blocks : List ℕ) (caller : ℕ) where
   abbrev x : Box
@@ -101,21 +102,21 @@ module _ (ssd hdd t : List ℕ) (r : Record) (blocks : List ℕ) (caller : ℕ) 
   abbrev z : Offered
   z = offers_from x caller (not_yet x) blocks
 
-  pub offers_unready : (m : ℕ) → m ≡ ready_then (length ssd) (length hdd) 4096 t r 0 → m ≢ 0 → left (refusing m x) x.images ≡ result_of c x
-  offers_unready m e n = refused_by c x _ _ (offers_begin ssd hdd t r blocks caller) m e n
+  pub offers_unready : (e : Refusal) → ready_then (length ssd) (length hdd) 4096 t r None ≡ Some e → left (refusing (number_of e) x) x.images ≡ result_of c x
+  offers_unready e q = refused_by c x _ _ (offers_begin ssd hdd t r blocks caller) e q
 
-  module _ (ready : ready_then (length ssd) (length hdd) 4096 t r 0 ≡ 0) where
-    on : (rest : ℕ) → ready_then (length ssd) (length hdd) 4096 t r rest ≡ rest
+  module _ (ready : ready_then (length ssd) (length hdd) 4096 t r None ≡ None) where
+    on : (rest : Option Refusal) → ready_then (length ssd) (length hdd) 4096 t r rest ≡ rest
     on = goes_on (ready_asks (length ssd) (length hdd) 4096 t r) ready
 
-    pub offers_refused : (m : ℕ) → m ≡ scan_then blocks caller 0 → m ≢ 0 → left (refusing m x) x.images ≡ result_of c x
-    offers_refused m e n = refused_by c x _ _ (offers_judges ssd hdd t r blocks caller) m (e ∙ sym (on _)) n
+    pub offers_refused : (e : Refusal) → scan_then blocks caller None ≡ Some e → left (refusing (number_of e) x) x.images ≡ result_of c x
+    offers_refused e q = refused_by c x _ _ (offers_judges ssd hdd t r blocks caller) e (on _ ∙ q)
 
-    module _ (listed : scan_then blocks caller 0 ≡ 0) (F : Fair t r) where
-      asked : judged c x ≡ first_of (block_too_high ∷ slot_open ∷ import_full ∷ window_full ∷ all_open ∷ stamps_spent ∷ []) (λ q. test q c x)
+    module _ (listed : scan_then blocks caller None ≡ None) (F : Fair t r) where
+      asked : judged c x ≡ first_of (BlockTooHigh ∷ SlotOpen ∷ ImportFull ∷ WindowFull ∷ AllOpen ∷ StampsSpent ∷ []) (λ q. test q c x)
       asked = judged_on c x _ _ (offers_judges ssd hdd t r blocks caller) (on _ ∙ listed)
 
-      serves : b.0 < r.label.blocks → serves_then (length ssd) (length hdd) 4096 t r b caller 0 ≡ 0
+      serves : b.0 < r.label.blocks → serves_then (length ssd) (length hdd) 4096 t r b caller None ≡ None
       serves h = on _ ∙ rw (le-ltb 1 caller (scans blocks caller listed).known, lt-leb r.label.blocks b.0 h)
 
       -- no place was dealt with: the first block's offer
@@ -127,9 +128,9 @@ module _ (ssd hdd t : List ℕ) (r : Record) (blocks : List ℕ) (caller : ℕ) 
         low_same : b.0 < r.label.blocks → effect_of c x ≡ effect_of (offer b caller) x
         unfolding effect_of test
         low_same low =
-            ap (λ (o : Option Reason). decided o c x)
-            (asked ∙ first_no _ block_too_high _ (lt-leb r.label.blocks b.0 low)
-            ∙ first-same (λ q. test q c x) (λ q. test q (offer b caller) x) (slot_open ∷ import_full ∷ window_full ∷ all_open ∷ stamps_spent ∷ [])
+            ap (λ (o : Option Refusal). decided o c x)
+            (asked ∙ first_no _ BlockTooHigh _ (lt-leb r.label.blocks b.0 low)
+            ∙ first-same (λ q. test q c x) (λ q. test q (offer b caller) x) (SlotOpen ∷ ImportFull ∷ WindowFull ∷ AllOpen ∷ StampsSpent ∷ [])
             (refl, (refl, (refl, (refl, (ap (λ (m : Move). stores_meta m && leb (opening_bound (label_in r)) r.newest) plan_is, tt)))))
             ∙ sym (judged_on (offer b caller) x _ _ (offer_judges ssd hdd t r b caller) (serves low)))
             ∙ decided-same c (offer b caller) x plan_is (judged (offer b caller) x)
@@ -138,13 +139,13 @@ module _ (ssd hdd t : List ℕ) (r : Record) (blocks : List ℕ) (caller : ℕ) 
         unfolding test
         offers_alone = go (told (leb r.label.blocks b.0))
           where
-            at : {T : Turn} → T ≡ place_turn t r b caller → left (turned T b caller x) x.images ≡ result_of c x
+            at : {T : Result Turn Refusal} → T ≡ place_turn t r b caller → left (turned T b caller x) x.images ≡ result_of c x
                 → left (turned (place_turn t r b caller) b caller x) x.images ≡ result_of c x
-            at e p = ap (λ (T : Turn). left (turned T b caller x) x.images) (sym e) ∙ p
+            at e p = ap (λ (T : Result Turn Refusal). left (turned T b caller x) x.images) (sym e) ∙ p
 
             go : Told (leb r.label.blocks b.0) → left (turned (place_turn t r b caller) b caller x) x.images ≡ result_of c x
             go (told_true e) = at (turn_high (label_in r) t r.hand (crowd_of t r caller) b (leb-true _ _ e))
-                (refused_as c x block_too_high (asked ∙ first_yes _ block_too_high _ e))
+                (refused_as c x BlockTooHigh (asked ∙ first_yes _ BlockTooHigh _ e))
             go (told_false e) = at (turn_low (label_in r) t r.hand (crowd_of t r caller) b (leb-false _ _ e))
                 (ap (λ (f : Effect). left f x.images) (sym (offer_turned ssd hdd t r b caller (serves (leb-false _ _ e))) ∙ sym (low_same (leb-false _ _ e))))
 
@@ -176,16 +177,16 @@ module _ (ssd hdd t : List ℕ) (r : Record) (blocks : List ℕ) (caller : ℕ) 
             go zero q = absurd (omega arith)
             go (suc m) q = refl
 
-        stores_is : (p : Option ℕ) → stores_meta (announcing p z) ≡ elim p [ none ↦ false | some q ↦ true ]
-        stores_is none = refl
-        stores_is (some p) = refl
+        stores_is : (p : Option ℕ) → stores_meta (announcing p z) ≡ elim p [ None ↦ false | Some q ↦ true ]
+        stores_is None = refl
+        stores_is (Some p) = refl
 
-        spends_is : test stamps_spent c x ≡ (announces_any z && spent (label_in r) r.newest)
+        spends_is : test StampsSpent c x ≡ (announces_any z && spent (label_in r) r.newest)
         unfolding test
         spends_is = ap (λ (m : Move). stores_meta m && spent (label_in r) r.newest) moves_as
             ∙ ap (λ (d : Bool). d && spent (label_in r) r.newest) (stores_is z.page)
 
-        last : judged c x ≡ first_of (stamps_spent ∷ []) (λ q. test q c x)
+        last : judged c x ≡ first_of (StampsSpent ∷ []) (λ q. test q c x)
         unfolding test
         last =
             let k = condition_of t b in
@@ -193,18 +194,18 @@ module _ (ssd hdd t : List ℕ) (r : Record) (blocks : List ℕ) (caller : ℕ) 
             let u = or_neither (is_open k) _ q.1 in
             let v = or_neither (not (takes_write k) && (import_open caller r || leb 63 (open_rows t))) _ u.1 in
             let w = both (not (takes_write k)) (import_open caller r) (leb 63 (open_rows t)) v.0 in
-            asked ∙ first_no _ block_too_high _ q.0 ∙ first_no _ slot_open _ u.0 ∙ first_no _ import_full _ w.0
-            ∙ first_no _ window_full _ w.1 ∙ first_no _ all_open _ v.1
+            asked ∙ first_no _ BlockTooHigh _ q.0 ∙ first_no _ SlotOpen _ u.0 ∙ first_no _ ImportFull _ w.0
+            ∙ first_no _ WindowFull _ w.1 ∙ first_no _ AllOpen _ v.1
 
         judged_as : (announces_any z && spent (label_in r) r.newest) ≡ refused13 t r blocks caller
         judged_as = ap (λ (y : Offered). announces_any y && spent (label_in r) r.newest) (offers_bare ssd hdd t r caller blocks (not_yet x))
 
         offers_spent : refused13 t r blocks caller ≡ true → left (refusing 13 x) x.images ≡ result_of c x
-        offers_spent e = refused_as c x stamps_spent
-            (last ∙ first_yes _ stamps_spent _ (spends_is ∙ judged_as ∙ e))
+        offers_spent e = refused_as c x StampsSpent
+            (last ∙ first_yes _ StampsSpent _ (spends_is ∙ judged_as ∙ e))
 
         goes_out : refused13 t r blocks caller ≡ false → left (perform (announcing z.page z) x) x.images ≡ result_of c x
-        goes_out e = performs c x _ (last ∙ first_no _ stamps_spent _ (spends_is ∙ judged_as ∙ e) ∙ end _) moves_as
+        goes_out e = performs c x _ (last ∙ first_no _ StampsSpent _ (spends_is ∙ judged_as ∙ e) ∙ end _) moves_as
 
       pub spent-leaves : refused13 t r blocks caller ≡ true → 0 < (offered_as t r blocks caller).places → left (refusing 13 x) x.images ≡ result_of c x
       spent-leaves e n = offers_spent (omega (arith, n, ap (λ (y : Offered). y.places) (offers_bare ssd hdd t r caller blocks (not_yet x)))) e
@@ -222,47 +223,19 @@ module _ (ssd hdd t : List ℕ) (r : Record) (blocks : List ℕ) (caller : ℕ) 
             ∙ offers_alone (sym (ap (λ (y : Offered). y.places) whole) ∙ n)
 
         module _ (n : q.places ≢ 0) (e : refused13 t r blocks caller ≡ false) where
-          gone : {p : ℕ} → q.page ≡ p → left (perform (announcing (page_of p) (offered_by v q)) x) x.images ≡ result_of c x
+          gone : {o : Option ℕ} → q.page ≡ o → left (perform (announcing o (offered_by v q)) x) x.images ≡ result_of c x
           gone k =
-              ap (λ (m : ℕ). left (perform (announcing (page_of m) (offered_by v q)) x) x.images) (sym k)
+              ap (λ (o : Option ℕ). left (perform (announcing o (offered_by v q)) x) x.images) (sym k)
               ∙ ap (λ (y : Offered). left (perform (announcing y.page y) x) x.images) whole
               ∙ goes_out (omega (arith, n, ap (λ (y : Offered). y.places) whole)) e
 
-          pub passed-leaves : q.page ≡ 0 → left (perform (stay (dealt q.places)) (box_of ssd hdd v r)) x.images ≡ result_of c x
+          pub passed-leaves : q.page ≡ None → left (perform (stay (dealt q.places)) (box_of ssd hdd v r)) x.images ≡ result_of c x
           passed-leaves k =
               ap (λ (w : List ℕ). left (perform (stay (dealt q.places)) (box_of ssd hdd w r)) x.images) (E.untouched k) ∙ gone k
 
-          pub stored-leaves : q.page ≢ 0 → left (confirmed (q.page - 1) (dealt q.places) q.state v x.images.ssd)
-              x.images ≡ result_of c x
-          unfolding perform
-          stored-leaves k = go q.page refl
-            where
-              go : (p : ℕ) → q.page ≡ p → left (confirmed (q.page - 1) (dealt q.places) q.state v x.images.ssd)
-                  x.images ≡ result_of c x
-              go zero p = absurd (k p)
-              go (suc p) m =
-                  let f : q.page - 1 ≡ p = omega arith in
-                  ap (λ (i : ℕ). left (confirmed i (dealt q.places) q.state v x.images.ssd) x.images) f
-                  ∙ ap (λ (s : Record). left (confirmed p (dealt q.places) s v x.images.ssd) x.images) (sym E.state_is)
-                  ∙ gone m
-
           -- and its store is in order
-          pub stamp-left : q.page ≢ 0 → q.state.newest < largest_stamp (label_in q.state)
-          stamp-left k = go q.page refl
-            where
-              go : (p : ℕ) → q.page ≡ p → q.state.newest < largest_stamp (label_in q.state)
-              go zero p = absurd (k p)
-              go (suc p) m =
-                  let s : spent (label_in r) r.newest ≡ false =
-                  ap (λ (i : ℕ). elim (page_of i) [ none ↦ false | some j ↦ true ] && spent (label_in r) r.newest) (sym m)
-                  ∙ ap (λ (y : Offered). announces_any y && spent (label_in r) r.newest) E.offered ∙ e in
-                  subst (λ (s : Record). s.newest < largest_stamp (label_in s)) E.state_is (omega (arith, leb-false _ r.newest s))
-
           label_is : label_in q.state ≡ label_in r
           label_is = sym (ap label_in E.state_is)
-
-          pub page_fits : q.page ≢ 0 → q.page - 1 < meta_pages (label_in q.state)
-          page_fits k = rw label_is (omega (arith, k, E.page-low))
 
           pub state_fits : FitsRecord (length ssd) (length t) r → FitsRecord (length ssd) (length v) q.state
           state_fits T = record {
@@ -271,3 +244,18 @@ module _ (ssd hdd t : List ℕ) (r : Record) (blocks : List ℕ) (caller : ℕ) 
             slots-most = rw label_is T.slots-most;
             window_most_is = (parts q.state E.fair.record_kept).most;
           }
+
+          module _ (p : ℕ) (k : q.page ≡ Some p) where
+            pub stored-leaves : left (confirmed p (dealt q.places) q.state v x.images.ssd) x.images ≡ result_of c x
+            unfolding perform
+            stored-leaves = ap (λ (s : Record). left (confirmed p (dealt q.places) s v x.images.ssd) x.images) (sym E.state_is) ∙ gone k
+
+            pub stamp-left : q.state.newest < largest_stamp (label_in q.state)
+            stamp-left =
+                let s : spent (label_in r) r.newest ≡ false =
+                ap (λ (o : Option ℕ). elim o [ None ↦ false | Some j ↦ true ] && spent (label_in r) r.newest) (sym k)
+                ∙ ap (λ (y : Offered). announces_any y && spent (label_in r) r.newest) E.offered ∙ e in
+                subst (λ (s : Record). s.newest < largest_stamp (label_in s)) E.state_is (omega (arith, leb-false _ r.newest s))
+
+            pub page_fits : p < meta_pages (label_in q.state)
+            page_fits = rw label_is (E.page-low p k)

@@ -19,7 +19,7 @@ use Rattle.record.specs.Rule.{record_test}
 use Rattle.record.proofs.WindowLaws.{length-array, zero_past_lem}
 use Rattle.record.proofs.CallerLaws.{joins-test}
 use Rattle.record.proofs.RecordLaws.{parts, window-length, callers-length, callers-known}
-use Rattle.protocol.specs.Rows.{set_row, writing, open_rows}
+use Rattle.protocol.specs.Rows.{set_row, open_rows}
 use Rattle.protocol.specs.Perform.{joined}
 use Rattle.protocol.specs.Judge.{agree_test, rows_test}
 use Rattle.protocol.specs.Why.{ReadyAgree}

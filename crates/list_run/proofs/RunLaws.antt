@@ -1,28 +1,26 @@
 -- The run of a list, place after place: what is known before each, and what it leaves.
 use Prim.Native.Nat.{ℕ, zero, suc, ◌+◌, ◌≤◌, ◌<◌}
 use mathlib.Core.Path.{◌≡◌, refl, sym, ap, subst, ◌∙◌}
-use mathlib.Core.Logic.{◌≢◌}
 use mathlib.Core.Bool.{Bool, true, false, ◌&&◌}
 use mathlib.Core.List.{List, [], ◌∷◌, ◌++◌}
-use mathlib.Core.Option.{Option, some, none}
+use Rattle.std.specs.Prelude.{Option, Some, None, Result, Ok, Err}
+use Rattle.std.proofs.lemmas.Option.{none-some}
 use native.Mathlib.Omega.{arith}
-use native.Mathlib.Decide.{ℕ_discrete}
 use native.Mathlib.Numerals.{add-one}
-use lib.Dec.{eqb}
 use lib.ListN.{length, get_or, take, drop, length-append, drop_of_length-le}
 use borrow.Author.Tests.{eqb-true}
 use Rattle.layout.specs.declared.Slot.{Slot}
 use Rattle.layout.specs.declared.Block.{Block}
 use Rattle.layout.specs.Places.{meta_of, meta_pages}
 use Rattle.layout.proofs.PlaceLaws.{meta_of-low}
-use Rattle.layout.proofs.Booleans.{Told, told, told_true, told_false}
+use Rattle.layout.proofs.Booleans.{Told, told, told_true, told_false, clash}
 use Rattle.layout.proofs.Loops.{left}
 use Rattle.record.specs.declared.Record.{Record}
 use Rattle.record.specs.Callers.{open_by, caller_array}
 use Rattle.record.specs.Record.{label_in, window_in, callers_in}
 use Rattle.record.specs.Rule.{record_test}
 use Rattle.record.proofs.CallerLaws.{by_more, take-callers}
-use Rattle.record.proofs.RecordLaws.{Parts, parts, window-length, callers-length, remade-same}
+use Rattle.record.proofs.RecordLaws.{parts, window-length, callers-length, remade-same}
 use Rattle.protocol.specs.declared.Condition.{Condition}
 use Rattle.protocol.specs.Reply.{overwrite}
 use Rattle.protocol.specs.Rows.{set_row}
@@ -30,36 +28,36 @@ use Rattle.protocol.specs.Box.{Box}
 use Rattle.protocol.specs.Condition.{condition_of}
 use Rattle.protocol.specs.Plan.{Move, stay, uses, uses_all, announces, lands, copies, confirms, mends, begins, formats, recovers, grown, opens, Offered, offered_box, on_page, dealt_with, placed_as, declines, offering, placed, offers_from}
 use Rattle.protocol.specs.Perform.{joined}
+use Rattle.protocol.specs.declared.Refusal.{Refusal}
+use Rattle.protocol.specs.declared.Refusal.TheVariants.{StampsSpent}
 use Rattle.protocol.specs.Judge.{names_once}
 use Rattle.locating.specs.Places.{places_of}
 use Rattle.sweeping.specs.Sweeps.{cleared_from}
 use Rattle.turns.specs.declared.turn.Turn.{Turn}
-use Rattle.turns.specs.declared.turn.Turn.TheVariants.{Opens}
 use Rattle.turns.specs.Turns.{held_by, spent}
 use Rattle.list_run.specs.declared.Run.{Run}
 use Rattle.list_turns.specs.Found.{bound, Found}
-use Rattle.list_turns.specs.PlaceTurns.{page_of, end_of}
-use Rattle.list_run.specs.Runs.{Fair, begun, ended, passed, opened_if, row_if, run_after, table_after_turn, dealt_run, dealt_table, bare, offered_by, offered_as, announces_any, refused13, Ended, Ran}
+use Rattle.list_turns.specs.PlaceTurns.{joins, goes_on}
+use Rattle.list_run.specs.Runs.{Fair, begun, passed, opened_if, row_if, run_after, table_after_turn, place_turn, dealt_run, dealt_table, bare, offered_by, offered_as, announces_any, refused13, Ended, Ran}
 use Rattle.scan_rule.proofs.ScanLaws.{once-apart}
 use Rattle.list_turns.proofs.FoundLaws.{found_first, unheld_alike, unheld_row}
-use Rattle.list_turns.proofs.EndLaws.{end_other, end_again, end_spent, end_first}
 use Rattle.list_run.proofs.FairLaws.{fair-rows, joined-window, Opened, opened-fair}
 use Rattle.list_run.proofs.PlacedLaws.{Placing, declined, passing, opening, copying, place_turn_is}
 
 -- The page of the first slot announced stays.
 abbrev Paged : ℕ → Offered → Type 0
-Paged p z = (z.page ≡ some p) × (0 < z.places)
+Paged p z = (z.page ≡ Some p) × (0 < z.places)
 
 abbrev Stays : ℕ → Option Offered → Type 0
-Stays p none = Unit {0}
-Stays p (some y) = Paged p y
+Stays p None = Unit {0}
+Stays p (Some y) = Paged p y
 
-dealt_stays : (p : ℕ) (z : Offered) → z.page ≡ some p → (m : Move) → Stays p (dealt_with z m)
+dealt_stays : (p : ℕ) (z : Offered) → z.page ≡ Some p → (m : Move) → Stays p (dealt_with z m)
 dealt_stays p z e (stay said) = (e, omega arith)
 dealt_stays p z e (announces said q t h w cs) = go (told (on_page z.page q))
   where
-    same : on_page z.page q ≡ true → some q ≡ some p
-    same k = ap some (eqb-true q p (rw e at k))
+    same : on_page z.page q ≡ true → Some q ≡ Some p
+    same k = ap Some (eqb-true q p (rw e at k))
 
     go : Told (on_page z.page q) → Stays p (dealt_with z (announces said q t h w cs))
     go (told_true k) = rw (k, dealt_with) (same k, omega arith)
@@ -74,7 +72,7 @@ dealt_stays p z e (begins l) = tt
 dealt_stays p z e (formats d) = tt
 dealt_stays p z e recovers = tt
 
-place_stays : (p : ℕ) (z : Offered) → z.page ≡ some p → (d : Bool) (m : Move) → Stays p (placed_as d z m)
+place_stays : (p : ℕ) (z : Offered) → z.page ≡ Some p → (d : Bool) (m : Move) → Stays p (placed_as d z m)
 place_stays p z e true m = tt
 place_stays p z e false m = dealt_stays p z e m
 
@@ -94,20 +92,20 @@ page_stays x caller p (b ∷ blocks) z e =
     k = condition_of z.table c
 
     go : (o : Option Offered) → Stays p o → ((y : Offered) → Paged p y → Paged p (offers_from x caller y blocks))
-        → Paged p (elim o [ none ↦ z | some y ↦ offers_from x caller y blocks ])
-    go none s ih = e
-    go (some y) s ih = ih y s
+        → Paged p (elim o [ None ↦ z | Some y ↦ offers_from x caller y blocks ])
+    go None s ih = e
+    go (Some y) s ih = ih y s
 
 -- one place, and those after it
 module _ (x : Box) (caller : ℕ) (z : Offered) (b : ℕ) (blocks : List ℕ) where
-  pub offers_ends : placed (offered_box x z) caller z (record { 0 = b }) ≡ none → offers_from x caller z (b ∷ blocks) ≡ z
+  pub offers_ends : placed (offered_box x z) caller z (record { 0 = b }) ≡ None → offers_from x caller z (b ∷ blocks) ≡ z
   unfolding offers_from
-  offers_ends e = ap (λ (o : Option Offered). elim o [ none ↦ z | some y ↦ offers_from x caller y blocks ]) e
+  offers_ends e = ap (λ (o : Option Offered). elim o [ None ↦ z | Some y ↦ offers_from x caller y blocks ]) e
 
-  offers_more : {y : Offered} → placed (offered_box x z) caller z (record { 0 = b }) ≡ some y
+  offers_more : {y : Offered} → placed (offered_box x z) caller z (record { 0 = b }) ≡ Some y
       → offers_from x caller z (b ∷ blocks) ≡ offers_from x caller y blocks
   unfolding offers_from
-  offers_more e = ap (λ (o : Option Offered). elim o [ none ↦ z | some y ↦ offers_from x caller y blocks ]) e
+  offers_more e = ap (λ (o : Option Offered). elim o [ None ↦ z | Some y ↦ offers_from x caller y blocks ]) e
 
 -- the callers of a record that a slot has joined
 joined-callers : (r : Record) → record_test r ≡ true → (s : Slot) (caller : ℕ) (hand : Slot)
@@ -128,24 +126,9 @@ module _ (r : Record) (e : record_test r ≡ true) where
   held_more s (suc zero) hand k = ap (open_by 1) (joined-callers r e s 1 hand) ∙ by_more 1 1 (callers_in r)
   held_more s (suc (suc n)) hand k = absurd (omega arith)
 
-  by_most : (cs : List ℕ) → open_by 1 cs ≤ length cs
-  unfolding open_by
-  by_most [] = omega arith
-  by_most (c ∷ cs) = go (eqb c 1) (by_most cs)
-    where
-      go : (b : Bool) → open_by 1 cs ≤ length cs → elim b [ true ↦ suc (open_by 1 cs) | false ↦ open_by 1 cs ] ≤ length (c ∷ cs)
-      go true h = omega arith
-      go false h = omega arith
-
-  pub held_most : (caller : ℕ) → held_by caller r ≤ 63
-  held_most caller = go (eqb caller 1)
-    where
-      P : Parts r
-      P = parts r e
-
-      go : (b : Bool) → elim b [ true ↦ open_by 1 (callers_in r) | false ↦ 0 ] ≤ 63
-      go true = omega (arith, by_most (callers_in r), callers-length r P, P.most)
-      go false = omega arith
+-- the number in an option
+some_is : {a b : ℕ} → Some a ≡ Some b → a ≡ b
+some_is e = ap (λ (o : Option ℕ). elim o [ None ↦ 0 | Some q ↦ q ]) e
 
 module _ (t₀ : List ℕ) (r₀ : Record) (blocks words : List ℕ) (caller : ℕ) where
   abbrev x : Box
@@ -155,18 +138,21 @@ module _ (t₀ : List ℕ) (r₀ : Record) (blocks words : List ℕ) (caller : �
   pub record Kept (t : List ℕ) (run : Run) : Type 0 where
     pub fair : Fair t run.state
     pub fixed : (h : Slot) (w : List Slot) (cs : List ℕ) → grown run.state h w cs ≡ grown r₀ h w cs
-    pub fresh : run.page ≡ 0 → t ≡ t₀
-    pub stamps : run.page ≢ 0 → spent (label_in r₀) r₀.newest ≡ false
-    pub later : run.places ≡ 0 → run.page ≡ 0
-    pub page-low : run.page ≤ meta_pages (label_in r₀)
+    pub fresh : run.page ≡ None → t ≡ t₀
+    pub stamps : (p : ℕ) → run.page ≡ Some p → spent (label_in r₀) r₀.newest ≡ false
+    pub later : run.places ≡ 0 → run.page ≡ None
+    pub page-low : (p : ℕ) → run.page ≡ Some p → p < meta_pages (label_in r₀)
 
   -- before place j
   pub record Going (t : List ℕ) (run : Run) (j : ℕ) : Type 0 where
     pub kept : Kept t run
     pub whole : offers_from x caller (offered_by t run) (drop j blocks) ≡ offered_as t₀ r₀ blocks caller
     pub places_is : run.places ≡ j
-    pub goes_on : run.end ≡ 0
     pub found : (k : ℕ) → j ≤ k → k < length blocks → Found run.state.label.slots t (get_or blocks k 0) (get_or words k 0)
+
+  -- what the call leaves
+  abbrev pub Leaves : List ℕ → Result Run Refusal → Type 0
+  Leaves t q = Ran (refused13 t₀ r₀ blocks caller) t₀ r₀ t q (offered_as t₀ r₀ blocks caller)
 
   pub going_begin : Fair t₀ r₀ → words ≡ places_of t₀ blocks → Going t₀ (begun r₀) 0
   going_begin F e = record {
@@ -174,13 +160,12 @@ module _ (t₀ : List ℕ) (r₀ : Record) (blocks words : List ℕ) (caller : �
       fair = F;
       fixed = λ h w cs. refl;
       fresh = λ z. refl;
-      stamps = λ z. absurd (z refl);
+      stamps = λ p z. absurd (none-some p z);
       later = λ z. refl;
-      page-low = omega arith;
+      page-low = λ p z. absurd (none-some p z);
     };
     whole = refl;
     places_is = refl;
-    goes_on = refl;
     found = λ k m h. rw e (found_first t₀ blocks r₀.label.slots F.size k h);
   }
 
@@ -192,14 +177,13 @@ module _ (t₀ : List ℕ) (r₀ : Record) (blocks words : List ℕ) (caller : �
     spends_none : (announces_any (offered_by t run) && spent (label_in r₀) r₀.newest) ≡ false
     spends_none = go run.page refl
       where
-        go : (p : ℕ) → run.page ≡ p → (elim (page_of p) [ none ↦ false | some q ↦ true ] && spent (label_in r₀) r₀.newest) ≡ false
-        go zero e = refl
-        go (suc p) e = K.stamps (λ z. omega arith)
+        go : (o : Option ℕ) → run.page ≡ o → (elim o [ None ↦ false | Some q ↦ true ] && spent (label_in r₀) r₀.newest) ≡ false
+        go None e = refl
+        go (Some p) e = K.stamps p e
 
-    finished : run.end ≢ 13 → {z : Offered} → offered_by t run ≡ z → Ran (announces_any z && spent (label_in r₀) r₀.newest) t₀ r₀ t run z
-    finished n e = subst (λ (z : Offered). Ran (announces_any z && spent (label_in r₀) r₀.newest) t₀ r₀ t run z) e
-        (subst (λ (b : Bool). Ran b t₀ r₀ t run (offered_by t run)) (sym spends_none) (record {
-          other = n;
+    finished : {z : Offered} → offered_by t run ≡ z → Ran (announces_any z && spent (label_in r₀) r₀.newest) t₀ r₀ t (Ok run) z
+    finished e = subst (λ (z : Offered). Ran (announces_any z && spent (label_in r₀) r₀.newest) t₀ r₀ t (Ok run) z) e
+        (subst (λ (b : Bool). Ran b t₀ r₀ t (Ok run) (offered_by t run)) (sym spends_none) (record {
           offered = refl;
           fair = K.fair;
           state_is = same-state;
@@ -208,16 +192,16 @@ module _ (t₀ : List ℕ) (r₀ : Record) (blocks words : List ℕ) (caller : �
           page-low = K.page-low;
         }))
 
-  pub going_done : (t : List ℕ) (run : Run) (j : ℕ) → Going t run j → length blocks ≤ j
-      → Ran (refused13 t₀ r₀ blocks caller) t₀ r₀ t run (offered_as t₀ r₀ blocks caller)
+  pub going_done : (t : List ℕ) (run : Run) (j : ℕ) → Going t run j → length blocks ≤ j → Leaves t (Ok run)
   unfolding offers_from
-  going_done t run j G h = finished t run G.kept (λ e. omega (arith, G.goes_on))
+  going_done t run j G h = finished t run G.kept
       (ap (offers_from x caller (offered_by t run)) (sym (drop_of_length-le blocks {i = j} h)) ∙ G.whole)
 
-  -- a place: the run goes on, or it ends there
-  pub data Stepped (j : ℕ) (q : Run) (v : List ℕ) : Type 0 where
-    goes : Going v q (j + 1) → Stepped j q v
-    ends : q.end ≢ 0 → Ran (refused13 t₀ r₀ blocks caller) t₀ r₀ v q (offered_as t₀ r₀ blocks caller) → Stepped j q v
+  -- after a place, by whether the run goes on
+  abbrev pub Stepped : Result Bool Refusal → ℕ → Run → List ℕ → Type 0
+  Stepped (Ok true) j q v = Going v q (j + 1)
+  Stepped (Ok false) j q v = Leaves v (Ok q)
+  Stepped (Err e) j q v = Leaves v (Err e)
 
   module _ (t : List ℕ) (run : Run) (j : ℕ) (G : Going t run j) (h : j < length blocks) (once : names_once blocks ≡ true)
       (known : caller ≤ 1) where
@@ -238,25 +222,14 @@ module _ (t₀ : List ℕ) (r₀ : Record) (blocks words : List ℕ) (caller : �
     place_is = ap (λ (r : Record). placed (bare t r) caller z b) (same-state t run G.kept)
 
     -- a place that is not dealt with
-    stop : (n : ℕ) → n ≢ 13 → n ≢ 0 → there ≡ none → Stepped j (ended n run) t
-    stop n m k e = ends k (finished t (ended n run) still m
-        (sym (here ∙ offers_ends x caller z _ _ (place_is ∙ e)) ∙ G.whole))
-      where
-        still : Kept t (ended n run)
-        still = let K = G.kept in record {
-          fair = K.fair;
-          fixed = K.fixed;
-          fresh = K.fresh;
-          stamps = K.stamps;
-          later = K.later;
-          page-low = K.page-low;
-        }
+    stop : there ≡ None → Leaves t (Ok run)
+    stop e = finished t run G.kept (sym (here ∙ offers_ends x caller z _ _ (place_is ∙ e)) ∙ G.whole)
 
-    more : {y : Offered} → there ≡ some y → offers_from x caller y (drop (j + 1) blocks) ≡ offered_as t₀ r₀ blocks caller
+    more : {y : Offered} → there ≡ Some y → offers_from x caller y (drop (j + 1) blocks) ≡ offered_as t₀ r₀ blocks caller
     more e = sym (here ∙ offers_more x caller z _ _ (place_is ∙ e)) ∙ G.whole
 
-    pass : there ≡ dealt_with z (stay overwrite) → Stepped j (passed run) t
-    pass e = goes (record {
+    pass : there ≡ dealt_with z (stay overwrite) → Going t (passed run) (j + 1)
+    pass e = record {
       kept = record {
         fair = G.kept.fair;
         fixed = G.kept.fixed;
@@ -265,7 +238,7 @@ module _ (t₀ : List ℕ) (r₀ : Record) (blocks words : List ℕ) (caller : �
         later = λ z. absurd (omega arith);
         page-low = G.kept.page-low;
       };
-      whole = more (e ∙ ap (λ (n : ℕ). some (record {
+      whole = more (e ∙ ap (λ (n : ℕ). Some (record {
         places = n;
         page = z.page;
         table = z.table;
@@ -274,22 +247,21 @@ module _ (t₀ : List ℕ) (r₀ : Record) (blocks words : List ℕ) (caller : �
         callers = z.callers;
       })) (sym (add-one run.places)));
       places_is = ap (λ (n : ℕ). n + 1) G.places_is;
-      goes_on = G.goes_on;
       found = λ k m q. G.found k (omega arith) q;
-    })
+    }
 
     module _ (s : Slot) (f n : ℕ) (hand : Slot) (O : Opened t run.state b s f (cleared_from n (label_in run.state) t run.state.hand) hand) where
       abbrev v : List ℕ
       v = set_row (cleared_from n (label_in run.state) t run.state.hand) s b f
 
       abbrev q : Run
-      q = record { state = joined s caller hand run.state; page = meta_of s + 1; places = run.places + 1; end = run.end }
+      q = record { state = joined s caller hand run.state; page = Some (meta_of s); places = run.places + 1 }
 
       -- what the place leaves
       abbrev y : Offered
       y = record {
         places = suc run.places;
-        page = some (meta_of s);
+        page = Some (meta_of s);
         table = v;
         hand = hand;
         window = window_in run.state ++ (s ∷ []);
@@ -302,7 +274,7 @@ module _ (t₀ : List ℕ) (r₀ : Record) (blocks words : List ℕ) (caller : �
           let c = joined-callers run.state G.kept.fair.record_kept s caller hand in
           λ i. record {
             places = sym (add-one run.places) i;
-            page = page_of (sym (add-one (meta_of s)) i);
+            page = Some (meta_of s);
             table = v;
             hand = hand;
             window = sym w i;
@@ -323,92 +295,86 @@ module _ (t₀ : List ℕ) (r₀ : Record) (blocks words : List ℕ) (caller : �
           bound-low zero e = omega arith
           bound-low (suc w) e = omega arith
 
-      joins : there ≡ some y → spent (label_in r₀) r₀.newest ≡ false → Stepped j q v
-      joins e new = goes (record {
+      opens_there : there ≡ Some y → spent (label_in r₀) r₀.newest ≡ false → Going v q (j + 1)
+      opens_there e new = record {
         kept = record {
           fair = opened-fair G.kept.fair O caller known;
           fixed = λ h w cs. G.kept.fixed h w cs;
-          fresh = λ e. absurd (omega arith);
-          stamps = λ e. new;
+          fresh = λ e. absurd (none-some (meta_of s) (sym e));
+          stamps = λ p e. new;
           later = λ z. absurd (omega arith);
-          page-low = omega (arith, low);
+          page-low = λ p e. omega (arith, low, some_is e);
         };
-        whole = more (e ∙ ap some y_is);
+        whole = more (e ∙ ap Some y_is);
         places_is = ap (λ (n : ℕ). n + 1) G.places_is;
-        goes_on = G.goes_on;
         found = others;
-      })
+      }
         where
           low : meta_of s < meta_pages (label_in r₀)
           low = rw (ap label_in (G.kept.fixed hand [] [])) at (meta_of-low (label_in run.state) s O.low)
 
       -- the first slot, and no stamp left for it
-      spends : there ≡ some y → run.page ≡ 0 → spent (label_in r₀) r₀.newest ≡ true → Stepped j (ended 13 run) t
-      spends e first used = ends (λ w. omega arith)
-          (subst (λ (d : Bool). Ran d t₀ r₀ t (ended 13 run) (offered_as t₀ r₀ blocks caller)) (sym refuses) (refl, G.kept.fresh first, all.1))
+      spends : there ≡ Some y → run.page ≡ None → spent (label_in r₀) r₀.newest ≡ true → Leaves t (Err StampsSpent)
+      spends e first used = subst (λ (d : Bool). Ran d t₀ r₀ t (Err StampsSpent) (offered_as t₀ r₀ blocks caller)) (sym refuses)
+          (refl, G.kept.fresh first, all.1)
         where
           all : Paged (meta_of s) (offered_as t₀ r₀ blocks caller)
           all = subst (λ (o : Offered). Paged (meta_of s) o) (more e)
               (page_stays x caller (meta_of s) (drop (j + 1) blocks) y (refl, omega arith))
 
           refuses : refused13 t₀ r₀ blocks caller ≡ true
-          refuses = ap (λ (p : Option ℕ). elim p [ none ↦ false | some q ↦ true ] && spent (label_in r₀) r₀.newest) all.0 ∙ used
+          refuses = ap (λ (p : Option ℕ). elim p [ None ↦ false | Some q ↦ true ] && spent (label_in r₀) r₀.newest) all.0 ∙ used
 
       spent_is : spent (label_in run.state) run.state.newest ≡ spent (label_in r₀) r₀.newest
       spent_is = ap (λ (r : Record). spent (label_in r) r.newest) (G.kept.fixed run.state.hand [] [])
 
+      -- by whether the slot joins those announced
+      abbrev After : Result Bool Refusal → Type 0
+      After m = Stepped m j (opened_if m run s caller hand) (row_if m run b s f n t)
+
       opens_by : there ≡ dealt_with z (opens run.state s b caller f (cleared_from n (label_in run.state) t run.state.hand) hand)
-          → Stepped j (run_after (Opens s f n hand) run caller) (table_after_turn (Opens s f n hand) run b t)
-      opens_by e = go (told (on_page (page_of run.page) (meta_of s))) (ℕ_discrete run.page 0)
-          (told (spent (label_in run.state) run.state.newest))
+          → After (joins (label_in run.state) run.page run.state.newest (meta_of s))
+      opens_by e = go run.page refl (told (on_page run.page (meta_of s))) (told (spent (label_in run.state) run.state.newest))
         where
-          at : (m : ℕ) → m ≡ end_of (label_in run.state) run.page run.state.newest (meta_of s)
-              → Stepped j (opened_if m run s caller hand) (row_if m run b s f n t)
-              → Stepped j (run_after (Opens s f n hand) run caller) (table_after_turn (Opens s f n hand) run b t)
-          at m k p = subst (λ (d : ℕ). Stepped j (opened_if d run s caller hand) (row_if d run b s f n t)) k p
+          at : (o : Option ℕ) → run.page ≡ o → (m : Result Bool Refusal)
+              → joins (label_in run.state) o run.state.newest (meta_of s) ≡ m → After m
+              → After (joins (label_in run.state) run.page run.state.newest (meta_of s))
+          at o p m k = subst After (sym (ap (λ (o : Option ℕ). joins (label_in run.state) o run.state.newest (meta_of s)) p ∙ k))
 
-          by : {d : Bool} → on_page (page_of run.page) (meta_of s) ≡ d → there ≡ elim d [ true ↦ some y | false ↦ none ]
-          by k = e ∙ ap (λ (d : Bool). elim d [ true ↦ some y | false ↦ none ]) k
+          by : {d : Bool} → on_page run.page (meta_of s) ≡ d → there ≡ elim d [ true ↦ Some y | false ↦ None ]
+          by k = e ∙ ap (λ (d : Bool). elim d [ true ↦ Some y | false ↦ None ]) k
 
-          go : Told (on_page (page_of run.page) (meta_of s)) → Dec (run.page ≡ 0)
-              → Told (spent (label_in run.state) run.state.newest)
-              → Stepped j (run_after (Opens s f n hand) run caller) (table_after_turn (Opens s f n hand) run b t)
-          go (told_false k) p u = at 1 (end_other (label_in run.state) run.state.newest (meta_of s) run.page k)
-              (stop 1 (λ w. omega arith) (λ w. omega arith) (by k))
-          go (told_true k) (no p) u = at 0 (end_again (label_in run.state) run.state.newest (meta_of s) run.page k p)
-              (joins (by k) (G.kept.stamps p))
-          go (told_true k) (yes p) (told_true u) = at 13 (end_spent (label_in run.state) run.state.newest (meta_of s) run.page p u)
-              (spends (by k) p (sym spent_is ∙ u))
-          go (told_true k) (yes p) (told_false u) = at 0 (end_first (label_in run.state) run.state.newest (meta_of s) run.page p u)
-              (joins (by k) (sym spent_is ∙ u))
+          on : {d : Bool} (o : Option ℕ) → run.page ≡ o → on_page run.page (meta_of s) ≡ d → on_page o (meta_of s) ≡ d
+          on o p k = ap (λ (o : Option ℕ). on_page o (meta_of s)) (sym p) ∙ k
 
-    stepped : {T : Turn} → Placing t run.state b caller (condition_of t b) T → Stepped j (run_after T run caller) (table_after_turn T run b t)
-    stepped (declined n e) = stop 1 (λ w. omega arith) (λ w. omega arith) (e z)
+          go : (o : Option ℕ) → run.page ≡ o → Told (on_page run.page (meta_of s)) → Told (spent (label_in run.state) run.state.newest)
+              → After (joins (label_in run.state) run.page run.state.newest (meta_of s))
+          go None p (told_false k) u = clash {b = true} refl (on None p k)
+          go None p (told_true k) (told_true u) = at None p (Err StampsSpent)
+              (ap (λ (b : Bool). elim b [ true ↦ Err StampsSpent | false ↦ Ok true ]) u) (spends (by k) p (sym spent_is ∙ u))
+          go None p (told_true k) (told_false u) = at None p (Ok true)
+              (ap (λ (b : Bool). elim b [ true ↦ Err StampsSpent | false ↦ Ok true ]) u) (opens_there (by k) (sym spent_is ∙ u))
+          go (Some q) p (told_true k) u = at (Some q) p (Ok true) (ap Ok (on (Some q) p k)) (opens_there (by k) (G.kept.stamps q p))
+          go (Some q) p (told_false k) u = at (Some q) p (Ok false) (ap Ok (on (Some q) p k)) (stop (by k))
+
+    stepped : {T : Result Turn Refusal} → Placing t run.state b caller (condition_of t b) T
+        → Stepped (goes_on (label_in run.state) T run.page run.state.newest) j (run_after T run caller) (table_after_turn T run b t)
+    stepped (declined n e) = stop (e z)
     stepped (passing e) = pass (e z)
     stepped (opening s f n hand e O) = opens_by s f n hand O (e z)
-    stepped (copying s n e low d) = stop 1 (λ w. omega arith) (λ w. omega arith) (e z)
+    stepped (copying s n e low d) = stop (e z)
 
     -- the place at hand
-    pub step : Stepped j (dealt_run t run b caller) (dealt_table t run b caller)
+    pub step : Stepped (goes_on (label_in run.state) (place_turn t run.state b caller) run.page run.state.newest) j (dealt_run t run b caller)
+        (dealt_table t run b caller)
     step = stepped (place_turn_is t run.state b caller G.kept.fair)
 
--- so while no end is told the run goes on, and where one is it leaves what the list does
-module _ {t₀ : List ℕ} {r₀ : Record} {blocks words : List ℕ} {caller j : ℕ} {q : Run} {v : List ℕ} where
-  pub goes_further : q.end ≡ 0 → Stepped t₀ r₀ blocks words caller j q v → Going t₀ r₀ blocks words caller v q (j + 1)
-  goes_further e (goes G) = G
-  goes_further e (ends n R) = absurd (n e)
-
-  pub ends_there : q.end ≢ 0 → Stepped t₀ r₀ blocks words caller j q v
-      → Ran (refused13 t₀ r₀ blocks caller) t₀ r₀ v q (offered_as t₀ r₀ blocks caller)
-  ends_there e (goes G) = absurd (e G.goes_on)
-  ends_there e (ends n R) = R
-
 -- refused by 13, or not
-module _ (t₀ : List ℕ) (r₀ : Record) (v : List ℕ) (q : Run) (z : Offered) where
-  pub ran_spent : (d : Bool) → q.end ≡ 13 → Ran d t₀ r₀ v q z → (d ≡ true) × (v ≡ t₀) × (0 < z.places)
-  ran_spent true e R = (refl, R.1, R.2)
-  ran_spent false e R = absurd (R.other e)
+module _ (t₀ : List ℕ) (r₀ : Record) (v : List ℕ) (z : Offered) where
+  pub ran_spent : (d : Bool) (e : Refusal) → Ran d t₀ r₀ v (Err e) z → (d ≡ true) × (e ≡ StampsSpent) × (v ≡ t₀) × (0 < z.places)
+  ran_spent true e R = (refl, R.0, R.1, R.2)
+  ran_spent false e R = absurd R
 
-  pub ran_ended : (d : Bool) → q.end ≢ 13 → Ran d t₀ r₀ v q z → (d ≡ false) × Ended t₀ r₀ v q z
-  ran_ended true n R = absurd (n R.0)
-  ran_ended false n R = (refl, R)
+  pub ran_ended : (d : Bool) (q : Run) → Ran d t₀ r₀ v (Ok q) z → (d ≡ false) × Ended t₀ r₀ v q z
+  ran_ended true q R = absurd R.0
+  ran_ended false q R = (refl, R)

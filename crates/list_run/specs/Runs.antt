@@ -1,6 +1,6 @@
 -- The run of a list in memory: what a place's turn makes of it, and what it leaves of the whole list.
-use Rattle.std.specs.Prelude.{ℕ, zero, suc, ◌+◌, ◌≤◌, ◌<◌, ◌≡◌, ◌≢◌, Bool, true, false, ◌&&◌, List, [], length}
-use Rattle.std.proofs.Math.Option.{some, none}
+use Rattle.std.specs.Prelude.{ℕ, ◌+◌, ◌<◌, ◌≡◌, Bool, true, false, ◌&&◌, List, [], length}
+use Rattle.std.specs.Prelude.{Some, None, Result, Ok, Err, IsOkAnd, IsErrAnd}
 use Rattle.layout.specs.declared.Slot.{Slot}
 use Rattle.layout.specs.declared.Block.{Block}
 use Rattle.layout.specs.Places.{table_length, meta_of, meta_pages}
@@ -12,12 +12,14 @@ use Rattle.protocol.specs.Rows.{set_row}
 use Rattle.protocol.specs.Box.{Box}
 use Rattle.protocol.specs.Plan.{grown, Offered, not_yet, offers_from}
 use Rattle.protocol.specs.Perform.{joined}
+use Rattle.protocol.specs.declared.Refusal.{Refusal}
+use Rattle.protocol.specs.declared.Refusal.TheVariants.{StampsSpent}
 use Rattle.protocol.specs.Judge.{rows_test}
 use Rattle.sweeping.specs.Sweeps.{cleared_from}
 use Rattle.turns.specs.declared.turn.Turn.{Turn}
-use Rattle.turns.specs.declared.turn.Turn.TheVariants.{Refused, Passes, Opens, CopiesOut}
+use Rattle.turns.specs.declared.turn.Turn.TheVariants.{Passes, Opens, CopiesOut}
 use Rattle.turns.specs.Turns.{crowd_of, spent}
-use Rattle.list_turns.specs.PlaceTurns.{page_of, end_of, place_turn_at}
+use Rattle.list_turns.specs.PlaceTurns.{joins, place_turn_at}
 use Rattle.list_run.specs.declared.Run.{Run}
 
 -- a table and a record that 3 to 6 do not refuse
@@ -29,46 +31,44 @@ pub record Fair (table : List ℕ) (r : Record) : Type 0 where
 
 -- before the first place
 abbrev pub begun : Record → Run
-begun r = record { state = r; page = 0; places = 0; end = 0 }
-
--- ended, by a number
-abbrev pub ended : ℕ → Run → Run
-ended n r = record { state = r.state; page = r.page; places = r.places; end = n }
+begun r = record { state = r; page = None; places = 0 }
 
 -- a place further, with nothing to do
 abbrev pub passed : Run → Run
-passed r = record { state = r.state; page = r.page; places = r.places + 1; end = r.end }
+passed r = record { state = r.state; page = r.page; places = r.places + 1 }
 
--- a slot is opened, and its caller named; ended by a number other than 0, nothing is
-abbrev pub opened_if : ℕ → Run → Slot → ℕ → Slot → Run
-opened_if zero r s caller hand = record { state = joined s caller hand r.state; page = meta_of s + 1; places = r.places + 1; end = r.end }
-opened_if (suc n) r s caller hand = ended (suc n) r
+-- a slot is opened, and its caller named, where the run goes on; else nothing is
+abbrev pub opened_if : Result Bool Refusal → Run → Slot → ℕ → Slot → Run
+opened_if (Ok true) r s caller hand = record { state = joined s caller hand r.state; page = Some (meta_of s); places = r.places + 1 }
+opened_if (Ok false) r s caller hand = r
+opened_if (Err e) r s caller hand = r
 
-abbrev pub row_if : ℕ → Run → Block → Slot → ℕ → ℕ → List ℕ → List ℕ
-row_if zero r b s flags n table = set_row (cleared_from n (label_in r.state) table r.state.hand) s b flags
-row_if (suc m) r b s flags n table = table
+abbrev pub row_if : Result Bool Refusal → Run → Block → Slot → ℕ → ℕ → List ℕ → List ℕ
+row_if (Ok true) r b s flags n table = set_row (cleared_from n (label_in r.state) table r.state.hand) s b flags
+row_if (Ok false) r b s flags n table = table
+row_if (Err e) r b s flags n table = table
 
 abbrev pub announced_run : Run → Slot → ℕ → Slot → Run
-announced_run r s caller hand = opened_if (end_of (label_in r.state) r.page r.state.newest (meta_of s)) r s caller hand
+announced_run r s caller hand = opened_if (joins (label_in r.state) r.page r.state.newest (meta_of s)) r s caller hand
 
 abbrev pub announced_table : Run → Block → Slot → ℕ → ℕ → List ℕ → List ℕ
-announced_table r b s flags n table = row_if (end_of (label_in r.state) r.page r.state.newest (meta_of s)) r b s flags n table
+announced_table r b s flags n table = row_if (joins (label_in r.state) r.page r.state.newest (meta_of s)) r b s flags n table
 
--- a place's turn: the run after it, and the table
-abbrev pub run_after : Turn → Run → ℕ → Run
-run_after (Refused n) r caller = ended 1 r
-run_after Passes r caller = passed r
-run_after (Opens s flags n hand) r caller = announced_run r s caller hand
-run_after (CopiesOut s n) r caller = ended 1 r
+-- a place's turn: the run after it, and the table; one by which the run does not go on leaves both
+abbrev pub run_after : Result Turn Refusal → Run → ℕ → Run
+run_after (Err e) r caller = r
+run_after (Ok Passes) r caller = passed r
+run_after (Ok (Opens s flags n hand)) r caller = announced_run r s caller hand
+run_after (Ok (CopiesOut s n)) r caller = r
 
-abbrev pub table_after_turn : Turn → Run → Block → List ℕ → List ℕ
-table_after_turn (Refused n) r b table = table
-table_after_turn Passes r b table = table
-table_after_turn (Opens s flags n hand) r b table = announced_table r b s flags n table
-table_after_turn (CopiesOut s n) r b table = table
+abbrev pub table_after_turn : Result Turn Refusal → Run → Block → List ℕ → List ℕ
+table_after_turn (Err e) r b table = table
+table_after_turn (Ok Passes) r b table = table
+table_after_turn (Ok (Opens s flags n hand)) r b table = announced_table r b s flags n table
+table_after_turn (Ok (CopiesOut s n)) r b table = table
 
 -- the turn of a place, of a table and a record
-abbrev pub place_turn : List ℕ → Record → Block → ℕ → Turn
+abbrev pub place_turn : List ℕ → Record → Block → ℕ → Result Turn Refusal
 place_turn table r b caller = place_turn_at (label_in r) table r.hand (crowd_of table r caller) b
 
 abbrev pub dealt_run : List ℕ → Run → Block → ℕ → Run
@@ -85,7 +85,7 @@ bare table r = record { images = record { ssd = []; hdd = [] }; table = table; s
 abbrev pub offered_by : List ℕ → Run → Offered
 offered_by table r = record {
   places = r.places;
-  page = page_of r.page;
+  page = r.page;
   table = table;
   hand = r.state.hand;
   window = window_in r.state;
@@ -98,7 +98,7 @@ offered_as table r blocks caller = offers_from (bare table r) caller (not_yet (b
 
 -- something is announced
 abbrev pub announces_any : Offered → Bool
-announces_any z = elim z.page [ none ↦ false | some p ↦ true ]
+announces_any z = elim z.page [ None ↦ false | Some p ↦ true ]
 
 -- 13 "refuses the whole list"
 abbrev pub refused13 : List ℕ → Record → List ℕ → ℕ → Bool
@@ -106,15 +106,14 @@ refused13 table r blocks caller = announces_any (offered_as table r blocks calle
 
 -- the places dealt with: in one run of memory, with the record of the last of them
 pub record Ended (table : List ℕ) (r : Record) (after : List ℕ) (q : Run) (z : Offered) : Type 0 where
-  pub other : q.end ≢ 13
   pub offered : offered_by after q ≡ z
   pub fair : Fair after q.state
   pub state_is : grown r q.state.hand (window_in q.state) (callers_in q.state) ≡ q.state
-  pub untouched : q.page ≡ 0 → after ≡ table
-  pub nothing_yet : q.places ≡ 0 → q.page ≡ 0
-  pub page-low : q.page ≤ meta_pages (label_in r)
+  pub untouched : q.page ≡ None → after ≡ table
+  pub nothing_yet : q.places ≡ 0 → q.page ≡ None
+  pub page-low : (p : ℕ) → q.page ≡ Some p → p < meta_pages (label_in r)
 
 -- what a run leaves: refused by 13, nothing changed; or the places dealt with
-abbrev pub Ran : Bool → List ℕ → Record → List ℕ → Run → Offered → Type 0
-Ran true table r after q z = (q.end ≡ 13) × (after ≡ table) × (0 < z.places)
-Ran false table r after q z = Ended table r after q z
+abbrev pub Ran : Bool → List ℕ → Record → List ℕ → Result Run Refusal → Offered → Type 0
+Ran true table r after q z = IsErrAnd q (λ e. e ≡ StampsSpent) × (after ≡ table) × (0 < z.places)
+Ran false table r after q z = IsOkAnd q (λ run. Ended table r after run z)

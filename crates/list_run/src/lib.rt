@@ -9,29 +9,29 @@ ghost use Rattle.list_run.specs.Runs.{Fair, Ran, offered_as, refused13};
 
 use layout::{Block, places};
 use list_turns::deal;
+use protocol::Refusal;
 use record::Record;
 use turns::turn;
 use turns::turn::Turn;
 
-// The run of a list: the record that the places dealt with leave, the metadata page of the first slot announced plus 1, or 0 before there
-// is one, how many places were dealt with, and how it ended: 0 while it goes on, 1 before a place that is not dealt with, 13 where the
-// first slot to be announced has no stamp to spare.
+// The run of a list: the record that the places dealt with leave, the metadata page of the first slot announced, if any is, and how many
+// places were dealt with.
 #[derive(Clone, Copy)]
 pub struct Run {
     pub state: Record,
-    pub page: u32,
+    pub page: Option<u32>,
     pub places: u32,
-    pub end: u32,
 }
 
-// All places, to the first that is not dealt with; `words` is where the one pass found each.
+// All places, to the first that is not dealt with; 13 where the first slot to be announced has no stamp to spare. `words` is where the one
+// pass found each.
 pub fn run_places(
     table: &mut [u32],
     state: Record,
     blocks: &[u32],
     words: &[u32],
     caller: u32,
-) -> Run
+) -> Result<Run, Refusal>
     requires fair { Fair table.old state }
     requires words_value { words.now ≡ places_of table.old blocks.now }
     requires blocks_len_bound { length blocks.now ≤ scan_most }
@@ -39,43 +39,34 @@ pub fn run_places(
     requires caller_le_import_caller { caller ≤ import_caller }
     ensures { Ran (refused13 table.old state blocks.now caller) table.old state table.new result (offered_as table.old state blocks.now caller) }
 {
-    let n = blocks.len();
     let mut mine = turn::held(state, caller);
-    let mut running = state;
-    let mut page: u32 = 0;
-    let mut j: usize = 0;
-    while j < n {
-        let l = running.label;
-        let hand = running.hand;
-        let b = Block(blocks[j]);
-        let number = turn::crowded(running.count, mine);
-        let turn = deal::decide(l, table, hand, number, b, words[j]);
-        let end = deal::end_by(l, turn, page, running.newest);
-        if end != 0 {
-            return Run {
-                state: running,
-                page,
-                places: j as u32,
-                end,
-            };
+    let mut run = Run {
+        state,
+        page: None,
+        places: 0,
+    };
+    for (j, b) in blocks.iter().enumerate() {
+        let l = run.state.label;
+        let b = Block(*b);
+        let full = turn::crowded(run.state.count, mine);
+        let Ok(turn) = deal::decide(l, table, run.state.hand, full, b, words[j]) else {
+            return Ok(run);
+        };
+        if !deal::goes_on(l, turn, run.page, run.state.newest)? {
+            return Ok(run);
         }
-        j += 1;
-        let Turn::Opens(s, flags, passed, to) = turn else {
+        run.places += 1;
+        let Turn::Opens(s, flags, passed, hand) = turn else {
             continue;
         };
-        deal::open(l, table, hand, passed, s, b, flags);
-        let at = running.count as usize;
-        running.hand = to;
-        running.window[at] = s;
-        running.callers[at] = caller;
-        running.count = running.count + 1;
+        deal::open(l, table, run.state.hand, passed, s, b, flags);
+        let at = run.state.count as usize;
+        run.state.hand = hand;
+        run.state.window[at] = s;
+        run.state.callers[at] = caller;
+        run.state.count += 1;
         mine += caller;
-        page = places::meta_of(s) + 1;
+        run.page = Some(places::meta_of(s));
     }
-    Run {
-        state: running,
-        page,
-        places: j as u32,
-        end: 0,
-    }
+    Ok(run)
 }

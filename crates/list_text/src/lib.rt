@@ -14,10 +14,11 @@ fn put_fate(page: &mut [u8], at: usize, fate: bool) -> usize
 {
     if fate {
         text::put_text(page, at, b"fate=dropped\n");
-        return at + 13;
+        at + 13
+    } else {
+        text::put_text(page, at, b"fate=kept\n");
+        at + 10
     }
-    text::put_text(page, at, b"fate=kept\n");
-    at + 10
 }
 
 // A valid entry's line.
@@ -25,16 +26,14 @@ pub fn put_entry(page: &mut [u8], at: usize, s: Slot, entry: Entry, fate: bool) 
     requires { at + 63 ≤ length page.old }
     ensures { Written page.old page.new at result 63 (entry_text s entry fate) }
 {
-    let block = entry.block;
     let b = fields::put_field(page, at, b"slot=", s.0, 32);
-    let f = fields::put_field(page, b, b"block=", block.0, 32);
+    let f = fields::put_field(page, b, b"block=", entry.block.0, 32);
     let end = fields::put_field(page, f, b"flags=", entry.flags, 32);
     put_fate(page, end, fate)
 }
 
 // The lines before the entries'.
-pub fn put_head(page: &mut [u8], l: Label, stamp: u32, count: u32) -> usize
-    requires { length page.old ≡ 4096 }
+pub fn put_head(page: &mut [u8; 4096], l: Label, stamp: u32, count: u32) -> usize
     ensures { Written page.old page.new 0 result 78 (head_text l stamp count) }
 {
     text::put_text(page, 0, b"layout=1\n");

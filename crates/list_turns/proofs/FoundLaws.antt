@@ -4,7 +4,7 @@ use mathlib.Core.Path.{◌≡◌, refl, sym, ap, ◌∙◌}
 use mathlib.Core.Logic.{◌≢◌}
 use mathlib.Core.Bool.{true}
 use mathlib.Core.List.{List, [], ◌∷◌}
-use mathlib.Core.Option.{Option, none}
+use Rattle.std.specs.Prelude.{Option, Some, None}
 use native.Mathlib.Omega.{arith}
 use native.Mathlib.Decide.{ℕ_discrete, dec_lt}
 use native.Mathlib.Nat.{zero-add}
@@ -25,8 +25,7 @@ use Rattle.laws.proofs.model.Model.{block_of}
 use Rattle.laws.proofs.refine.Tables.{Rows, at_valid, at_block}
 use Rattle.laws.proofs.refine.Sweeps.{Alike}
 use Rattle.laws.proofs.refine.Conditions.{Located, at, nowhere, located}
-use Rattle.table.specs.Scan.{holds_in, number_or, condition_in}
-use Rattle.table.proofs.ConditionLaws.{condition_is}
+use Rattle.table.specs.Scan.{holds_in}
 use Rattle.locating.specs.Places.{place_word, places_of}
 use Rattle.list_turns.specs.Found.{Unheld, Found}
 
@@ -37,13 +36,13 @@ module _ (t : List ℕ) (b : Block) (n : ℕ) (size : length t ≡ 2 * n) where
   found_none (suc w) z F = absurd (omega arith)
   found_none zero z F = ap (condition_at t) (go (located 0 t b))
     where
-      go : {o : Option Slot} → Located 0 t b.0 o → none ≡ o
+      go : {o : Option Slot} → Located 0 t b.0 o → None ≡ o
       go (nowhere h) = refl
       go (at i h v q low) = absurd (F.1 i (omega (arith, size)) v q)
 
   -- the row found holds it still
   pub found_there : (word : ℕ) → word ≢ 0 → Found n t b.0 word
-      → holds_in (get_or t (2 * (word - 1)) 0) (get_or t (2 * (word - 1) + 1) 0) b.0 ≡ true → word - 1 ≡ number_or n (slot_of t b)
+      → holds_in (get_or t (2 * (word - 1)) 0) (get_or t (2 * (word - 1) + 1) 0) b.0 ≡ true → Some (record { 0 = word - 1 }) ≡ slot_of t b
   found_there zero z F e = absurd (z refl)
   found_there (suc s) z F e = go (located 0 t b)
     where
@@ -63,13 +62,14 @@ module _ (t : List ℕ) (b : Block) (n : ℕ) (size : length t ≡ 2 * n) where
           go (no h) (yes k) = absurd (q k)
           go (no h) (no k) = omega arith
 
-      go : {o : Option Slot} → Located 0 t b.0 o → suc s - 1 ≡ number_or n o
+      go : {o : Option Slot} → Located 0 t b.0 o → Some (record { 0 = suc s - 1 }) ≡ o
       go (nowhere h) = absurd (h s (omega (arith, size, F.0)) held.0 held.1)
-      go (at i h v q low) = same i (λ k. F.1 i k v q) (λ k. low s k held.0 held.1)
+      go (at i h v q low) = ap (λ (m : ℕ). Some (record { 0 = m })) (same i (λ k. F.1 i k v q) (λ k. low s k held.0 held.1))
 
   pub there_is : (word : ℕ) → word ≢ 0 → Found n t b.0 word
-      → holds_in (get_or t (2 * (word - 1)) 0) (get_or t (2 * (word - 1) + 1) 0) b.0 ≡ true → condition_in t (word - 1) n ≡ condition_of t b
-  there_is word z F e = ap (λ (m : ℕ). condition_in t m n) (found_there word z F e) ∙ condition_is t b n size
+      → holds_in (get_or t (2 * (word - 1)) 0) (get_or t (2 * (word - 1) + 1) 0) b.0 ≡ true → condition_at t (Some (record { 0 = word - 1 })) ≡ condition_of t b
+  unfolding condition_of
+  there_is word z F e = ap (condition_at t) (found_there word z F e)
 
 -- the pass's word is where it is
 found_word : (t : List ℕ) (b : Block) (n : ℕ) → length t ≡ 2 * n → {o : Option Slot} → Located 0 t b.0 o → Found n t b.0 (place_word o)

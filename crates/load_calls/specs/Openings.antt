@@ -1,6 +1,7 @@
 -- The call that a draw of a load begins with (document 02, N10).
 use Rattle.std.specs.Prelude.{Bool, true, false}
 use Rattle.layout.specs.declared.Block.{Block}
+use Rattle.protocol.specs.Reply.{refused}
 use Rattle.protocol.specs.Box.{Box, Result, box_after}
 use Rattle.protocol.specs.Plan.{Call, flush, offer, fetch, look_up}
 use Rattle.protocol.specs.Calls.{result_of}
@@ -22,3 +23,11 @@ again_if false c r = r
 
 unfoldable pub past : Call → Box → Result
 past c x = again_if (is_copied_out (result_of c x).said) c (result_of c x)
+
+-- what such a call leaves: the box, and whether it was refused
+pub record Opened : Type 0 where
+  pub box : Box
+  pub refused : Bool
+
+abbrev pub left_of : Result → Opened
+left_of r = record { box = box_after r; refused = refused r.said }

@@ -1,36 +1,18 @@
 // The call that a draw of a load begins with, repeated past a copy-out (document 02, N10).
 #![tactic(auto)]
 
-ghost use Rattle.std.specs.Prelude.{◌≡◌};
-ghost use Rattle.protocol.specs.Reply.{reply_of};
-ghost use Rattle.protocol.specs.Calls.{leaves, result_of, box_of};
-ghost use Rattle.protocol.specs.Cost.{is_copied_out};
-ghost use Rattle.load_calls.specs.Openings.{opening, past};
+ghost use Rattle.std.specs.Prelude.{◌≡◌, is_err};
+ghost use Rattle.protocol.specs.Calls.{ends, result_of, box_of};
+ghost use Rattle.load_calls.specs.Openings.{opening, past, left_of};
 
 use draws::Kind;
 use fetch_path::fetch;
 use layout::Block;
 use maintenance::flush;
-use protocol::{Answer, Outcome};
+use protocol::{Answer, Outcome, Refusal};
 use read_path::look_up;
 use record::Record;
 use write_path::offer;
-
-// Whether it is "copied out".
-fn is_copied_out(answer: Answer) -> bool
-    ensures { result ≡ is_copied_out (reply_of answer) }
-{
-    match answer {
-        Answer::Refused(_) => false,
-        Answer::Announced(_) => false,
-        Answer::Overwrite => false,
-        Answer::CopiedOut => true,
-        Answer::Looked(_) => false,
-        Answer::NothingToDo => false,
-        Answer::Done => false,
-        Answer::Dealt(_) => false,
-    }
-}
 
 // The call that a draw begins with.
 fn begin(
@@ -40,8 +22,8 @@ fn begin(
     state: Record,
     kind: Kind,
     block: Block,
-) -> Outcome
-    ensures { leaves result ssd.new hdd.new table.new ≡ result_of (opening kind block) (box_of ssd.old hdd.old table.old state) }
+) -> Result<Outcome, Refusal>
+    ensures { ends state result ssd.new hdd.new table.new ≡ result_of (opening kind block) (box_of ssd.old hdd.old table.old state) }
 {
     match kind {
         Kind::Write => offer::offer(ssd, hdd, table, state, block, 0),
@@ -51,22 +33,21 @@ fn begin(
     }
 }
 
-// The same, repeated past a copy-out.
+// The same, repeated past a copy-out. The record is changed where it stands: a copy-out changes it, though the call is refused then.
 pub fn begin_past(
     ssd: &mut [u8],
     hdd: &mut [u8],
     table: &mut [u32],
-    state: Record,
+    state: &mut Record,
     kind: Kind,
     block: Block,
-) -> Outcome
-    ensures { leaves result ssd.new hdd.new table.new ≡ past (opening kind block) (box_of ssd.old hdd.old table.old state) }
+) -> Result<(), Refusal>
+    ensures { record { box = box_of ssd.new hdd.new table.new state.new; refused = is_err result } ≡ left_of (past (opening kind block) (box_of ssd.old hdd.old table.old state.old)) }
 {
-    let q = begin(ssd, hdd, table, state, kind, block);
-    let answer = q.answer;
-    if !is_copied_out(answer) {
-        return q;
+    let first = begin(ssd, hdd, table, *state, kind, block)?;
+    *state = first.state;
+    if let Answer::CopiedOut = first.answer {
+        *state = begin(ssd, hdd, table, *state, kind, block)?.state;
     }
-    let next = q.state;
-    begin(ssd, hdd, table, next, kind, block)
+    Ok(())
 }

@@ -4,19 +4,18 @@ use mathlib.Core.Path.{◌≡◌, refl}
 use mathlib.Core.List.{List, [], ◌∷◌, map}
 use lib.ListN.{replicate}
 use Rattle.layout.specs.LabelPage.{number_from}
-use Rattle.load_input.specs.declared.Input.{Input}
-use Rattle.load_input.specs.declared.Input.TheVariants.{Load, Illegal}
-use Rattle.load_input.specs.LoadInput.{line, input_of}
+use Rattle.std.specs.Prelude.{None}
+use Rattle.load_input.specs.LoadInput.{line, input_of, taken}
 
-taken_1 : input_of (49 ∷ 10 ∷ 49 ∷ 48 ∷ 10 ∷ []) ≡ Load 1 10
+taken_1 : input_of (49 ∷ 10 ∷ 49 ∷ 48 ∷ 10 ∷ []) ≡ taken 1 10
 unfolding input_of line number_from
 taken_1 = refl
 
-taken_2 : input_of (52 ∷ 50 ∷ 57 ∷ 52 ∷ 57 ∷ 54 ∷ 55 ∷ 50 ∷ 57 ∷ 53 ∷ 10 ∷ 48 ∷ 10 ∷ []) ≡ Load 4294967295 0
+taken_2 : input_of (52 ∷ 50 ∷ 57 ∷ 52 ∷ 57 ∷ 54 ∷ 55 ∷ 50 ∷ 57 ∷ 53 ∷ 10 ∷ 48 ∷ 10 ∷ []) ≡ taken 4294967295 0
 unfolding input_of line number_from
 taken_2 = refl
 
-taken_3 : input_of (49 ∷ 10 ∷ 52 ∷ 50 ∷ 57 ∷ 52 ∷ 57 ∷ 54 ∷ 55 ∷ 50 ∷ 57 ∷ 53 ∷ 10 ∷ []) ≡ Load 1 4294967295
+taken_3 : input_of (49 ∷ 10 ∷ 52 ∷ 50 ∷ 57 ∷ 52 ∷ 57 ∷ 54 ∷ 55 ∷ 50 ∷ 57 ∷ 53 ∷ 10 ∷ []) ≡ taken 1 4294967295
 unfolding input_of line number_from
 taken_3 = refl
 
@@ -39,6 +38,6 @@ refusals =
     ∷ (49 ∷ 10 ∷ [])
     ∷ []
 
-all_illegal : map input_of refusals ≡ replicate 13 Illegal
+all_illegal : map input_of refusals ≡ replicate 13 None
 unfolding refusals input_of line number_from
 all_illegal = refl

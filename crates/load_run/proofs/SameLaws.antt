@@ -1,8 +1,10 @@
 -- The same bytes, as a test.
-use Prim.Native.Nat.{ℕ}
+use Prim.Native.Nat.{ℕ, ◌<◌}
 use mathlib.Core.Path.{◌≡◌, refl, sym, ap, ◌∙◌}
 use mathlib.Core.Bool.{Bool, true, false}
 use mathlib.Core.List.{List, [], ◌∷◌}
+use native.Mathlib.Omega.{arith}
+use lib.ListN.{length}
 use lib.Dec.{eqb}
 use borrow.Author.Tests.{eq-eqb, eqb-true}
 use Rattle.layout.proofs.Booleans.{Told, told, told_true, told_false, clash}
@@ -32,3 +34,9 @@ same_told a b false f g = go (told (same a b))
     go : Told (same a b) → false ≡ same a b
     go (told_true q) = clash (g (same_only a b q)) refl
     go (told_false q) = sym q
+
+-- no bytes are no page
+pub same_nothing : (p : List ℕ) → 0 < length p → false ≡ same [] p
+unfolding same
+same_nothing [] h = absurd (omega arith)
+same_nothing (x ∷ p) h = refl

@@ -1,6 +1,6 @@
 -- Every block of a load reads as on a plain disk.
 use Rattle.std.specs.Prelude.{ℕ, ◌≡◌}
-use Rattle.load_run.specs.Runs.{Load, begun, run_from, equal_to}
+use Rattle.load_run.specs.Runs.{begun, run_from, equal_to}
 
 -- for every seed and number of draws `equal` is 8
 abbrev pub AllEqual : Type 0

@@ -11,7 +11,6 @@ use Rattle.protocol.specs.Events.{read_of, formatted}
 use Rattle.draws.specs.Draws.{drawn}
 use Rattle.load_text.specs.LoadText.{counted}
 use Rattle.load_turns.specs.Turns.{Turned, turned}
-use Rattle.load_run.specs.declared.Ran.{Ran}
 
 -- zero images and table of 4 slots and 8 blocks, and the record with which their format begins
 abbrev pub blank_record : Record
@@ -39,8 +38,8 @@ run_from zero s l = l
 run_from (suc n) s l = run_from n (drawn s) (drawn_on (turned (drawn s) l.box l.plain) l.refusals)
 
 -- what a run in code leaves
-abbrev pub ran_left : Ran → List ℕ → List ℕ → List ℕ → List ℕ → Load
-ran_left r ssd hdd table plain = record { box = box_of ssd hdd table r.state; plain = plain; refusals = r.refusals }
+abbrev pub ran_left : Record → ℕ → List ℕ → List ℕ → List ℕ → List ℕ → Load
+ran_left state refusals ssd hdd table plain = record { box = box_of ssd hdd table state; plain = plain; refusals = refusals }
 
 -- the same bytes
 unfoldable pub same : List ℕ → List ℕ → Bool

@@ -3,7 +3,7 @@
 
 ghost use Rattle.std.specs.Prelude.{◌≡◌, length};
 ghost use Rattle.pages.specs.Pages.{page_at, Holds};
-ghost use Rattle.protocol.specs.Calls.{box_of};
+ghost use Rattle.protocol.specs.Calls.{state_in, box_of};
 ghost use Rattle.protocol.specs.Events.{read_of, formatted};
 ghost use Rattle.load_run.specs.Runs.{blank_record, run_from, ran_left, same, equal_to};
 
@@ -11,15 +11,19 @@ use layout::{Block, places};
 use load_text::count;
 use load_turns::make;
 use maintenance::format;
+use protocol::{Outcome, Refusal};
 use read_path::view;
 use record::Record;
 use steps::step;
 
-// What a run leaves of the record, and how many draws were refused.
-#[derive(Clone, Copy)]
-pub struct Ran {
-    pub state: Record,
-    pub refusals: u32,
+// The record after a call: a refusal leaves the one handed in.
+fn after(state: Record, made: Result<Outcome, Refusal>) -> Record
+    ensures { result ≡ state_in state made }
+{
+    match made {
+        Ok(outcome) => outcome.state,
+        Err(_) => state,
+    }
 }
 
 // Formats a box of 4 slots and 8 blocks, to its end: three steps.
@@ -27,44 +31,33 @@ pub fn prepare(ssd: &mut [u8], hdd: &[u8], table: &mut [u32]) -> Record
     ensures { box_of ssd.new hdd.now table.new result ≡ formatted 4 8 (box_of ssd.old hdd.now table.old blank_record) }
 {
     let blank = format::begun(places::label(4, 8));
-    let begun = format::format(ssd, hdd, table, blank, 4, 8);
-    let a = begun.state;
-    let first = step::step(ssd, hdd, table, a);
-    let b = first.state;
-    let second = step::step(ssd, hdd, table, b);
-    let c = second.state;
-    let third = step::step(ssd, hdd, table, c);
-    third.state
+    let begun = after(blank, format::format(ssd, hdd, table, 4, 8));
+    let first = after(begun, step::step(ssd, hdd, table, begun));
+    let second = after(first, step::step(ssd, hdd, table, first));
+    after(second, step::step(ssd, hdd, table, second))
 }
 
-// Makes the draws from a seed on.
+// Makes the draws from a seed on: how many were refused. The record is changed where it stands.
 pub fn run(
     ssd: &mut [u8],
     hdd: &mut [u8],
     table: &mut [u32],
     plain: &mut [u8],
-    state: Record,
+    state: &mut Record,
     seed: u32,
     draws: u32,
-) -> Ran
+) -> u32
     requires { length plain.old ≡ 32768 }
-    ensures { ran_left result ssd.new hdd.new table.new plain.new ≡ run_from draws seed (record { box = box_of ssd.old hdd.old table.old state; plain = plain.old; refusals = 0 }) }
+    ensures { ran_left state.new result ssd.new hdd.new table.new plain.new ≡ run_from draws seed (record { box = box_of ssd.old hdd.old table.old state.old; plain = plain.old; refusals = 0 }) }
 {
-    let mut left = state;
     let mut refusals: u32 = 0;
     let mut s = seed;
-    let mut i: u32 = 0;
-    while i < draws {
+    for i in 0..draws {
         s = draws::draw(s);
-        let turn = make(ssd, hdd, table, plain, left, s);
-        left = turn.state;
-        refusals = count(turn.refused, refusals);
-        i += 1;
+        let turn = make(ssd, hdd, table, plain, state, s);
+        refusals = count(turn.is_err(), refusals);
     }
-    Ran {
-        state: left,
-        refusals,
-    }
+    refusals
 }
 
 // Whether a block reads as on the plain disk.
@@ -79,9 +72,10 @@ fn reads_same<'a>(
     requires { Holds plain.now b.0 }
     ensures { result ≡ same (read_of (box_of ssd.now hdd.now table.now state) b) (page_at plain.now b.0) }
 {
-    let mut refusal: u32 = 0;
-    let page = view::view(ssd, hdd, table, state, b, &mut refusal);
-    check::same(page, pages::page_at(plain, b.0 as usize))
+    match view::view(ssd, hdd, table, state, b) {
+        Ok(page) => check::same(page, pages::page_at(plain, b.0 as usize)),
+        Err(_) => false,
+    }
 }
 
 // How many blocks do.
@@ -96,10 +90,8 @@ pub fn count_equal<'a>(
     ensures { result ≡ equal_to 8 (box_of ssd.now hdd.now table.now state) plain.now }
 {
     let mut n: u32 = 0;
-    let mut b: u32 = 0;
-    while b < 8 {
+    for b in 0..8 {
         n = count(reads_same(ssd, hdd, table, plain, state, Block(b)), n);
-        b += 1;
     }
     n
 }

@@ -17,15 +17,11 @@ pub fn count(so: bool, n: u32) -> u32
     requires { n < 4294967295 }
     ensures { result ≡ counted so n }
 {
-    if so {
-        return n + 1;
-    }
-    n
+    if so { n + 1 } else { n }
 }
 
 // The four lines.
-pub fn put_load(page: &mut [u8], seed: u32, draws: u32, c: Counts) -> usize
-    requires { length page.old ≡ 4096 }
+pub fn put_load(page: &mut [u8; 4096], seed: u32, draws: u32, c: Counts) -> usize
     ensures { Written page.old page.new 0 result 70 (load_text seed draws c) }
 {
     let d = fields::put_field(page, 0, b"seed=", seed, 10);

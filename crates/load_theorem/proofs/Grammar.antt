@@ -4,7 +4,8 @@ use mathlib.Core.Path.{◌≡◌, refl, sym, ap, subst, ◌∙◌}
 use mathlib.Core.Logic.{◌≢◌}
 use mathlib.Core.Bool.{Bool, true, false}
 use mathlib.Core.List.{List, [], ◌∷◌, ◌++◌, append_assoc}
-use mathlib.Core.Option.{Option, some, none, some-injective, none-ne-some}
+use Rattle.std.specs.Prelude.{Option, Some, None}
+use Rattle.std.proofs.lemmas.Option.{same_Some, none-some}
 use native.Mathlib.Omega.{arith}
 use native.Mathlib.Decide.{dec_lt, ℕ_discrete}
 use lib.ListN.{length, length-append}
@@ -14,29 +15,13 @@ use Rattle.layout.specs.LabelPage.{decimal, Number, number_from}
 use Rattle.layout.proofs.Booleans.{Told, told, told_true, told_false, clash}
 use Rattle.layout.proofs.Decimal.{decimal-size, decimal-one, decimal_more, length_more, from_line, from_digit, from_full, from_low, from_high, from_none}
 use Rattle.load_input.specs.declared.Input.{Input}
-use Rattle.load_input.specs.declared.Input.TheVariants.{Load, Illegal}
-use Rattle.load_input.specs.LoadInput.{kept_if, fitting, line, then_line, illegal_if, ended, input_of}
-use Rattle.load_input.proofs.InputLaws.{fits_line, nine, digit_more, input_is}
+use Rattle.text.specs.Numbers.{kept_if, fitting}
+use Rattle.text.proofs.DigitLaws.{fits_line, nine, digit_more}
+use Rattle.load_input.specs.LoadInput.{line, then_line, illegal_if, ended, taken, input_of}
+use Rattle.load_input.proofs.InputLaws.{line_zero, line_digit, line_low, line_high, input_is}
 use Rattle.load_theorem.specs.Grammar.{input_text, Legal, TakenExactly}
 
 -- Written, then read.
-
--- the first byte of a line
-line_first : (b : ℕ) (rest : List ℕ) → 49 ≤ b → b ≤ 57 → line (b ∷ rest) ≡ fitting (number_from 9 (b - 48) rest)
-unfolding line
-line_first b rest l m = rw (ne_eqb b 48 (omega arith), line) (rw (le-leb 49 b l, le-leb b 57 m))
-
-line_nought : (rest : List ℕ) → line (48 ∷ rest) ≡ fitting (number_from 0 0 rest)
-unfolding line
-line_nought rest = refl
-
-line_other : (b : ℕ) (rest : List ℕ) → b < 48 → line (b ∷ rest) ≡ none
-unfolding line
-line_other b rest l = rw (ne_eqb b 48 (omega arith), line) (rw (lt-leb 49 b (omega arith)))
-
-line-beyond : (b : ℕ) (rest : List ℕ) → 57 < b → line (b ∷ rest) ≡ none
-unfolding line
-line-beyond b rest l = rw (ne_eqb b 48 (omega arith), line) (rw (le-leb 49 b (omega arith), lt-leb b 57 l))
 
 read-decimal : (fuel n : ℕ) (t : List ℕ) → n ≤ fuel → 0 < n → n < 10000000000
     → line (decimal n ++ t) ≡ fitting (number_from (10 - length (decimal n)) n t)
@@ -50,7 +35,7 @@ read-decimal (suc fuel) n t f p h =
         → line (decimal n ++ t) ≡ fitting (number_from (10 - length (decimal n)) n t)
     go (yes l) e =
         let z : 48 + n - 48 ≡ n = omega arith in
-        rw (decimal-one n l) (line_first (48 + n) t (omega arith) (omega arith) ∙ ap (λ (m : ℕ). fitting (number_from 9 m t)) z)
+        rw (decimal-one n l) (line_digit (48 + n) t (omega arith) (omega arith) ∙ ap (λ (m : ℕ). fitting (number_from 9 m t)) z)
     go (no l) e =
         let a : 10 ≤ n = omega arith in
         let d : ℕ = 48 + n % 10 in
@@ -64,39 +49,39 @@ read-decimal (suc fuel) n t f p h =
         ∙ ap fitting (from_digit j (n / 10) d t (omega arith) (omega arith))
         ∙ ap (λ (x : ℕ). fitting (number_from j x t)) v
 
-line_back : (n : ℕ) (rest : List ℕ) → n < 4294967296 → line (decimal n ++ (10 ∷ rest)) ≡ some (record { value = n; rest = rest })
+line_back : (n : ℕ) (rest : List ℕ) → n < 4294967296 → line (decimal n ++ (10 ∷ rest)) ≡ Some (record { value = n; rest = rest })
 line_back n rest h = go (ℕ_discrete n 0)
   where
-    go : Dec (n ≡ 0) → line (decimal n ++ (10 ∷ rest)) ≡ some (record { value = n; rest = rest })
+    go : Dec (n ≡ 0) → line (decimal n ++ (10 ∷ rest)) ≡ Some (record { value = n; rest = rest })
     go (yes z) =
-        rw (z, decimal-one 0 (omega arith)) (line_nought (10 ∷ rest) ∙ sym (fits_line _ 0 rest (from_line 0 0 rest) (omega arith)))
+        rw (z, decimal-one 0 (omega arith)) (line_zero 48 (10 ∷ rest) refl ∙ sym (fits_line _ 0 rest (from_line 0 0 rest) (omega arith)))
     go (no z) =
         read-decimal n n (10 ∷ rest) (omega arith) (omega arith) (omega arith)
         ∙ sym (fits_line _ n rest (from_line (10 - length (decimal n)) n rest) (omega arith))
 
 -- Read, then written.
 
-never : {P : Type 0} {o : Option Number} {r : Number} → o ≡ some r → o ≡ none → P
-never {r = r} e f = absurd (none-ne-some r (sym f ∙ e))
+never : {P : Type 0} {o : Option Number} {r : Number} → o ≡ Some r → o ≡ None → P
+never {r = r} e f = absurd (none-some r (sym f ∙ e))
 
-fitting_only : (o : Option Number) (r : Number) → fitting o ≡ some r → (o ≡ some r) × (r.value < 4294967296)
-fitting_only none r e = never e refl
-fitting_only (some n) r e = go (told (ltb n.value 4294967296))
+fitting_only : (o : Option Number) (r : Number) → fitting o ≡ Some r → (o ≡ Some r) × (r.value < 4294967296)
+fitting_only None r e = never e refl
+fitting_only (Some n) r e = go (told (ltb n.value 4294967296))
   where
-    go : Told (ltb n.value 4294967296) → (some n ≡ some r) × (r.value < 4294967296)
+    go : Told (ltb n.value 4294967296) → (Some n ≡ Some r) × (r.value < 4294967296)
     go (told_true q) =
-        let f : some n ≡ some r = ap (λ (t : Bool). kept_if t n) (sym q) ∙ e in
-        (f, subst (λ (m : Number). m.value < 4294967296) (some-injective _ _ f) (ltb-true _ _ q))
+        let f : Some n ≡ Some r = ap (λ (t : Bool). kept_if t n) (sym q) ∙ e in
+        (f, subst (λ (m : Number). m.value < 4294967296) (same_Some _ _ f) (ltb-true _ _ q))
     go (told_false q) = never e (ap (λ (t : Bool). kept_if t n) q)
 
 -- what numbers were read of
 abbrev ReadOf : List ℕ → Number → Type 0
 ReadOf bytes r = bytes ≡ decimal r.value ++ (10 ∷ r.rest)
 
-at_line : (k n b : ℕ) (rest : List ℕ) (r : Number) → b ≡ 10 → number_from k n (b ∷ rest) ≡ some r → ReadOf (decimal n ++ (b ∷ rest)) r
+at_line : (k n b : ℕ) (rest : List ℕ) (r : Number) → b ≡ 10 → number_from k n (b ∷ rest) ≡ Some r → ReadOf (decimal n ++ (b ∷ rest)) r
 at_line k n b rest r t e =
-    let f : number_from k n (10 ∷ rest) ≡ some r = rw t at e in
-    let q : record { value = n; rest = rest } ≡ r = some-injective _ _ (sym (from_line k n rest) ∙ f) in
+    let f : number_from k n (10 ∷ rest) ≡ Some r = rw t at e in
+    let q : record { value = n; rest = rest } ≡ r = same_Some _ _ (sym (from_line k n rest) ∙ f) in
     rw (t, ← q)
 
 push : (n b : ℕ) (rest : List ℕ) → 0 < n → n < 1000000000 → 48 ≤ b → b ≤ 57 → decimal (10 * n + (b - 48)) ++ rest ≡ decimal n ++ (b ∷ rest)
@@ -107,7 +92,7 @@ push n b rest p h l m =
     ∙ (λ i. (decimal (q i) ++ (d i ∷ [])) ++ rest)
     ∙ append_assoc (decimal n) (b ∷ []) rest
 
-from_only : (k n : ℕ) (bytes : List ℕ) (r : Number) → k ≤ 9 → 0 < n → n < 10 ^ (10 - k) → number_from k n bytes ≡ some r
+from_only : (k n : ℕ) (bytes : List ℕ) (r : Number) → k ≤ 9 → 0 < n → n < 10 ^ (10 - k) → number_from k n bytes ≡ Some r
     → ReadOf (decimal n ++ bytes) r
 from_only k n [] r c p h e = never e (from_none k n)
 from_only zero n (b ∷ bytes) r c p h e = go (ℕ_discrete b 10)
@@ -133,15 +118,15 @@ from_only (suc k) n (b ∷ bytes) r c p h e =
         let t : b ≤ 57 = omega arith in
         sym (push n b bytes p (nine n (suc k) b (omega arith) c h t) (omega arith) t) ∙ f (omega arith) t
 
-line_only : (bytes : List ℕ) (r : Number) → line bytes ≡ some r → ReadOf bytes r × (r.value < 4294967296)
+line_only : (bytes : List ℕ) (r : Number) → line bytes ≡ Some r → ReadOf bytes r × (r.value < 4294967296)
 unfolding line
 line_only [] r e = never e refl
 line_only (b ∷ bytes) r e = go (ℕ_discrete b 48) (dec_lt b 48) (dec_lt 57 b)
   where
-    nought : number_from 0 0 bytes ≡ some r → ReadOf (48 ∷ bytes) r
+    nought : number_from 0 0 bytes ≡ Some r → ReadOf (48 ∷ bytes) r
     nought f = by bytes f
       where
-        by : (bytes : List ℕ) → number_from 0 0 bytes ≡ some r → ReadOf (48 ∷ bytes) r
+        by : (bytes : List ℕ) → number_from 0 0 bytes ≡ Some r → ReadOf (48 ∷ bytes) r
         by [] f = never f (from_none 0 0)
         by (c ∷ bytes) f = at (ℕ_discrete c 10)
           where
@@ -151,12 +136,12 @@ line_only (b ∷ bytes) r e = go (ℕ_discrete b 48) (dec_lt b 48) (dec_lt 57 b)
 
     go : Dec (b ≡ 48) → Dec (b < 48) → Dec (57 < b) → ReadOf (b ∷ bytes) r × (r.value < 4294967296)
     go (yes q) l m =
-        let f = fitting_only _ r (sym (line_nought bytes) ∙ ap (λ (x : ℕ). line (x ∷ bytes)) (sym q) ∙ e) in
+        let f = fitting_only _ r (sym (line_zero 48 bytes refl) ∙ ap (λ (x : ℕ). line (x ∷ bytes)) (sym q) ∙ e) in
         (ap (λ (x : ℕ). x ∷ bytes) q ∙ nought f.0, f.1)
-    go (no q) (yes l) m = never e (line_other b bytes l)
-    go (no q) (no l) (yes m) = never e (line-beyond b bytes m)
+    go (no q) (yes l) m = never e (line_low b bytes l)
+    go (no q) (no l) (yes m) = never e (line_high b bytes m)
     go (no q) (no l) (no m) =
-        let f = fitting_only _ r (sym (line_first b bytes (omega arith) (omega arith)) ∙ e) in
+        let f = fitting_only _ r (sym (line_digit b bytes (omega arith) (omega arith)) ∙ e) in
         let d : 48 + (b - 48) ≡ b = omega arith in
         let w : b ∷ bytes ≡ decimal (b - 48) ++ bytes =
         sym (ap (λ (t : List ℕ). t ++ bytes) (decimal-one (b - 48) (omega arith)) ∙ ap (λ (x : ℕ). x ∷ bytes) d) in
@@ -165,14 +150,14 @@ line_only (b ∷ bytes) r e = go (ℕ_discrete b 48) (dec_lt b 48) (dec_lt 57 b)
 -- The whole input.
 
 -- what follows a first line
-abbrev onward : Number → Input
-onward a = then_line (line a.rest) (λ draws rest. ended rest (Load a.value draws))
+abbrev onward : Number → Option Input
+onward a = then_line (line a.rest) (λ draws rest. ended rest (taken a.value draws))
 
 module _ (bytes : List ℕ) where
-  if_text : (seed draws : ℕ) → Legal seed draws → bytes ≡ input_text seed draws → input_of bytes ≡ Load seed draws
+  if_text : (seed draws : ℕ) → Legal seed draws → bytes ≡ input_text seed draws → input_of bytes ≡ taken seed draws
   if_text seed draws L e =
       let f = ap line e ∙ line_back seed (decimal draws ++ (10 ∷ [])) L.seed_low in
-      sym (input_is bytes seed _ f L.seed_some draws [] (line_back draws [] L.draws_low) refl)
+      sym (input_is bytes seed _ f L.seed_some draws [] (line_back draws [] L.draws_low) true refl)
 
   text-short : (seed draws : ℕ) → bytes ≡ input_text seed draws → length bytes ≤ 22
   text-short seed draws e =
@@ -181,18 +166,19 @@ module _ (bytes : List ℕ) where
   abbrev Taken : ℕ → ℕ → Type 0
   Taken seed draws = Legal seed draws × (bytes ≡ input_text seed draws) × (length bytes ≤ 22)
 
-  if_taken : (seed draws : ℕ) → input_of bytes ≡ Load seed draws → Taken seed draws
+  if_taken : (seed draws : ℕ) → input_of bytes ≡ taken seed draws → Taken seed draws
   unfolding input_of
   if_taken seed draws e = first (line bytes) refl e
     where
-      other : {P : Type 0} → Illegal ≡ Load seed draws → P
-      other q = absurd (let z : ◌≡◌ {A = ℕ} 0 1 = cc in omega arith)
+      other : {P : Type 0} → None ≡ taken seed draws → P
+      other q = absurd (none-some _ q)
 
       last : (a b : Number) → ReadOf bytes a → a.value < 4294967296 → ReadOf a.rest b → b.value < 4294967296 → (a.value ≢ 0)
-          → (more : List ℕ) → b.rest ≡ more → ended more (Load a.value b.value) ≡ Load seed draws → Taken seed draws
+          → (more : List ℕ) → b.rest ≡ more → ended more (taken a.value b.value) ≡ taken seed draws → Taken seed draws
       last a b r h s k n [] m q =
-          let x : a.value ≡ seed = cc in
-          let y : b.value ≡ draws = cc in
+          let same : record { seed = a.value; draws = b.value } ≡ record { seed = seed; draws = draws } = same_Some _ _ q in
+          let x : a.value ≡ seed = ap (λ (i : Input). i.seed) same in
+          let y : b.value ≡ draws = ap (λ (i : Input). i.draws) same in
           let w : a.rest ≡ decimal draws ++ (10 ∷ []) = s ∙ (λ i. decimal (y i) ++ (10 ∷ m i)) in
           let t : bytes ≡ input_text seed draws = r ∙ (λ i. decimal (x i) ++ (10 ∷ w i)) in (
             record {
@@ -206,21 +192,21 @@ module _ (bytes : List ℕ) where
       last a b r h s k n (c ∷ more) m q = other q
 
       second : (a : Number) → ReadOf bytes a → a.value < 4294967296 → (a.value ≢ 0) → (o : Option Number) → line a.rest ≡ o
-          → then_line o (λ draws rest. ended rest (Load a.value draws)) ≡ Load seed draws → Taken seed draws
-      second a r h n none f q = other q
-      second a r h n (some b) f q = let s = line_only a.rest b f in last a b r h s.0 s.1 n b.rest refl q
+          → then_line o (λ draws rest. ended rest (taken a.value draws)) ≡ taken seed draws → Taken seed draws
+      second a r h n None f q = other q
+      second a r h n (Some b) f q = let s = line_only a.rest b f in last a b r h s.0 s.1 n b.rest refl q
 
       seeded : (a : Number) → ReadOf bytes a → a.value < 4294967296 → Told (eqb a.value 0)
-          → illegal_if (eqb a.value 0) (onward a) ≡ Load seed draws → Taken seed draws
+          → illegal_if (eqb a.value 0) (onward a) ≡ taken seed draws → Taken seed draws
       seeded a r h (told_true z) q = other (ap (λ (t : Bool). illegal_if t (onward a)) (sym z) ∙ q)
       seeded a r h (told_false z) q =
           second a r h (eqb-false _ _ z) (line a.rest) refl (ap (λ (t : Bool). illegal_if t (onward a)) (sym z) ∙ q)
 
       first : (o : Option Number) → line bytes ≡ o
-          → then_line o (λ s rest. illegal_if (eqb s 0) (then_line (line rest) (λ draws rest. ended rest (Load s draws)))) ≡ Load seed draws
+          → then_line o (λ s rest. illegal_if (eqb s 0) (then_line (line rest) (λ draws rest. ended rest (taken s draws)))) ≡ taken seed draws
           → Taken seed draws
-      first none f q = other q
-      first (some a) f q = let r = line_only bytes a f in seeded a r.0 r.1 (told (eqb a.value 0)) q
+      first None f q = other q
+      first (Some a) f q = let r = line_only bytes a f in seeded a r.0 r.1 (told (eqb a.value 0)) q
 
 pub taken_exactly : (bytes : List ℕ) → TakenExactly bytes
 taken_exactly bytes = record { if_text = if_text bytes; if_taken = if_taken bytes }

@@ -3,6 +3,7 @@ use Prim.Native.Nat.{ℕ}
 use mathlib.Core.Path.{◌≡◌, refl, sym, ap, subst, ◌∙◌}
 use mathlib.Core.Bool.{false}
 use mathlib.Core.List.{List, [], ◌∷◌, ◌++◌}
+use Rattle.std.specs.Prelude.{None}
 use lib.ListN.{length, replicate, length-replicate}
 use Rattle.layout.specs.declared.Label.{Label}
 use Rattle.layout.specs.Places.{label_of, within_limits, meta_pages, meta_span, ssd_length}
@@ -13,7 +14,7 @@ use Rattle.protocol.specs.Judge.{lengths_test}
 use Rattle.protocol.specs.Calls.{result_of}
 use Rattle.protocol.specs.Events.{World, Event, apply, run, formatted, start_of, Fits, AllFit}
 use Rattle.protocol.specs.Demand3.{Safe}
-use Rattle.maintenance.specs.Format.{format_number}
+use Rattle.maintenance.specs.Format.{format_refusal}
 use Rattle.maintenance.proofs.FormatLaws.{format-begins}
 use Rattle.theorem.proofs.Demand3.{demand3}
 use Rattle.load_run.specs.Runs.{blank_record, blank}
@@ -25,18 +26,18 @@ p1 = label_of 4 8
 abbrev zeros : ℕ → List ℕ
 zeros n = replicate n 0
 
-blank-number : 0 ≡ format_number p1 (length (zeros 24576)) (length (zeros 32768)) (length (zeros 8))
+blank-free : None ≡ format_refusal p1 (length (zeros 24576)) (length (zeros 32768)) (length (zeros 8))
 unfolding within_limits lengths_test ssd_length meta_span meta_pages
-blank-number =
+blank-free =
     let a : 24576 ≡ length (zeros 24576) = sym (length-replicate {A = ℕ} 24576 0) in
     let b : 32768 ≡ length (zeros 32768) = sym (length-replicate {A = ℕ} 32768 0) in
-    λ i. format_number p1 (a i) (b i) 8
+    λ i. format_refusal p1 (a i) (b i) 8
 
 pub blank-taken : refused (result_of (format 4 8) blank).said ≡ false
 unfolding blank
 blank-taken =
     sym (ap (λ (r : Result). refused r.said)
-    (format-begins (zeros 24576) (zeros 32768) (zeros 8) blank_record 4 8 p1 refl 0 blank-number _ refl refl))
+    (format-begins (zeros 24576) (zeros 32768) (zeros 8) blank_record 4 8 p1 refl (sym blank-free)))
 
 abbrev pub start : World
 start = start_of p1 (formatted 4 8 blank)

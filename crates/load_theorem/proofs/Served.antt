@@ -3,7 +3,7 @@ use Prim.Native.Nat.{ℕ}
 use mathlib.Core.Path.{◌≡◌, refl, sym, ap, subst, ◌∙◌}
 use mathlib.Core.Bool.{Bool, true, false, not, ◌&&◌}
 use mathlib.Core.List.{List}
-use mathlib.Core.Option.{Option, some, none}
+use Rattle.std.specs.Prelude.{Option, Some, None}
 use Rattle.layout.specs.declared.Slot.{Slot}
 use Rattle.layout.specs.declared.Block.{Block}
 use Rattle.record.specs.declared.Record.{Record}
@@ -13,7 +13,8 @@ use Rattle.protocol.specs.Box.{Box, Result, box_after}
 use Rattle.protocol.specs.Plan.{Call, Move, plan}
 use Rattle.protocol.specs.Kinds.{Kind, Aim, a_service, kind, aim}
 use Rattle.protocol.specs.Perform.{landed_state, confirmed, perform}
-use Rattle.protocol.specs.Judge.{Reason, is_ready, judged}
+use Rattle.protocol.specs.declared.Refusal.{Refusal}
+use Rattle.protocol.specs.Judge.{is_ready, judged}
 use Rattle.protocol.specs.Calls.{decided, effect_of, result_of}
 use Rattle.protocol.specs.ReferenceDisk.{Disk, fed_call, fed}
 use Rattle.protocol.specs.Events.{World, may_finish, reads_if, called, KindFits, CallFits}
@@ -40,7 +41,7 @@ does_phase (does_confirm u n) = refl
 pub record Service (c : Call) : Type 0 where
   pub aimed : Aim
   pub kind_is : kind c ≡ a_service aimed
-  pub does : (x : Box) → judged c x ≡ none → Does x aimed (plan c x)
+  pub does : (x : Box) → judged c x ≡ None → Does x aimed (plan c x)
 
 -- what it feeds the reference disk
 abbrev pub fed_by : Call → Bool → Disk → Disk
@@ -52,9 +53,9 @@ module _ (c : Call) (S : Service c) where
   unfolding effect_of
   phase_kept x = go (judged c x) refl
     where
-      go : (o : Option Reason) → judged c x ≡ o → (decided o c x).state.phase ≡ x.state.phase
-      go (some r) e = refl
-      go none e = does_phase (S.does x e)
+      go : (o : Option Refusal) → judged c x ≡ o → (decided o c x).state.phase ≡ x.state.phase
+      go (Some r) e = refl
+      go None e = does_phase (S.does x e)
 
   pub service_fits : (w : World) → CallFits c w
   service_fits w = subst (λ (k : Kind). KindFits k (refused (result_of c w.box).said)) (sym S.kind_is) tt

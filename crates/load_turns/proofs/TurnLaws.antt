@@ -12,7 +12,7 @@ use Rattle.protocol.specs.Calls.{result_of}
 use Rattle.draws.specs.declared.Kind.{Kind}
 use Rattle.draws.specs.declared.Kind.TheVariants.{Write, Fetch}
 use Rattle.draws.specs.Draws.{kind_of, block_of, draw_page}
-use Rattle.load_calls.specs.Openings.{opening, past}
+use Rattle.load_calls.specs.Openings.{opening, past, Opened, left_of}
 use Rattle.load_turns.specs.Turns.{Turned, fed_if, landed, land_if, turned}
 
 -- what has landed
@@ -38,16 +38,15 @@ module _ (b : Block) (page : List ℕ) (x : Box) (plain : List ℕ) (r : Result)
 
 -- the whole draw
 module _ (s : ℕ) (x : Box) (plain : List ℕ) (k : Kind) (b : Block) (K : k ≡ kind_of s) (B : b ≡ block_of s)
-    (r : Result) (e : r ≡ past (opening k b) x) (t : Bool) (h : t ≡ refused r.said) where
-  as_turned : land_if t k b (draw_page s) (box_after r) plain ≡ turned s x plain
+    (o : Opened) (e : o ≡ left_of (past (opening k b) x)) where
+  as_turned : land_if o.refused k b (draw_page s) o.box plain ≡ turned s x plain
   unfolding turned
   as_turned =
-      ap (λ (v : Bool). land_if v k b (draw_page s) (box_after r) plain) h
-      ∙ ap (λ (v : Result). land_if (refused v.said) k b (draw_page s) (box_after v) plain) e
+      ap (λ (v : Opened). land_if v.refused k b (draw_page s) v.box plain) e
       ∙ (λ i. let v = past (opening (K i) (B i)) x in land_if (refused v.said) (K i) (B i) (draw_page s) (box_after v) plain)
 
-  pub turn_refused : t ≡ true → record { box = box_after r; plain = plain; refused = true } ≡ turned s x plain
-  turn_refused q = ap (λ (v : Bool). land_if v k b (draw_page s) (box_after r) plain) (sym q) ∙ as_turned
+  pub turn_refused : o.refused ≡ true → record { box = o.box; plain = plain; refused = true } ≡ turned s x plain
+  turn_refused q = ap (λ (v : Bool). land_if v k b (draw_page s) o.box plain) (sym q) ∙ as_turned
 
-  pub turn_landed : (m : Turned) → t ≡ false → m ≡ landed k b (draw_page s) (box_after r) plain → m ≡ turned s x plain
-  turn_landed m q f = f ∙ ap (λ (v : Bool). land_if v k b (draw_page s) (box_after r) plain) (sym q) ∙ as_turned
+  pub turn_landed : (m : Turned) → o.refused ≡ false → m ≡ landed k b (draw_page s) o.box plain → m ≡ turned s x plain
+  turn_landed m q f = f ∙ ap (λ (v : Bool). land_if v k b (draw_page s) o.box plain) (sym q) ∙ as_turned

@@ -10,7 +10,7 @@ use Rattle.draws.specs.declared.Kind.{Kind}
 use Rattle.draws.specs.declared.Kind.TheVariants.{Write, Fetch, LookUp, Flush}
 use Rattle.draws.specs.Draws.{kind_of, block_of, draw_page}
 use Rattle.load_calls.specs.Openings.{opening, past}
-use Rattle.load_turns.specs.declared.Turn.{Turn}
+use Rattle.record.specs.declared.Record.{Record}
 
 -- the box, the plain disk's pages in order, and whether the draw was refused
 pub record Turned : Type 0 where
@@ -46,5 +46,5 @@ turned s x plain =
     land_if (refused r.said) (kind_of s) (block_of s) (draw_page s) (box_after r) plain
 
 -- what a draw in code leaves
-abbrev pub turn_left : Turn → List ℕ → List ℕ → List ℕ → List ℕ → Turned
-turn_left t ssd hdd table plain = record { box = box_of ssd hdd table t.state; plain = plain; refused = t.refused }
+abbrev pub turn_left : Record → Bool → List ℕ → List ℕ → List ℕ → List ℕ → Turned
+turn_left state refused ssd hdd table plain = record { box = box_of ssd hdd table state; plain = plain; refused = refused }

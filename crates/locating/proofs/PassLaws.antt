@@ -1,33 +1,20 @@
 -- One pass for a list: what a row adds to the word of a listed block.
-use Prim.Native.Nat.{ℕ, suc, ◌+◌, ◌*◌, ◌%◌, ◌≤◌, ◌<◌}
-use mathlib.Core.Path.{◌≡◌, refl, sym, ap, ◌∙◌}
+use Prim.Native.Nat.{ℕ, suc, ◌+◌, ◌*◌, ◌≤◌, ◌<◌}
+use mathlib.Core.Path.{◌≡◌, sym, ap, ◌∙◌}
 use mathlib.Core.Logic.{◌≢◌}
-use mathlib.Core.Bool.{Bool, true, false, cond, ◌&&◌}
+use mathlib.Core.Bool.{Bool, true, false, cond}
 use mathlib.Core.List.{List}
-use mathlib.Core.Option.{some}
+use Rattle.std.specs.Prelude.{Some}
 use native.Mathlib.Omega.{arith}
 use native.Mathlib.Decide.{ℕ_discrete}
 use native.Mathlib.Numerals.{add-one}
-use lib.ListN.{length, get_or, set, drop, drop_of_length-le}
-use lib.Seq.{get_or-set_same}
-use lib.Dec.{eqb}
+use lib.ListN.{length, get_or, drop, drop_of_length-le}
 use borrow.Author.Tests.{ne_eqb}
 use Rattle.layout.specs.declared.Block.{Block}
-use Rattle.protocol.specs.Rows.{valid}
 use Rattle.protocol.specs.Condition.{slot_from}
 use Rattle.table.specs.Scan.{holds_in}
 use Rattle.table.proofs.RowLaws.{rows_from_lem}
-use Rattle.locating.specs.Places.{place_word, or_found, noted_as, met_as}
-use Rattle.locating.proofs.WordLaws.{set-or}
-
--- a listed block's mark is set, or was so
-pub mark_or : (m blocks : List ℕ) (j i : ℕ) → length m ≡ 4096 → (i ≢ j → get_or m (get_or blocks i 0 % 4096) 0 ≡ 1)
-    → get_or (set m (get_or blocks j 0 % 4096) 1) (get_or blocks i 0 % 4096) 0 ≡ 1
-mark_or m blocks j i s q = go (ℕ_discrete i j)
-  where
-    go : Dec (i ≡ j) → get_or (set m (get_or blocks j 0 % 4096) 1) (get_or blocks i 0 % 4096) 0 ≡ 1
-    go (yes e) = rw (e, get_or-set_same m (get_or blocks j 0 % 4096) 1 0 (omega arith)) refl
-    go (no n) = set-or m (get_or blocks j 0 % 4096) (get_or blocks i 0 % 4096) 1 (λ a. a ≡ 1) (omega arith) refl (λ k. q n)
+use Rattle.locating.specs.Places.{place_word, or_found, met_as}
 
 -- what was found stays; nothing found, nothing added
 found_stays : (w : ℕ) → w ≢ 0 → (y : ℕ) → or_found w y ≡ w
@@ -39,28 +26,6 @@ none_added w = go (ℕ_discrete w 0)
     go : Dec (w ≡ 0) → w ≡ or_found w 0
     go (yes e) = rw e
     go (no n) = sym (found_stays w n 0)
-
-eqb_swap : (a b : ℕ) → eqb a b ≡ eqb b a
-eqb_swap a b = go (ℕ_discrete a b)
-  where
-    go : Dec (a ≡ b) → eqb a b ≡ eqb b a
-    go (yes e) = rw e
-    go (no n) = rw (ne_eqb a b n, ne_eqb b a (λ e. n (sym e)))
-
--- a row of another block, one that is not valid, one that is
-module _ (w b block flags here : ℕ) where
-  pub met-other : b ≢ block → w ≡ met_as w b block flags here
-  met-other n = none_added w ∙ ap (λ (t : Bool). or_found w (cond t here 0)) (sym (unheld (valid flags)))
-    where
-      unheld : (v : Bool) → (v && eqb block b) ≡ false
-      unheld true = ne_eqb block b (λ e. n (sym e))
-      unheld false = refl
-
-  pub met-free : flags % 2 ≢ 1 → w ≡ met_as w b block flags here
-  met-free n = none_added w ∙ rw (ne_eqb (flags % 2) 1 n)
-
-  pub met-valid : flags % 2 ≡ 1 → noted_as w b block here ≡ met_as w b block flags here
-  met-valid e = rw (e, eqb_swap b block)
 
 -- the rows from i on, and a row more
 module _ (t : List ℕ) (b : Block) (i w : ℕ) where
@@ -76,7 +41,7 @@ module _ (t : List ℕ) (b : Block) (i w : ℕ) where
       kept n r z q = found_stays w n r ∙ sym (ap (λ (v : ℕ). or_found v q) (found_stays w n z) ∙ found_stays w n q)
 
       go : (c : Bool) → Dec (w ≡ 0)
-          → or_found w (place_word (elim c [ true ↦ some (record { 0 = i }) | false ↦ slot_from (suc i) (drop (2 * (i + 1)) t) b ]))
+          → or_found w (place_word (elim c [ true ↦ Some (record { 0 = i }) | false ↦ slot_from (suc i) (drop (2 * (i + 1)) t) b ]))
           ≡ or_found (or_found w (cond c (i + 1) 0)) (place_word (slot_from (i + 1) (drop (2 * (i + 1)) t) b))
       go true (yes e) = rw (e, ne_eqb (i + 1) 0 (omega arith))
       go true (no n) = kept n _ _ _

@@ -4,7 +4,7 @@ use mathlib.Core.Path.{◌≡◌, refl, sym, ap, ◌∙◌}
 use mathlib.Core.Logic.{◌≢◌}
 use mathlib.Core.Bool.{Bool, true, false}
 use mathlib.Core.List.{List, [], ◌∷◌, ◌++◌}
-use mathlib.Core.Option.{Option, some, none}
+use Rattle.std.specs.Prelude.{Option, Some, None}
 use native.Mathlib.Omega.{arith}
 use native.Mathlib.Decide.{ℕ_discrete, dec_lt}
 use native.Mathlib.Numerals.{add-one}
@@ -30,7 +30,7 @@ use Rattle.locating.specs.Places.{place_word, place_of, places_of, condition_the
 -- a slot's word and the slot to use, by its writing flag
 module _ (t : List ℕ) (s : Slot) where
   pub open_there : writing (row_flags t s) ≡ true
-      → (closed_slot (condition_at t (some s)) ≡ []) × (word_of (condition_at t (some s)) ≡ 0)
+      → (closed_slot (condition_at t (Some s)) ≡ []) × (word_of (condition_at t (Some s)) ≡ 0)
   open_there e = (rw (condition_at, e) (go (dirty (row_flags t s))).0, rw (condition_at, e) (go (dirty (row_flags t s))).1)
     where
       go : (d : Bool) → (closed_slot (open_as d s) ≡ []) × (word_of (open_as d s) ≡ 0)
@@ -38,7 +38,7 @@ module _ (t : List ℕ) (s : Slot) where
       go false = (refl, refl)
 
   pub shut_there : writing (row_flags t s) ≡ false
-      → (closed_slot (condition_at t (some s)) ≡ s ∷ []) × (word_of (condition_at t (some s)) ≡ s.0 + 1)
+      → (closed_slot (condition_at t (Some s)) ≡ s ∷ []) × (word_of (condition_at t (Some s)) ≡ s.0 + 1)
   shut_there e = (rw (condition_at, e) (go (dirty (row_flags t s))).0, rw (condition_at, e) (go (dirty (row_flags t s))).1)
     where
       go : (d : Bool) → (closed_slot (closed_as d s) ≡ s ∷ []) × (word_of (closed_as d s) ≡ s.0 + 1)
@@ -112,7 +112,7 @@ module _ (before t : List ℕ) (S : Still before t) where
       s : Slot
       s = record { 0 = n }
 
-      go : Told (writing (row_flags t s)) → Still before (used_all (closed_slot (condition_at t (some s))) t)
+      go : Told (writing (row_flags t s)) → Still before (used_all (closed_slot (condition_at t (Some s))) t)
       go (told_true e) = rw (open_there t s e).0 S
       go (told_false e) = rw (shut_there t s e).0 (still_used s (omega arith))
 
@@ -138,8 +138,8 @@ use_end before t words j h = ap (λ (l : List ℕ). used_all (slots_there before
 
 -- the places that a pass finds are in the table, and are the blocks' slots
 place_back : (o : Option Slot) → place_of (place_word o) ≡ o
-place_back none = refl
-place_back (some s) = ap place_of (add-one s.0)
+place_back None = refl
+place_back (Some s) = ap place_of (add-one s.0)
 
 module _ (t : List ℕ) where
   there_is : (b : ℕ) → condition_there t (place_word (slot_of t (record { 0 = b }))) ≡ condition_of t (record { 0 = b })

@@ -1,20 +1,11 @@
 -- A loop over a list of words that gives each anew from its place and from what it was.
 use Prim.Native.Nat.{ℕ, zero, suc, ◌+◌, ◌≤◌, ◌<◌}
 use mathlib.Core.Path.{◌≡◌, refl, ap, ◌∙◌}
-use mathlib.Core.Logic.{◌≢◌}
 use mathlib.Core.List.{List, [], ◌∷◌, map}
 use native.Mathlib.Omega.{arith}
 use native.Mathlib.Decide.{ℕ_discrete}
 use lib.ListN.{length, get_or, set, length-set, length-map}
 use lib.Seq.{get_or-set_same, get_or-set_other, ext_get_or}
-
--- a place that is set, or was so
-pub set-or : (w : List ℕ) (j i a : ℕ) (P : ℕ → Type 0) → j < length w → P a → (i ≢ j → P (get_or w i 0)) → P (get_or (set w j a) i 0)
-set-or w j i a P h p q = go (ℕ_discrete i j)
-  where
-    go : Dec (i ≡ j) → P (get_or (set w j a) i 0)
-    go (yes e) = rw (e, get_or-set_same w j a 0 h) p
-    go (no n) = rw (get_or-set_other w j i a 0 n) (q n)
 
 -- the words up to j are new, the others as they were
 pub record Renewed (f : ℕ → ℕ → ℕ) (before words : List ℕ) (j : ℕ) : Type 0 where

@@ -1,6 +1,6 @@
 -- The words of one pass: where each listed block is, and what they are once open slots are told apart.
 use Rattle.std.specs.Prelude.{ℕ, zero, suc, ◌+◌, cond, List, [], ◌∷◌, ◌++◌, map, eqb}
-use Rattle.std.proofs.Math.Option.{Option, some, none}
+use Rattle.std.specs.Prelude.{Option, Some, None}
 use Rattle.layout.specs.declared.Slot.{Slot}
 use Rattle.protocol.specs.declared.Condition.{Condition}
 use Rattle.protocol.specs.Condition.{slot_of, condition_at, word_of, closed_slot}
@@ -8,12 +8,12 @@ use Rattle.table.specs.Scan.{holds_in}
 
 -- a slot's number plus 1, or 0 for none; and back
 abbrev pub place_word : Option Slot → ℕ
-place_word none = 0
-place_word (some s) = s.0 + 1
+place_word None = 0
+place_word (Some s) = s.0 + 1
 
 abbrev pub place_of : ℕ → Option Slot
-place_of zero = none
-place_of (suc s) = some (record { 0 = s })
+place_of zero = None
+place_of (suc s) = Some (record { 0 = s })
 
 -- where each listed block is, open or not: its lowest slot
 abbrev pub places_of : List ℕ → List ℕ → List ℕ

@@ -1,5 +1,5 @@
 // One pass over the table for a whole list of blocks.
-ghost use Rattle.std.specs.Prelude.{◌≡◌, ℕ, ◌+◌, ◌*◌, ◌%◌, ◌≤◌, ◌<◌, length, get_or};
+ghost use Rattle.std.specs.Prelude.{◌≡◌, true, false, ℕ, ◌+◌, ◌*◌, ◌%◌, ◌≤◌, ◌<◌, length, get_or};
 ghost use Rattle.layout.specs.Places.{table_length};
 ghost use Rattle.locating.specs.Places.{places_of, noted_as, met_as};
 
@@ -12,13 +12,7 @@ const MARKS: usize = 4096;
 fn noted(word: u32, b: u32, block: u32, here: u32) -> u32
     ensures { result ≡ noted_as word b block here }
 {
-    if word != 0 {
-        return word;
-    }
-    if b == block {
-        return here;
-    }
-    word
+    if word == 0 && b == block { here } else { word }
 }
 
 // Notes a valid row of `block` in the words of every place that lists it.
@@ -26,73 +20,47 @@ fn note(blocks: &[u32], words: &mut [u32], block: u32, here: u32)
     requires { length words.old ≡ length blocks.now }
     ensures { (j : ℕ) → j < length blocks.now → get_or words.new j 0 ≡ noted_as (get_or words.old j 0) (get_or blocks.now j 0) block here }
 {
-    let n = blocks.len();
-    let mut j: usize = 0;
-    while j < n {
-        words[j] = noted(words[j], blocks[j], block, here);
-        j += 1;
+    for (j, word) in words.iter_mut().enumerate() {
+        *word = noted(*word, blocks[j], block, here);
     }
 }
 
-// Meets a row whose block has the mark `mark`: unmarked, it is in no place of the list.
-fn meet(blocks: &[u32], words: &mut [u32], block: u32, flags: u32, mark: u8, here: u32)
+// Meets a row whose block's residue is marked, or is not: then it is in no place of the list.
+fn meet(blocks: &[u32], words: &mut [u32], block: u32, flags: u32, marked: bool, here: u32)
     requires words_len { length words.old ≡ length blocks.now }
-    requires by_index { (j : ℕ) → j < length blocks.now → get_or blocks.now j 0 ≡ block → mark ≡ 1 }
+    requires by_index { (j : ℕ) → j < length blocks.now → get_or blocks.now j 0 ≡ block → marked ≡ true }
     ensures { (j : ℕ) → j < length blocks.now → get_or words.new j 0 ≡ met_as (get_or words.old j 0) (get_or blocks.now j 0) block flags here }
 {
-    if mark != 1 {
-        return;
+    if marked && flags % 2 == 1 {
+        note(blocks, words, block, here);
     }
-    if flags % 2 != 1 {
-        return;
-    }
-    note(blocks, words, block, here);
 }
 
 // Marks the listed blocks.
-fn mark(blocks: &[u32], marks: &mut [u8])
+fn mark(blocks: &[u32], marks: &mut [bool])
     requires { length marks.old ≡ 4096 }
-    ensures { (j : ℕ) → j < length blocks.now → get_or marks.new (get_or blocks.now j 0 % 4096) 0 ≡ 1 }
+    ensures { (j : ℕ) → j < length blocks.now → get_or marks.new (get_or blocks.now j 0 % 4096) false ≡ true }
 {
-    let n = blocks.len();
-    let mut j: usize = 0;
-    while j < n {
-        let at = (blocks[j] % 4096) as usize;
-        marks[at] = 1;
-        j += 1;
-    }
-}
-
-// Clears the words.
-fn clear(words: &mut [u32])
-    ensures { (j : ℕ) → j < length words.old → get_or words.new j 0 ≡ 0 }
-{
-    let n = words.len();
-    let mut j: usize = 0;
-    while j < n {
-        words[j] = 0;
-        j += 1;
+    for b in blocks {
+        marks[(*b % 4096) as usize] = true;
     }
 }
 
 // The one pass: every row is met once, from the lowest slot on.
-fn pass(l: Label, table: &[u32], blocks: &[u32], words: &mut [u32], marks: &[u8])
+fn pass(l: Label, table: &[u32], blocks: &[u32], words: &mut [u32], marks: &[bool])
     requires table_len { length table.now ≡ table_length l }
     requires words_len { length words.old ≡ length blocks.now }
     requires marks_len { length marks.now ≡ 4096 }
-    requires by_index { (j : ℕ) → j < length blocks.now → get_or marks.now (get_or blocks.now j 0 % 4096) 0 ≡ 1 }
+    requires by_index { (j : ℕ) → j < length blocks.now → get_or marks.now (get_or blocks.now j 0 % 4096) false ≡ true }
     requires by_index_2 { (j : ℕ) → j < length words.old → get_or words.old j 0 ≡ 0 }
     requires slots_bound { l.slots ≤ 57600 }
     ensures { words.new ≡ places_of table.now blocks.now }
 {
-    let slots = l.slots;
-    let mut i: u32 = 0;
-    while i < slots {
+    for i in 0..l.slots {
         let k = 2 * (i as usize);
         let block = table[k];
-        let at = (block % 4096) as usize;
-        meet(blocks, words, block, table[k + 1], marks[at], i + 1);
-        i += 1;
+        let marked = marks[(block % 4096) as usize];
+        meet(blocks, words, block, table[k + 1], marked, i + 1);
     }
 }
 
@@ -103,8 +71,8 @@ pub fn locate(l: Label, table: &[u32], blocks: &[u32], words: &mut [u32])
     requires slots_bound { l.slots ≤ 57600 }
     ensures { words.new ≡ places_of table.now blocks.now }
 {
-    clear(words);
-    let mut marks = [0u8; MARKS];
+    words.fill(0);
+    let mut marks = [false; MARKS];
     mark(blocks, &mut marks);
     pass(l, table, blocks, words, &marks);
 }

@@ -30,10 +30,7 @@ pub fn use_places(table: &mut [u32], words: &mut [u32])
     requires by_index_2 { (s : ℕ) → get_or table.old (2 * s + 1) 0 < 16 }
     ensures { (words.new ≡ closed_words table.old words.old) × (table.new ≡ used_all (slots_there table.old words.old) table.old) }
 {
-    let n = words.len();
-    let mut j: usize = 0;
-    while j < n {
-        words[j] = use_place(table, words[j]);
-        j += 1;
+    for word in words.iter_mut() {
+        *word = use_place(table, *word);
     }
 }

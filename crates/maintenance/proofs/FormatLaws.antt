@@ -4,7 +4,10 @@ use mathlib.Core.Path.{◌≡◌, refl, sym, ap, ◌∙◌}
 use mathlib.Core.Logic.{◌≢◌}
 use mathlib.Core.Bool.{true, false}
 use mathlib.Core.List.{List, [], ◌∷◌, ◌++◌}
-use mathlib.Core.Option.{some, none}
+use Rattle.std.specs.Prelude.{Option, Some, None}
+use Rattle.std.proofs.lemmas.Option.{none-some}
+use Rattle.laws.proofs.Judged.{refused_as}
+use Rattle.protocol.specs.declared.Refusal.{Refusal}
 use native.Mathlib.Omega.{arith}
 use native.Mathlib.Numerals.{add-one}
 use lib.ListN.{length, set, take, replicate, replicate-append-replicate}
@@ -20,16 +23,17 @@ use Rattle.protocol.specs.Metadata.{store_place, meta_bytes}
 use Rattle.record.specs.declared.Record.{Record}
 use Rattle.record.specs.declared.Phase.TheVariants.{Formatting}
 use Rattle.protocol.specs.declared.Stored.{Stored}
-use Rattle.protocol.specs.declared.Stored.TheVariants.{Nothing, Ssd}
+use Rattle.protocol.specs.declared.Stored.TheVariants.{Ssd}
 use Rattle.protocol.specs.Reply.{Reply, refusal, done}
 use Rattle.protocol.specs.Box.{Result}
 use Rattle.record.specs.Record.{label_in, window_in, record_of}
 use Rattle.protocol.specs.Plan.{format, plan}
 use Rattle.protocol.specs.Perform.{format_store, perform}
-use Rattle.protocol.specs.Judge.{lengths_test, bad_limits, wrong_length, length_test, test, first_of, judged}
+use Rattle.protocol.specs.declared.Refusal.TheVariants.{BadLimits, WrongLength}
+use Rattle.protocol.specs.Judge.{number_of, lengths_test, length_test, test, first_of, judged}
 use Rattle.protocol.specs.Calls.{box_of, effect_of, format_of}
 use Rattle.layout.proofs.Booleans.{Told, told, told_true, told_false, and_parts}
-use Rattle.maintenance.specs.Format.{format_number, table_after}
+use Rattle.maintenance.specs.Format.{format_refusal}
 
 -- one word more is zero
 pub cleared_more : (table : List ℕ) (i : ℕ) → i < length table → take i table ≡ replicate i 0
@@ -75,29 +79,20 @@ meta_step_stored ssd table after stored state (suc p) n h t k =
 module _ (ssd hdd table : List ℕ) (state : Record) (slots blocks : ℕ) (l : Label) (L : l ≡ label_of slots blocks) where
   -- what a format leaves: it stores nothing
   abbrev answering : Reply → Record → List ℕ → Result
-  answering said next after = record { said = said; stored = Nothing; state = next; table = after; ssd = ssd; hdd = hdd }
+  answering said next after = record { said = said; stored = None; state = next; table = after; ssd = ssd; hdd = hdd }
 
-  limits-judged : within_limits l ≡ false → judged (format slots blocks) (box_of ssd hdd table state) ≡ some bad_limits
+  limits-judged : within_limits l ≡ false → judged (format slots blocks) (box_of ssd hdd table state) ≡ Some BadLimits
   unfolding judged first_of test
   limits-judged e = rw (first_of, ← L, e)
 
-  limits-refused : within_limits l ≡ false → answering (refusal 1) state table ≡ format_of ssd hdd table state slots blocks
-  unfolding effect_of
-  limits-refused e = rw (limits-judged e)
-
   module _ (e : within_limits l ≡ true) where
     length-judged : lengths_test l (length ssd) (length hdd) (length table) ≡ false
-        → judged (format slots blocks) (box_of ssd hdd table state) ≡ some wrong_length
+        → judged (format slots blocks) (box_of ssd hdd table state) ≡ Some WrongLength
     unfolding judged first_of test length_test lengths_test
     length-judged t = rw (first_of, ← L, e) (rw (first_of, rw L at t))
 
-    length-refused : lengths_test l (length ssd) (length hdd) (length table) ≡ false
-        → answering (refusal 4) state table ≡ format_of ssd hdd table state slots blocks
-    unfolding effect_of
-    length-refused t = rw (length-judged t)
-
     begun-judged : lengths_test l (length ssd) (length hdd) (length table) ≡ true
-        → judged (format slots blocks) (box_of ssd hdd table state) ≡ none
+        → judged (format slots blocks) (box_of ssd hdd table state) ≡ None
     unfolding judged first_of test length_test lengths_test
     begun-judged t = rw (first_of, ← L, e) (rw (first_of, rw L at t))
 
@@ -112,30 +107,30 @@ module _ (ssd hdd table : List ℕ) (state : Record) (slots blocks : ℕ) (l : L
     unfolding effect_of plan perform
     format-begun after t h = rw (h, table-size t, begun-judged t, L)
 
-  -- by its number
-  module _ (n : ℕ) (e : n ≡ format_number l (length ssd) (length hdd) (length table)) (after : List ℕ) (h : after ≡ table_after n table) where
-    pub format-refused : n ≢ 0 → answering (refusal n) state after ≡ format_of ssd hdd table state slots blocks
-    format-refused z = go (told (within_limits l)) (told (lengths_test l (length ssd) (length hdd) (length table)))
-      where
-        kept : (m : ℕ) → n ≡ suc m → after ≡ table
-        kept m q = h ∙ ap (λ (k : ℕ). table_after k table) q
+  -- what refuses it, and what it leaves so
+  abbrev refuses_it : Option Refusal
+  refuses_it = format_refusal l (length ssd) (length hdd) (length table)
 
-        go : Told (within_limits l) → Told (lengths_test l (length ssd) (length hdd) (length table))
-            → answering (refusal n) state after ≡ format_of ssd hdd table state slots blocks
-        go (told_false a) t =
-            let q : n ≡ 1 = e ∙ rw a in
-            rw (kept 0 q, q) (limits-refused a)
-        go (told_true a) (told_false t) =
-            let q : n ≡ 4 = e ∙ rw (a, t) in
-            rw (kept 3 q, q) (length-refused a t)
-        go (told_true a) (told_true t) = absurd (z (e ∙ rw (a, t)))
+  format_judged : judged (format slots blocks) (box_of ssd hdd table state) ≡ refuses_it
+  format_judged = go (told (within_limits l)) (told (lengths_test l (length ssd) (length hdd) (length table)))
+    where
+      go : Told (within_limits l) → Told (lengths_test l (length ssd) (length hdd) (length table))
+          → judged (format slots blocks) (box_of ssd hdd table state) ≡ refuses_it
+      go (told_false a) t = rw a (limits-judged a)
+      go (told_true a) (told_false t) = rw (a, t) (length-judged a t)
+      go (told_true a) (told_true t) = rw (a, t) (begun-judged a t)
 
-    pub format-begins : n ≡ 0
-        → answering done (record_of l (record { 0 = 0 }) 0 (Formatting 0) false []) after ≡ format_of ssd hdd table state slots blocks
-    format-begins z = go (told (within_limits l)) (told (lengths_test l (length ssd) (length hdd) (length table)))
-      where
-        go : Told (within_limits l) → Told (lengths_test l (length ssd) (length hdd) (length table))
-            → answering done (record_of l (record { 0 = 0 }) 0 (Formatting 0) false []) after ≡ format_of ssd hdd table state slots blocks
-        go (told_false a) t = let q : n ≡ 1 = e ∙ rw a in absurd (omega (arith, q, z))
-        go (told_true a) (told_false t) = let q : n ≡ 4 = e ∙ rw (a, t) in absurd (omega (arith, q, z))
-        go (told_true a) (told_true t) = format-begun a after t (h ∙ ap (λ (k : ℕ). table_after k table) z)
+  pub format-refused : (r : Refusal) → refuses_it ≡ Some r → answering (refusal (number_of r)) state table ≡ format_of ssd hdd table state slots blocks
+  format-refused r e = refused_as (format slots blocks) (box_of ssd hdd table state) r (format_judged ∙ e)
+
+  pub format-begins : refuses_it ≡ None
+      → answering done (record_of l (record { 0 = 0 }) 0 (Formatting 0) false []) (replicate (length table) 0)
+      ≡ format_of ssd hdd table state slots blocks
+  format-begins e = go (told (within_limits l)) (told (lengths_test l (length ssd) (length hdd) (length table)))
+    where
+      go : Told (within_limits l) → Told (lengths_test l (length ssd) (length hdd) (length table))
+          → answering done (record_of l (record { 0 = 0 }) 0 (Formatting 0) false []) (replicate (length table) 0)
+          ≡ format_of ssd hdd table state slots blocks
+      go (told_false a) t = absurd (none-some BadLimits (sym (rw a at e)))
+      go (told_true a) (told_false t) = absurd (none-some WrongLength (sym (rw (a, t) at e)))
+      go (told_true a) (told_true t) = format-begun a _ t refl

@@ -5,40 +5,31 @@ ghost use Rattle.layout.specs.Places.{within_limits, meta_span};
 ghost use Rattle.record.specs.declared.Phase.TheVariants.{Formatting};
 ghost use Rattle.record.specs.Record.{label_in, window_in, record_of};
 ghost use Rattle.protocol.specs.Perform.{format_store, format_state};
-ghost use Rattle.protocol.specs.Calls.{leaves, format_of};
+ghost use Rattle.protocol.specs.Calls.{ends, format_of};
 ghost use Rattle.judging.specs.Fits.{FitsRecord};
 ghost use Rattle.protocol.specs.declared.Answer.TheVariants.{Done};
 ghost use Rattle.protocol.specs.declared.Stored.TheVariants.{Ssd};
-ghost use Rattle.maintenance.specs.Format.{format_number, table_after};
+ghost use Rattle.record.specs.declared.Record.{Record};
+ghost use Rattle.judging.specs.Judging.{unless};
+ghost use Rattle.maintenance.specs.Format.{format_refusal, table_after};
 
 use layout::{Label, Slot, places};
 use moves::answers;
-use protocol::{Answer, Outcome, Stored};
+use protocol::{Answer, Outcome, Refusal, Stored};
 use record::{Phase, Record, state, window};
 
-// Zeroes the table.
-fn clear_table(table: &mut [u32])
-    ensures { table.new ≡ replicate (length table.old) 0 }
-{
-    let mut i = 0;
-    while i < table.len() {
-        table[i] = 0;
-        i += 1;
-    }
-}
-
-// The number that refuses a format, or 0; where it is 0 the table is zeroed.
-pub fn begin(l: Label, ssd: usize, hdd: usize, table: &mut [u32]) -> u32
-    ensures { (result ≡ format_number l ssd hdd (length table.old)) × (table.new ≡ table_after result table.old) }
+// Refuses a format, by 1 or 4; where it is not refused the table is zeroed.
+pub fn begin(l: Label, ssd: usize, hdd: usize, table: &mut [u32]) -> Result<(), Refusal>
+    ensures { (result ≡ unless (format_refusal l ssd hdd (length table.old)) tt) × (table.new ≡ table_after (format_refusal l ssd hdd (length table.old)) table.old) }
 {
     if !places::within_limits(l) {
-        return 1;
+        return Err(Refusal::BadLimits);
     }
     if !judging::lengths_ok(l, ssd, hdd, table.len()) {
-        return 4;
+        return Err(Refusal::WrongLength);
     }
-    clear_table(table);
-    0
+    table.fill(0);
+    Ok(())
 }
 
 // The record with which a format begins.
@@ -48,23 +39,19 @@ pub fn begun(l: Label) -> Record
     state::fresh(l, 0, Phase::Formatting(0), window::empty())
 }
 
+// The record handed in is not asked for: a format judges none, and a refusal ends it.
 pub fn format(
     ssd: &[u8],
     hdd: &[u8],
     table: &mut [u32],
-    state: Record,
     slots: u32,
     blocks: u32,
-) -> Outcome
-    ensures { leaves result ssd.now hdd.now table.new ≡ format_of ssd.now hdd.now table.old state slots blocks }
+) -> Result<Outcome, Refusal>
+    ensures { (state : Record) → ends state result ssd.now hdd.now table.new ≡ format_of ssd.now hdd.now table.old state slots blocks }
 {
     let l = places::label(slots, blocks);
-    let number = begin(l, ssd.len(), hdd.len(), table);
-    if number != 0 {
-        return answers::refused(number, state);
-    }
-    let next = begun(l);
-    answers::answered(Answer::Done, next)
+    begin(l, ssd.len(), hdd.len(), table)?;
+    Ok(answers::answered(Answer::Done, begun(l)))
 }
 
 // The store of a format's step, after so many of them.
@@ -105,7 +92,7 @@ pub fn format_step(ssd: &mut [u8], table: &[u32], state: Record, done: u32) -> O
     requires fits_record { FitsRecord (length ssd.old) (length table.now) state }
     requires state_value { within_limits (label_in state) ≡ true }
     requires done_bound { done ≤ meta_span (label_in state) + 1 }
-    ensures { (result ≡ record { answer = Done; state = format_state (label_in state) state done; stored = Ssd (format_store (label_in state) table.now (window_in state) done).place }) × (ssd.new ≡ put_page ssd.old (format_store (label_in state) table.now (window_in state) done).place (format_store (label_in state) table.now (window_in state) done).bytes) }
+    ensures { (result ≡ record { answer = Done; state = format_state (label_in state) state done; stored = Some (Ssd (format_store (label_in state) table.now (window_in state) done).place) }) × (ssd.new ≡ put_page ssd.old (format_store (label_in state) table.now (window_in state) done).place (format_store (label_in state) table.now (window_in state) done).bytes) }
 {
     let stored = format_store(ssd, table, state, done);
     let next = format_state(state, done);

@@ -43,10 +43,8 @@ fn page_of(stamp: u32, first: u32, second: u32, count: u32, block: u32, flags: u
 // A page whose window lists slots 0 to 62.
 fn wide_page() -> [u8; 4096] {
     let mut slots = [Slot(0); WINDOW];
-    let mut i: usize = 0;
-    while i < WINDOW {
+    for i in 0..WINDOW {
         slots[i] = Slot(i as u32);
-        i += 1;
     }
     let rows = [5, 7, 0, 0];
     page::encode_meta(7, Window { slots, count: 63 }, &rows)
@@ -170,13 +168,9 @@ fn read_row(rt: &impl Print, page: [u8; 4096], rows: u32) -> io::Result<()> {
 fn read_rows(rt: &impl Print, name: &[u8], page: [u8; 4096]) -> io::Result<()> {
     rt.write_all(name)?;
     print!(rt; ":")?;
-    read_row(rt, page, 1)?;
-    read_row(rt, page, 2)?;
-    read_row(rt, page, 3)?;
-    read_row(rt, page, 4)?;
-    read_row(rt, page, 5)?;
-    read_row(rt, page, 6)?;
-    read_row(rt, page, 7)?;
+    for rows in 1..=7 {
+        read_row(rt, page, rows)?;
+    }
     println!(rt)
 }
 

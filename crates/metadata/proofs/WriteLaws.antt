@@ -15,7 +15,7 @@ use Rattle.pages.proofs.PadLaws.{chunk_more, length-padded, padded_put, padded_f
 use Rattle.layout.specs.declared.Slot.{Slot}
 use Rattle.layout.specs.MetaPage.{slots_bytes, entry_bytes, rows_bytes, encode_meta}
 use Rattle.layout.proofs.Loops.{left}
-use Rattle.layout.proofs.MetaLaws.{length-slots_bytes, length-entry_bytes, length-rows_bytes}
+use Rattle.layout.proofs.MetaLaws.{length-slots_bytes, length-rows_bytes}
 
 -- a window's bytes, one slot more
 slots-append : (v w : List Slot) → slots_bytes (v ++ w) ≡ slots_bytes v ++ slots_bytes w
@@ -55,15 +55,17 @@ slot_turn page now w i d lp lw h inv =
     let n : 4 * (i + 1) ≡ 4 * i + 4 = omega arith in
     rw (inv, n, slots_more w i d h) (chunk_more page (slots_bytes (take i w)) (le_bytes 4 (get_or w i d).0) 16 (4 * i) 4 k (omega arith))
 
-pub row_turn : (page now rows : List ℕ) (i : ℕ) → length page ≡ 4096 → length rows ≤ 480 → i % 2 ≡ 0 → i + 1 < length rows
-    → now ≡ put_mid 512 (4 * i) page (rows_bytes (take i rows))
-    → put_mid (512 + 4 * i) 8 now (entry_bytes (get_or rows i 0) (get_or rows (i + 1) 0)) ≡ put_mid 512 (4 * (i + 2)) page (rows_bytes (take (i + 2) rows))
-row_turn page now rows i lp lr e h inv =
-    let l : length (take i rows) ≡ i = simp length-take (omega arith) in
-    let k : length (rows_bytes (take i rows)) ≡ 4 * i = length-rows_bytes (take i rows) (rw l e) ∙ ap (λ (j : ℕ). 4 * j) l in
-    let n : 4 * (i + 2) ≡ 4 * i + 8 = omega arith in
-    rw (inv, n, rows_more rows i e h)
-    (chunk_more page (rows_bytes (take i rows)) (entry_bytes (get_or rows i 0) (get_or rows (i + 1) 0)) 512 (4 * i) 8 k (omega arith))
+pub row_turn : (page now rows : List ℕ) (i : ℕ) → length page ≡ 4096 → length rows ≤ 480 → 2 * i + 1 < length rows
+    → now ≡ put_mid 512 (8 * i) page (rows_bytes (take (2 * i) rows))
+    → put_mid (512 + 8 * i) 8 now (entry_bytes (get_or rows (2 * i) 0) (get_or rows (2 * i + 1) 0)) ≡ put_mid 512 (8 * (i + 1)) page (rows_bytes (take (2 * (i + 1)) rows))
+row_turn page now rows i lp lr h inv =
+    let e : 2 * i % 2 ≡ 0 = omega arith in
+    let l : length (take (2 * i) rows) ≡ 2 * i = simp length-take (omega arith) in
+    let k : length (rows_bytes (take (2 * i) rows)) ≡ 8 * i = omega (arith, length-rows_bytes (take (2 * i) rows) (rw l e), l) in
+    let n : 8 * (i + 1) ≡ 8 * i + 8 = omega arith in
+    let m : 2 * (i + 1) ≡ 2 * i + 2 = omega arith in
+    rw (inv, n, m, rows_more rows (2 * i) e h)
+    (chunk_more page (rows_bytes (take (2 * i) rows)) (entry_bytes (get_or rows (2 * i) 0) (get_or rows (2 * i + 1) 0)) 512 (8 * i) 8 k (omega arith))
 
 -- the window's length as a word: its two bytes, and two of zero
 count_word : (n : ℕ) → n ≤ 63 → le_bytes 4 n ≡ le_bytes 2 n ++ replicate 2 0

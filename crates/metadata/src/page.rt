@@ -17,18 +17,12 @@ fn put_word(bytes: &mut [u8], at: usize, x: u32)
 }
 
 // Writes the slot numbers of a window, from byte 16 on.
-fn write_window(page: &mut [u8], w: Window)
-    requires count_le_window_most { w.count ≤ window_most }
-    requires page_len { length page.old ≡ 4096 }
-    ensures { page.new ≡ put_mid 16 (4 * w.count) page.old (slots_bytes (slots_in w)) }
+fn write_window(page: &mut [u8; 4096], slots: &[Slot])
+    requires slots_len { length slots.now ≤ window_most }
+    ensures { page.new ≡ put_mid 16 (4 * length slots.now) page.old (slots_bytes slots.now) }
 {
-    let slots = w.slots;
-    let n = w.count as usize;
-    let mut i: usize = 0;
-    while i < n {
-        let s = slots[i];
+    for (i, s) in slots.iter().enumerate() {
         put_word(page, 16 + 4 * i, s.0);
-        i += 1;
     }
 }
 
@@ -42,24 +36,20 @@ pub fn write_entry(part: &mut [u8], block: u32, flags: u32)
 }
 
 // Writes the entries of table rows, from byte 512 on.
-fn write_rows(page: &mut [u8], rows: &[u32])
-    requires page_len { length page.old ≡ 4096 }
+fn write_rows(page: &mut [u8; 4096], rows: &[u32])
     requires rows_len_bound { length rows.now ≤ 480 }
     requires rows_len { length rows.now % 2 ≡ 0 }
     ensures { page.new ≡ put_mid 512 (4 * length rows.now) page.old (rows_bytes rows.now) }
 {
-    let mut i: usize = 0;
-    while i < rows.len() {
-        let at = 512 + 4 * i;
-        write_entry(&mut page[at..at + 8], rows[i], rows[i + 1]);
-        i += 2;
+    for i in 0..rows.len() / 2 {
+        let at = 512 + 8 * i;
+        write_entry(&mut page[at..at + 8], rows[2 * i], rows[2 * i + 1]);
     }
 }
 
 // Writes a metadata page over a page of zeros.
-fn fill_meta(page: &mut [u8], stamp: u32, w: Window, rows: &[u32])
+fn fill_meta(page: &mut [u8; 4096], stamp: u32, w: Window, rows: &[u32])
     requires page_value { page.old ≡ padded 4096 [] }
-    requires page_len { length page.old ≡ 4096 }
     requires count_le_window_most { w.count ≤ window_most }
     requires rows_len_bound { length rows.now ≤ 480 }
     requires rows_len { length rows.now % 2 ≡ 0 }
@@ -67,7 +57,7 @@ fn fill_meta(page: &mut [u8], stamp: u32, w: Window, rows: &[u32])
 {
     put_word(page, 0, stamp);
     put_word(page, 4, w.count);
-    write_window(page, w);
+    write_window(page, w.slots());
     write_rows(page, rows);
 }
 
@@ -104,7 +94,7 @@ pub fn count_of(page: &[u8]) -> u32
     requires { length page.now ≡ 4096 }
     ensures { result ≡ count_of page.now }
 {
-    pages::wide(page[4]) + 256 * pages::wide(page[5])
+    u32::from(u16::from_le_bytes([page[4], page[5]]))
 }
 
 // Place k of the page's window.
@@ -121,11 +111,9 @@ pub fn read_entry(part: &[u8]) -> Entry
     requires { length part.now ≡ 8 }
     ensures { result ≡ decode_entry part.now }
 {
-    let block = word_at(part, 0);
-    let flags = pages::wide(part[4]);
     Entry {
-        block: Block(block),
-        flags,
+        block: Block(word_at(part, 0)),
+        flags: u32::from(part[4]),
     }
 }
 

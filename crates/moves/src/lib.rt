@@ -3,7 +3,7 @@
 
 pub mod answers;
 
-ghost use Rattle.std.specs.Prelude.{◌≡◌, true, ◌+◌, ◌-◌, ◌*◌, ◌%◌, ◌≤◌, ◌<◌, length};
+ghost use Rattle.std.specs.Prelude.{◌≡◌, true, ◌+◌, ◌-◌, ◌*◌, ◌%◌, ◌≤◌, ◌<◌, length, Some};
 ghost use Rattle.pages.specs.Pages.{page_at, put_page};
 ghost use Rattle.layout.specs.Places.{meta_pages, data_place, block_place, meta_of, hdd_length, ssd_length};
 ghost use Rattle.layout.specs.MetaPage.{rows_on};
@@ -58,7 +58,7 @@ pub fn confirm(ssd: &mut [u8], table: &[u32], state: Record, p: u32, answer: Ans
     requires fits_record { FitsRecord (length ssd.old) (length table.now) state }
     requires p_bound { p < meta_pages (label_in state) }
     requires newest_bound { state.newest < largest_stamp (label_in state) }
-    ensures { (result ≡ record { answer = answer; state = with_stamp state (state.newest + 1); stored = Ssd (store_place (label_in state) ssd.old p) }) × (ssd.new ≡ put_page ssd.old (store_place (label_in state) ssd.old p) (meta_bytes (label_in state) (state.newest + 1) (window_in state) (rows_on p table.now))) }
+    ensures { (result ≡ record { answer = answer; state = with_stamp state (state.newest + 1); stored = Some (Ssd (store_place (label_in state) ssd.old p)) }) × (ssd.new ≡ put_page ssd.old (store_place (label_in state) ssd.old p) (meta_bytes (label_in state) (state.newest + 1) (window_in state) (rows_on p table.now))) }
 {
     let stamp = state.newest + 1;
     let stored = store_meta(ssd, table, state, stamp, p);
@@ -92,7 +92,7 @@ pub fn open_slot(
     requires count_lt_window_most { state.count < window_most }
     requires newest_bound { state.newest < largest_stamp (label_in state) }
     requires s_lt_slots { s.0 < state.label.slots }
-    ensures { (result ≡ record { answer = Announced s; state = with_stamp (joined s caller hand state) (state.newest + 1); stored = Ssd (store_place (label_in state) ssd.old (meta_of s)) }) × (table.new ≡ set_row table.old s b flags) × (ssd.new ≡ put_page ssd.old (store_place (label_in state) ssd.old (meta_of s)) (meta_bytes (label_in state) (state.newest + 1) (window_in (joined s caller hand state)) (rows_on (meta_of s) (set_row table.old s b flags)))) }
+    ensures { (result ≡ record { answer = Announced s; state = with_stamp (joined s caller hand state) (state.newest + 1); stored = Some (Ssd (store_place (label_in state) ssd.old (meta_of s))) }) × (table.new ≡ set_row table.old s b flags) × (ssd.new ≡ put_page ssd.old (store_place (label_in state) ssd.old (meta_of s)) (meta_bytes (label_in state) (state.newest + 1) (window_in (joined s caller hand state)) (rows_on (meta_of s) (set_row table.old s b flags)))) }
 {
     set_row(table, s, b, flags);
     let next = state::joined(state, s, caller, hand);

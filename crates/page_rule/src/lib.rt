@@ -16,13 +16,7 @@ fn legal_count(page: &[u8]) -> bool
     ensures { result ≡ count_test page.now }
 {
     let count = page::count_of(page);
-    if (WINDOW as u32) < count {
-        return false;
-    }
-    if page::stamp_of(page) == 0 {
-        return count == 0;
-    }
-    true
+    count <= WINDOW as u32 && (page::stamp_of(page) != 0 || count == 0)
 }
 
 // Whether slot s is in the window from place k on.
@@ -33,15 +27,7 @@ fn listed_from(s: Slot, page: &[u8], count: u32, k: u32) -> bool
     requires k_le_count { k ≤ count }
     ensures { result ≡ listed s (drop k (window_of page.now)) }
 {
-    let mut m = k;
-    while m < count {
-        let t = page::slot_at(page, m);
-        if s.0 == t.0 {
-            return true;
-        }
-        m += 1;
-    }
-    false
+    (k..count).any(|m| s == page::slot_at(page, m))
 }
 
 // Whether the window's slots are in range and distinct: none of them is listed again after it.
@@ -51,16 +37,11 @@ fn legal_slots(l: Label, page: &[u8], count: u32) -> bool
     requires count_le_window_most { count ≤ window_most }
     ensures { result ≡ (in_range l (window_of page.now) && distinct (window_of page.now)) }
 {
-    let mut k: u32 = 0;
-    while k < count {
+    for k in 0..count {
         let s = page::slot_at(page, k);
-        if l.slots <= s.0 {
+        if l.slots <= s.0 || listed_from(s, page, count, k + 1) {
             return false;
         }
-        if listed_from(s, page, count, k + 1) {
-            return false;
-        }
-        k += 1;
     }
     true
 }
@@ -72,26 +53,18 @@ fn legal_window(l: Label, page: &[u8]) -> bool
     ensures { result ≡ window_test l page.now }
 {
     let count = page::count_of(page);
-    if !legal_slots(l, page, count) {
-        return false;
-    }
-    zeros::all_zero(page, 16 + 4 * (count as usize), 268)
+    legal_slots(l, page, count) && zeros::all_zero(page, 16 + 4 * (count as usize), 268)
 }
 
 // The rule of a stored entry's block and flags: "legal sums 0, 1, 3, 5, 7".
 pub fn legal_pair(l: Label, block: u32, flags: u32) -> bool
     ensures { result ≡ pair_test l block flags }
 {
-    if flags == 0 {
-        return block == 0;
+    match flags {
+        0 => block == 0,
+        1 | 3 | 5 | 7 => block < l.blocks,
+        _ => false,
     }
-    if 7 < flags {
-        return false;
-    }
-    if flags % 2 == 0 {
-        return false;
-    }
-    block < l.blocks
 }
 
 // Entry i of page p.
@@ -102,18 +75,10 @@ fn legal_entry(l: Label, p: u32, page: &[u8], i: u32) -> bool
     ensures { result ≡ entry_test l (slot_on p i) (entry_part page.now i) }
 {
     let entry = page::entry_at(page, i);
-    let block = entry.block;
-    if !legal_pair(l, block.0, entry.flags) {
-        return false;
-    }
     let at = 512 + 8 * (i as usize);
-    if !zeros::all_zero(page, at + 5, at + 8) {
-        return false;
-    }
-    if 240 * p + i < l.slots {
-        return true;
-    }
-    entry.flags == 0
+    legal_pair(l, entry.block.0, entry.flags)
+        && zeros::all_zero(page, at + 5, at + 8)
+        && (240 * p + i < l.slots || entry.flags == 0)
 }
 
 // 512..2431: the entries of page p.
@@ -122,14 +87,7 @@ fn legal_entries(l: Label, p: u32, page: &[u8]) -> bool
     requires p_bound { p < 2 ^ 16 }
     ensures { result ≡ entries_test l p page.now }
 {
-    let mut i: u32 = 0;
-    while i < 240 {
-        if !legal_entry(l, p, page, i) {
-            return false;
-        }
-        i += 1;
-    }
-    true
+    (0..240).all(|i| legal_entry(l, p, page, i))
 }
 
 // Reads metadata page p down to a row of the page table, field by field in its order: whether it passes so far. (The stamp alone, row 1,
@@ -139,6 +97,7 @@ pub fn read_down(l: Label, p: u32, page: &[u8], rows: u32) -> bool
     requires p_bound { p < 2 ^ 16 }
     ensures { result ≡ read_down rows l p page.now }
 {
+    // Kept: tried as one `&&` of `rows < 2 || ..`: its joins forget the rows that passed, on which row 4 rests; the proof did not close.
     if rows < 2 {
         return true;
     }

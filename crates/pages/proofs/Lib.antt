@@ -1,4 +1,3 @@
-pub mod Copied
 pub mod PageLaws
 pub mod WordLaws
 pub mod PadLaws

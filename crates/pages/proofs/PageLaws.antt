@@ -1,12 +1,12 @@
 -- The laws of pages: what a store leaves.
 use Prim.Native.Nat.{ℕ, ◌+◌, ◌-◌, ◌*◌, ◌≤◌, ◌<◌}
-use mathlib.Core.Path.{◌≡◌, refl, sym, ap, ◌∙◌}
+use mathlib.Core.Path.{◌≡◌, sym, ap, ◌∙◌}
 use mathlib.Core.Logic.{◌≢◌}
 use mathlib.Core.List.{List, ◌++◌, append_assoc}
 use native.Mathlib.Omega.{arith}
 use native.Mathlib.Decide.{dec_lt}
 use lib.ListN.{length, get_or, take, drop, length-append, length-take, length-drop, length-replicate, get_or-replicate, take-append-drop, get_or-append}
-use lib.Seq.{take_at, drop_at, take-append-le, drop-append-le, drop-append-add, length-take-le, drop-drop, get_or-append-add}
+use lib.Seq.{take_at, drop_at, take-append-le, drop-append-le, drop-append-add, length-take-le, get_or-append-add}
 use Rattle.pages.specs.Pages.{page_at, put_page, zero_page, Holds}
 
 -- length is kept

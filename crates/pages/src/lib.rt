@@ -8,18 +8,6 @@ ghost use Rattle.pages.specs.Pages.{page_at, put_page, Holds, Cleared};
 ghost use Rattle.pages.specs.Parts.{part, page_part};
 ghost use Rattle.pages.specs.Words.{le_bytes, le_number};
 
-// Copies `from` over `to`, which is as long.
-pub fn copy(to: &mut [u8], from: &[u8])
-    requires { length to.old ≡ length from.now }
-    ensures { to.new ≡ from.now }
-{
-    let mut i = 0;
-    while i < from.len() {
-        to[i] = from[i];
-        i += 1;
-    }
-}
-
 // Page `index` of an image: the image's own bytes, as a part of it.
 pub fn page_at(image: &[u8], index: usize) -> &[u8]
     requires { Holds image.now index }
@@ -38,7 +26,7 @@ pub fn store(image: &mut [u8], index: usize, page: &[u8])
 {
     let at = index * 4096;
     let end = at + 4096;
-    copy(&mut image[at..end], page);
+    image[at..end].copy_from_slice(page);
 }
 
 // Copies a page of one image into another.
@@ -61,19 +49,12 @@ pub fn clear_page(image: &mut [u8], index: usize)
     store(image, index, &page);
 }
 
-// A byte as a number of 32 bits.
-pub fn wide(x: u8) -> u32
-    ensures { (result ≡ x) × (result < 256) }
-{
-    x as u32
-}
-
 // The 32-bit number in four bytes.
 pub fn read_word(part: &[u8]) -> u32
     requires { length part.now ≡ 4 }
     ensures { result ≡ le_number part.now }
 {
-    wide(part[0]) + 256 * (wide(part[1]) + 256 * (wide(part[2]) + 256 * wide(part[3])))
+    u32::from_le_bytes([part[0], part[1], part[2], part[3]])
 }
 
 // Writes a 32-bit number over four bytes.
@@ -81,8 +62,5 @@ pub fn write_word(part: &mut [u8], x: u32)
     requires { length part.old ≡ 4 }
     ensures { part.new ≡ le_bytes 4 x }
 {
-    part[0] = (x % 256) as u8;
-    part[1] = (x / 256 % 256) as u8;
-    part[2] = (x / 256 / 256 % 256) as u8;
-    part[3] = (x / 256 / 256 / 256 % 256) as u8;
+    part.copy_from_slice(&x.to_le_bytes());
 }

@@ -4,50 +4,53 @@ use mathlib.Core.Path.{◌≡◌, refl, sym, ap, ◌∙◌}
 use mathlib.Core.Logic.{◌≢◌}
 use mathlib.Core.Bool.{Bool, true, false, ◌||◌}
 use mathlib.Core.List.{List, [], ◌∷◌}
-use mathlib.Core.Option.{Option, some, none, some-injective, some-ne-none}
+use Rattle.std.specs.Prelude.{Option, Some, None}
+use Rattle.std.proofs.lemmas.Option.{same_Some, none-some}
 use lib.Dec.{eqb}
-use Rattle.protocol.specs.Judge.{Reason, bad_limits, no_label, bad_record, wrong_length, bad_rows, wrong_phase, block_too_high, slot_open, wrong_state, has_slot, window_full, all_open, stamps_spent, import_full, unknown_caller, bad_scan, bad_list, sheet_short, number_of}
+use Rattle.protocol.specs.declared.Refusal.{Refusal}
+use Rattle.protocol.specs.declared.Refusal.TheVariants.{BadLimits, NoLabel, BadRecord, WrongLength, BadRows, WrongPhase, BlockTooHigh, SlotOpen, WrongState, HasSlot, WindowFull, AllOpen, StampsSpent, ImportFull, UnknownCaller, BadScan, BadList, SheetShort}
+use Rattle.protocol.specs.Judge.{number_of}
 
 -- all reasons
-abbrev every : List Reason
+abbrev every : List Refusal
 every =
-    bad_limits ∷ no_label ∷ bad_record ∷ wrong_length ∷ bad_rows ∷ wrong_phase ∷ block_too_high ∷ slot_open ∷ wrong_state ∷ has_slot ∷ window_full
-    ∷ all_open ∷ stamps_spent ∷ sheet_short ∷ bad_scan ∷ bad_list ∷ import_full ∷ unknown_caller ∷ []
+    BadLimits ∷ NoLabel ∷ BadRecord ∷ WrongLength ∷ BadRows ∷ WrongPhase ∷ BlockTooHigh ∷ SlotOpen ∷ WrongState ∷ HasSlot ∷ WindowFull
+    ∷ AllOpen ∷ StampsSpent ∷ SheetShort ∷ BadScan ∷ BadList ∷ ImportFull ∷ UnknownCaller ∷ []
 
 -- a number is one reason's, and 0 is none's
-unfoldable pub numbered : List Reason → ℕ → Option Reason
-numbered [] n = none
-numbered (r ∷ rs) n = elim (eqb (number_of r) n) [ true ↦ some r | false ↦ numbered rs n ]
+unfoldable pub numbered : List Refusal → ℕ → Option Refusal
+numbered [] n = None
+numbered (r ∷ rs) n = elim (eqb (number_of r) n) [ true ↦ Some r | false ↦ numbered rs n ]
 
-pub number_back : (r : Reason) → numbered every (number_of r) ≡ some r
+pub number_back : (r : Refusal) → numbered every (number_of r) ≡ Some r
 unfolding numbered
-number_back bad_limits = refl
-number_back no_label = refl
-number_back bad_record = refl
-number_back wrong_length = refl
-number_back bad_rows = refl
-number_back wrong_phase = refl
-number_back block_too_high = refl
-number_back slot_open = refl
-number_back wrong_state = refl
-number_back has_slot = refl
-number_back window_full = refl
-number_back all_open = refl
-number_back stamps_spent = refl
-number_back sheet_short = refl
-number_back bad_scan = refl
-number_back bad_list = refl
-number_back import_full = refl
-number_back unknown_caller = refl
+number_back BadLimits = refl
+number_back NoLabel = refl
+number_back BadRecord = refl
+number_back WrongLength = refl
+number_back BadRows = refl
+number_back WrongPhase = refl
+number_back BlockTooHigh = refl
+number_back SlotOpen = refl
+number_back WrongState = refl
+number_back HasSlot = refl
+number_back WindowFull = refl
+number_back AllOpen = refl
+number_back StampsSpent = refl
+number_back SheetShort = refl
+number_back BadScan = refl
+number_back BadList = refl
+number_back ImportFull = refl
+number_back UnknownCaller = refl
 
-pub number_is : (q r : Reason) → number_of q ≡ number_of r → q ≡ r
-number_is q r e = some-injective q r (sym (number_back q) ∙ ap (numbered every) e ∙ number_back r)
+pub number_is : (q r : Refusal) → number_of q ≡ number_of r → q ≡ r
+number_is q r e = same_Some q r (sym (number_back q) ∙ ap (numbered every) e ∙ number_back r)
 
-pub number_some : (r : Reason) → number_of r ≢ 0
+pub number_some : (r : Refusal) → number_of r ≢ 0
 unfolding numbered
-number_some r e = some-ne-none r (sym (number_back r) ∙ ap (numbered every) e)
+number_some r e = none-some r (sym (sym (number_back r) ∙ ap (numbered every) e))
 
 -- is a reason in a chain: of a reason and a call that are given it computes
-abbrev pub belongs : Reason → List Reason → Bool
+abbrev pub belongs : Refusal → List Refusal → Bool
 belongs r [] = false
 belongs r (q ∷ rs) = eqb (number_of q) (number_of r) || belongs r rs

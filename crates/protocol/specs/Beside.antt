@@ -1,7 +1,8 @@
 -- What holds beside demand 3.
 use Rattle.std.specs.Prelude.{ℕ, zero, suc, ◌+◌, ◌-◌, ◌*◌, ◌/◌, ◌%◌, min, ◌≤◌, ◌<◌, ◌≡◌, ◌≢◌, ◌⊎◌, Bool, true, false, not, ◌&&◌, ◌||◌, length, get_or, take, eqb}
 use mathlib.Core.List.{List, [], ◌∷◌, ◌++◌, map, Mem, Permᴰ, Pairwise}
-use Rattle.std.proofs.Math.Option.{Option, some, none}
+use Rattle.std.specs.Prelude.{Option, Some, None, Ok, Err}
+use Rattle.std.specs.Prelude.{Result as OrRefused}
 use Rattle.pages.specs.Pages.{page_at, put_page, zero_page, IsPage}
 use Rattle.pages.specs.Parts.{Part}
 use Rattle.layout.specs.declared.Slot.{Slot}
@@ -17,10 +18,10 @@ use Rattle.record.specs.declared.Phase.{Phase}
 use Rattle.record.specs.declared.Phase.TheVariants.{Formatting, Recovering, Ready}
 use Rattle.protocol.specs.declared.Condition.TheVariants.{Clean, Dirty, Writing, Fetching}
 use Rattle.protocol.specs.declared.Stored.{Stored}
-use Rattle.protocol.specs.declared.Stored.TheVariants.{Nothing, Ssd, Hdd}
+use Rattle.protocol.specs.declared.Stored.TheVariants.{Ssd, Hdd}
 use Rattle.protocol.specs.declared.Counts.{Counts}
 use Rattle.protocol.specs.declared.Cost.{Cost}
-use Rattle.protocol.specs.declared.Cost.TheVariants.{Refused, Counted, Met}
+use Rattle.protocol.specs.declared.Cost.TheVariants.{Counted, Met}
 use Rattle.protocol.specs.Reply.{Reply, refusal, answer, dealt, refused, announced, overwrite, copied_out, done}
 use Rattle.protocol.specs.Rows.{row_block, row_flags, valid, dirty, writing}
 use Rattle.record.specs.Callers.{open_by}
@@ -31,8 +32,10 @@ use Rattle.protocol.specs.Plan.{Ask, slot_map, cost, Call, format, step, reopen,
 use Rattle.protocol.specs.Kinds.{Purpose, aim}
 use Rattle.protocol.specs.Recovery.{label_at, metas_of, spent_stamp, entry_in, stored_rows, Recovered, recover_from}
 use Rattle.protocol.specs.SlotMap.{letter_of, map_lines, map_bytes, map_text}
-use Rattle.protocol.specs.Judge.{no_label, wrong_length, test}
-use Rattle.protocol.specs.Calls.{effect_of, result_of, box_of, view_of, words_left, map_of}
+use Rattle.protocol.specs.declared.Refusal.{Refusal}
+use Rattle.protocol.specs.declared.Refusal.TheVariants.{NoLabel, WrongLength}
+use Rattle.protocol.specs.Judge.{number_of, test}
+use Rattle.protocol.specs.Calls.{number_in, effect_of, result_of, box_of, view_of, words_left, map_of}
 use Rattle.protocol.specs.Cost.{PageKind, copy_out, metadata, data_page, page_kind, is_copied_out, cost_in}
 use Rattle.protocol.specs.Events.{World, Memory, Arrival, new, Event, call, cut, lent, read_of, called, crashed, run, steps, formatted, start_of, AllFit}
 use Rattle.protocol.specs.Demand3.{stored_window, slot_said}
@@ -42,9 +45,9 @@ use Rattle.protocol.specs.Demand3.{stored_window, slot_said}
 -- "Each call stores at most one page" is the type of an effect's store. A whole format stores M + 2: none as it begins, and
 -- one at each step.
 pub record FormatStores (slots blocks : ℕ) (x : Box) : Type 0 where
-  pub none_first : (effect_of (format slots blocks) x).store ≡ none
+  pub none_first : (effect_of (format slots blocks) x).store ≡ None
   pub one_each : (k : ℕ) → k < format_steps (format_label slots blocks)
-      → (s : Store) × ((effect_of step (steps k (box_after (result_of (format slots blocks) x)))).store ≡ some s)
+      → (s : Store) × ((effect_of step (steps k (box_after (result_of (format slots blocks) x)))).store ≡ Some s)
   -- "a zero label page, the M metadata pages .., the label": from the first step till the last the label page is zero
   pub zero_till_last : (k : ℕ) → 0 < k → k < format_steps (format_label slots blocks)
       → page_at (steps k (box_after (result_of (format slots blocks) x))).images.ssd label_place ≡ zero_page
@@ -60,12 +63,12 @@ pub record OnePage (before after : List ℕ) (i : ℕ) : Type 0 where
   pub stored : after ≡ put_page before i bytes
 
 pub record StoresThere (c : Call) (x : Box) : Type 0 where
-  pub nowhere : (result_of c x).stored ≡ Nothing → ((result_of c x).ssd ≡ x.images.ssd) × ((result_of c x).hdd ≡ x.images.hdd)
-  pub on_ssd : (i : ℕ) → (result_of c x).stored ≡ Ssd i
+  pub nowhere : (result_of c x).stored ≡ None → ((result_of c x).ssd ≡ x.images.ssd) × ((result_of c x).hdd ≡ x.images.hdd)
+  pub on_ssd : (i : ℕ) → (result_of c x).stored ≡ Some (Ssd i)
       → OnePage x.images.ssd (result_of c x).ssd i × ((result_of c x).hdd ≡ x.images.hdd)
-  pub on_hdd : (i : ℕ) → (result_of c x).stored ≡ Hdd i
+  pub on_hdd : (i : ℕ) → (result_of c x).stored ≡ Some (Hdd i)
       → ((result_of c x).ssd ≡ x.images.ssd) × OnePage x.images.hdd (result_of c x).hdd i
-  pub refused-nowhere : refused (result_of c x).said ≡ true → (result_of c x).stored ≡ Nothing
+  pub refused-nowhere : refused (result_of c x).said ≡ true → (result_of c x).stored ≡ None
 
 -- the stamp that a metadata page is stored with: 0 while formatting, else the newest
 abbrev pub stamp_stored : Phase → ℕ → ℕ
@@ -105,7 +108,7 @@ pub record MetaStored (l : Label) (p : ℕ) (bytes : List ℕ) (before : Phase) 
 abbrev pub StoresLegally : Call → Box → Type 0
 StoresLegally c x =
     refused (result_of c x).said ≡ false
-    → (s : Store) → (effect_of c x).store ≡ some s → s.image ≡ ssd_image
+    → (s : Store) → (effect_of c x).store ≡ Some s → s.image ≡ ssd_image
     → (p : ℕ) → p < meta_pages (label_in x.state) → s.place ≡ meta_place (label_in x.state) p
     → MetaStored (label_in x.state) p s.bytes x.state.phase (result_of c x).state (result_of c x).table
 
@@ -136,13 +139,13 @@ MendsSoon x =
 
 -- A reopening after 2 and 4 is `recoverFrom` of the label, the metadata pages and the spent stamp: nothing is 5.
 abbrev pub recovered_to : Box → Option Recovered → Effect
-recovered_to x none = refusing 5 x
-recovered_to x (some r) = record { said = done; state = r.state; table = r.table; store = none }
+recovered_to x None = refusing 5 x
+recovered_to x (Some r) = record { said = done; state = r.state; table = r.table; store = None }
 
 abbrev pub ReopensFrom : Box → Type 0
 ReopensFrom x =
     let l = label_at x.images.ssd in
-    test no_label reopen x ≡ false → test wrong_length reopen x ≡ false
+    test NoLabel reopen x ≡ false → test WrongLength reopen x ≡ false
     → effect_of reopen x ≡ recovered_to x (recover_from l (metas_of l x.images.ssd) (spent_stamp l x.images.ssd))
 
 -- What a view hands back does not depend on where the images lie: its number, and its bytes, which are what demand 3 reads. So
@@ -154,7 +157,7 @@ pub record ReadsAnywhere (ssd hdd : Part) (table : List ℕ) (state : Record) (b
 -- A call that only asks changes nothing of a box and stores nothing, refused or not.
 pub record ChangesNothing (a : Ask) (x : Box) : Type 0 where
   pub box : box_after (result_of (ask a) x) ≡ x
-  pub stored : (result_of (ask a) x).stored ≡ Nothing
+  pub stored : (result_of (ask a) x).stored ≡ None
 
 -- Document 02, N1: the slot map. In demand 3's lists it answers by the number that its contract gives: 0 is done.
 abbrev pub said_by : ℕ → Reply
@@ -270,8 +273,8 @@ Arranged = (cs ds : List Landing) (w : World) → OpenSet cs w.box → Permᴰ c
 
 -- a single look-up's word: the slot that it names plus 1 for 108 and 109, clean and dirty; else 0
 abbrev pub word_said : Option Slot → ℕ
-word_said none = 0
-word_said (some s) = s.0 + 1
+word_said None = 0
+word_said (Some s) = s.0 + 1
 
 -- the single look-ups in list order: their words, the box that they leave, and whether all were taken, none refused
 pub record Singles : Type 0 where
@@ -330,16 +333,15 @@ one_by_one (b ∷ blocks) caller x =
     record { box = rest.box; taken = is_taken r.said && rest.taken }
 
 -- an offer "that would be refused, would copy out, or has its slot on another metadata page than the first announced", which was stored
-pub data EndsList (l : Label) (stored : Stored) : Reply → Type 0 where
+pub data EndsList (l : Label) (stored : Option Stored) : Reply → Type 0 where
   by_refusal : (k : ℕ) → EndsList l stored (refusal k)
   by_copy : EndsList l stored copied_out
-  by_page : (s : Slot) (q : ℕ) → stored ≡ Ssd (meta_place l q) → meta_of s ≢ q → EndsList l stored (announced s)
+  by_page : (s : Slot) (q : ℕ) → stored ≡ Some (Ssd (meta_place l q)) → meta_of s ≢ q → EndsList l stored (announced s)
 
 -- how many pages a call stored
-abbrev pub stored_pages : Stored → ℕ
-stored_pages Nothing = 0
-stored_pages (Ssd i) = 1
-stored_pages (Hdd i) = 1
+abbrev pub stored_pages : Option Stored → ℕ
+stored_pages None = 0
+stored_pages (Some s) = 1
 
 -- n places were dealt with: from stamp m n single offers are taken, and leave the same table, hand and window, the record but for the
 -- stamp; "the stamp rises by one or not at all"; and the next place, if there is one, ends the list
@@ -375,14 +377,9 @@ ListOfOne = (b : Block) (caller : ℕ) (x : Box) → OneAsOffer b caller x
 -- leave the table."
 
 -- in demand 3's lists the call answers by the number of its refusal; any other answer is done
-abbrev pub cost_number : Cost → ℕ
-cost_number (Refused n) = n
-cost_number (Counted n) = 0
-cost_number (Met n place counts) = 0
-
 abbrev pub CostSays : List ℕ → ℕ → List ℕ → Box → Type 0
 CostSays blocks caller scratch x =
-    (result_of (ask (cost blocks caller (length scratch))) x).said ≡ said_by (cost_number (cost_in blocks caller scratch x).answer)
+    (result_of (ask (cost blocks caller (length scratch))) x).said ≡ said_by (number_in (cost_in blocks caller scratch x).answer)
 
 -- calls really made, each on what the last left: the kinds of the pages that they stored, one after another, the box that they leave, and
 -- the last one's answer
@@ -391,10 +388,10 @@ pub record Made : Type 0 where
   pub box : Box
   pub said : Reply
 
-abbrev pub kinds_stored : Purpose → Stored → List PageKind
-kinds_stored p Nothing = []
-kinds_stored p (Ssd i) = page_kind p ssd_image ∷ []
-kinds_stored p (Hdd i) = page_kind p hdd_image ∷ []
+abbrev pub kinds_stored : Purpose → Option Stored → List PageKind
+kinds_stored p None = []
+kinds_stored p (Some (Ssd i)) = page_kind p ssd_image ∷ []
+kinds_stored p (Some (Hdd i)) = page_kind p hdd_image ∷ []
 
 abbrev pub makes_of : Purpose → Result → Made
 makes_of p r = record { kinds = kinds_stored p r.stored; box = box_after r; said = r.said }
@@ -428,13 +425,13 @@ pub record Import : Type 0 where
   pub met : Option Meeting
 
 abbrev pub import_then : Reply → ℕ → Made → Import → Import
-import_then (refusal n) place d rest = record { kinds = d.kinds; box = d.box; met = some (record { number = n; place = place }) }
+import_then (refusal n) place d rest = record { kinds = d.kinds; box = d.box; met = Some (record { number = n; place = place }) }
 import_then (answer n s) place d rest = record { kinds = d.kinds ++ rest.kinds; box = rest.box; met = rest.met }
 import_then (dealt n) place d rest = record { kinds = d.kinds ++ rest.kinds; box = rest.box; met = rest.met }
 
 -- the block at each place is landed with that place's page
 unfoldable pub import_all : ℕ → (ℕ → List ℕ) → ℕ → List ℕ → Box → Import
-import_all caller pages place [] x = record { kinds = []; box = x; met = none }
+import_all caller pages place [] x = record { kinds = []; box = x; met = None }
 import_all caller pages place (b ∷ blocks) x =
     let d = imports_really caller (record { 0 = b }) (pages place) x in
     import_then d.said place d (import_all caller pages (suc place) blocks d.box)
@@ -459,15 +456,15 @@ abbrev pub counts_of : List PageKind → Counts
 counts_of kinds = record { copies = how_many copy_out kinds; metadata = how_many metadata kinds; landings = how_many data_page kinds }
 
 abbrev pub answer_by : Option Meeting → Counts → Cost
-answer_by none counts = Counted counts
-answer_by (some m) counts = Met m.number m.place counts
+answer_by None counts = Counted counts
+answer_by (Some m) counts = Met m.number m.place counts
 
 -- on any box, with any pages of 4,096 bytes: where the question is not refused its answer is the stores and the meeting of the import
 -- really made, and the scratch table its table; a refusal leaves the scratch table
 pub record AsDoing (blocks : List ℕ) (caller : ℕ) (scratch : List ℕ) (pages : ℕ → List ℕ) (x : Box) : Type 0 where
   pub same_answer : refused (result_of (ask (cost blocks caller (length scratch))) x).said ≡ false
       → (cost_in blocks caller scratch x).answer
-      ≡ answer_by (import_all caller pages 0 blocks x).met (counts_of (import_all caller pages 0 blocks x).kinds)
+      ≡ Ok (answer_by (import_all caller pages 0 blocks x).met (counts_of (import_all caller pages 0 blocks x).kinds))
   pub same-table : refused (result_of (ask (cost blocks caller (length scratch))) x).said ≡ false
       → (cost_in blocks caller scratch x).scratch ≡ (import_all caller pages 0 blocks x).box.table
   pub scratch_stays : refused (result_of (ask (cost blocks caller (length scratch))) x).said ≡ true

@@ -1,10 +1,10 @@
 -- The box: two images, a table and a record; the one store that a call may make, and what a call leaves.
 use Rattle.std.specs.Prelude.{ℕ, List}
-use Rattle.std.proofs.Math.Option.{Option, some, none}
+use Rattle.std.specs.Prelude.{Option, Some, None}
 use Rattle.pages.specs.Pages.{put_page}
 use Rattle.record.specs.declared.Record.{Record}
 use Rattle.protocol.specs.declared.Stored.{Stored}
-use Rattle.protocol.specs.declared.Stored.TheVariants.{Nothing, Ssd, Hdd}
+use Rattle.protocol.specs.declared.Stored.TheVariants.{Ssd, Hdd}
 use Rattle.protocol.specs.Reply.{Reply, refusal}
 
 pub record Images : Type 0 where
@@ -31,8 +31,8 @@ stored_on hdd_image place bytes im = record { ssd = im.ssd; hdd = put_page im.hd
 
 -- the images after a call: "Each call stores at most one page"
 abbrev pub applied : Option Store → Images → Images
-applied none im = im
-applied (some s) im = stored_on s.image s.place s.bytes im
+applied None im = im
+applied (Some s) im = stored_on s.image s.place s.bytes im
 
 -- what a call does: its answer, the record and the table after it, and its store, if any
 pub record Effect : Type 0 where
@@ -43,21 +43,21 @@ pub record Effect : Type 0 where
 
 -- "A refusal returns its number and the record handed in; every image, table and page is unchanged"
 abbrev pub refusing : ℕ → Box → Effect
-refusing n x = record { said = refusal n; state = x.state; table = x.table; store = none }
+refusing n x = record { said = refusal n; state = x.state; table = x.table; store = None }
 
--- the page that a store is on, by its number in its image; where there is no store, none
+-- the page that a store is on, by its number in its image
 abbrev pub page_in : Image → ℕ → Stored
 page_in ssd_image place = Ssd place
 page_in hdd_image place = Hdd place
 
-abbrev pub stored_of : Option Store → Stored
-stored_of none = Nothing
-stored_of (some s) = page_in s.image s.place
+abbrev pub stored_of : Option Store → Option Stored
+stored_of None = None
+stored_of (Some s) = Some (page_in s.image s.place)
 
 -- everything that a call leaves, and the page that it stored, in one record
 pub record Result : Type 0 where
   pub said : Reply
-  pub stored : Stored
+  pub stored : Option Stored
   pub state : Record
   pub table : List ℕ
   pub ssd : List ℕ

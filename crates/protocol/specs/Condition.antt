@@ -1,6 +1,6 @@
 -- A block's condition, on which every call rests: not cached, clean, dirty, open for writing, open for fetch.
 use Rattle.std.specs.Prelude.{ℕ, suc, ◌+◌, Bool, true, false, ◌&&◌, List, [], ◌∷◌, ◌++◌, map, eqb}
-use Rattle.std.proofs.Math.Option.{Option, some, none}
+use Rattle.std.specs.Prelude.{Option, Some, None}
 use Rattle.layout.specs.declared.Slot.{Slot}
 use Rattle.layout.specs.declared.Block.{Block}
 use Rattle.protocol.specs.declared.Condition.{Condition}
@@ -10,10 +10,10 @@ use Rattle.protocol.specs.Rows.{row_flags, valid, dirty, writing}
 -- the lowest slot from s on whose row is valid and for the block, in the rows from s on ("a block in two rows .. its
 -- lowest slot counts")
 unfoldable pub slot_from : ℕ → List ℕ → Block → Option Slot
-slot_from s [] b = none
-slot_from s (block ∷ []) b = none
+slot_from s [] b = None
+slot_from s (block ∷ []) b = None
 slot_from s (block ∷ flags ∷ rows) b =
-    elim (valid flags && eqb block b.0) [ true ↦ some (record { 0 = s }) | false ↦ slot_from (suc s) rows b ]
+    elim (valid flags && eqb block b.0) [ true ↦ Some (record { 0 = s }) | false ↦ slot_from (suc s) rows b ]
 
 abbrev pub slot_of : List ℕ → Block → Option Slot
 slot_of table b = slot_from 0 table b
@@ -28,8 +28,8 @@ closed_as true s = Dirty s
 closed_as false s = Clean s
 
 abbrev pub condition_at : List ℕ → Option Slot → Condition
-condition_at table none = NotCached
-condition_at table (some s) =
+condition_at table None = NotCached
+condition_at table (Some s) =
     elim (writing (row_flags table s)) [ true ↦ open_as (dirty (row_flags table s)) s | false ↦ closed_as (dirty (row_flags table s)) s ]
 
 unfoldable pub condition_of : List ℕ → Block → Condition

@@ -1,17 +1,18 @@
 -- Document 02, N8: "How many stores will this import cost?"
 use Rattle.std.specs.Prelude.{ℕ, suc, ◌+◌, Bool, true, false, List, [], ◌∷◌, length, eqb}
-use Rattle.std.proofs.Math.Option.{Option, some, none}
+use Rattle.std.specs.Prelude.{Option, Some, None, Result, Ok, Err}
 use Rattle.pages.specs.Pages.{zero_page}
 use Rattle.layout.specs.declared.Block.{Block}
 use Rattle.record.specs.declared.Record.{Record}
 use Rattle.protocol.specs.declared.Counts.{Counts}
 use Rattle.protocol.specs.declared.Cost.{Cost}
-use Rattle.protocol.specs.declared.Cost.TheVariants.{Refused, Counted, Met}
+use Rattle.protocol.specs.declared.Cost.TheVariants.{Counted, Met}
 use Rattle.protocol.specs.Reply.{Reply, refusal, answer, dealt, refused, done}
 use Rattle.protocol.specs.Box.{Box, Image, ssd_image, hdd_image, Store, Effect}
 use Rattle.protocol.specs.Plan.{Call, offer, land, ask, cost}
 use Rattle.protocol.specs.Kinds.{Purpose, to_serve, to_settle, to_write, to_fetch, to_land_fetch, to_land, to_count, aim}
-use Rattle.protocol.specs.Judge.{Reason, number_of, judged}
+use Rattle.protocol.specs.declared.Refusal.{Refusal}
+use Rattle.protocol.specs.Judge.{judged}
 use Rattle.protocol.specs.Calls.{effect_of, box_of}
 
 -- "the copy-outs, metadata stores and data stores": a page's kind, by the call that stores it and the image that it is on. Of a landing it
@@ -42,8 +43,8 @@ abbrev pub no_stores : Counts
 no_stores = record { copies = 0; metadata = 0; landings = 0 }
 
 abbrev pub counts_after : Purpose → Option Store → Counts → Counts
-counts_after p none n = n
-counts_after p (some s) n = counts_with (page_kind p s.image) n
+counts_after p None n = n
+counts_after p (Some s) n = counts_with (page_kind p s.image) n
 
 -- the run so far: the box, of which table and record alone change, the stores counted, and the last call's answer
 pub record Tally : Type 0 where
@@ -86,18 +87,18 @@ imports caller b z = lands_unless (refused (offers_to caller b z).said) b (offer
 
 -- what the call leaves: its answer and the scratch table
 pub record CostLeft : Type 0 where
-  pub answer : Cost
+  pub answer : Result Cost Refusal
   pub scratch : List ℕ
 
 -- "If the run would meet a refusal, the answer has that number, the list place counted from 0 and the counts up to it"; else it goes on
 abbrev pub met_or : Reply → ℕ → Tally → CostLeft → CostLeft
-met_or (refusal n) place z rest = record { answer = Met n place z.counts; scratch = z.box.table }
+met_or (refusal n) place z rest = record { answer = Ok (Met n place z.counts); scratch = z.box.table }
 met_or (answer n s) place z rest = rest
 met_or (dealt n) place z rest = rest
 
 -- the blocks one after the other, the first at this place; "the scratch table ends as that run would leave the table"
 unfoldable pub cost_from : ℕ → ℕ → List ℕ → Tally → CostLeft
-cost_from caller place [] z = record { answer = Counted z.counts; scratch = z.box.table }
+cost_from caller place [] z = record { answer = Ok (Counted z.counts); scratch = z.box.table }
 cost_from caller place (b ∷ blocks) z =
     met_or (imports caller (record { 0 = b }) z).said place (imports caller (record { 0 = b }) z)
     (cost_from caller (suc place) blocks (imports caller (record { 0 = b }) z))
@@ -106,9 +107,9 @@ abbrev pub not_started : Box → Tally
 not_started x = record { box = x; counts = no_stores; said = done }
 
 -- "refused by that number .., the scratch table unchanged", or the run
-abbrev pub cost_by : Option Reason → List ℕ → ℕ → List ℕ → Box → CostLeft
-cost_by (some r) blocks caller scratch x = record { answer = Refused (number_of r); scratch = scratch }
-cost_by none blocks caller scratch x = cost_from caller 0 blocks (not_started x)
+abbrev pub cost_by : Option Refusal → List ℕ → ℕ → List ℕ → Box → CostLeft
+cost_by (Some r) blocks caller scratch x = record { answer = Err r; scratch = scratch }
+cost_by None blocks caller scratch x = cost_from caller 0 blocks (not_started x)
 
 unfoldable pub cost_in : List ℕ → ℕ → List ℕ → Box → CostLeft
 cost_in blocks caller scratch x = cost_by (judged (ask (cost blocks caller (length scratch))) x) blocks caller scratch x

@@ -1,6 +1,6 @@
 -- Demand 3: the claim about every list of calls, cuts and reopenings.
 use Rattle.std.specs.Prelude.{ℕ, ◌≤◌, ◌<◌, ◌≡◌, ◌≢◌, Bool, true, false, List, [], ◌∷◌, eqb}
-use Rattle.std.proofs.Math.Option.{Option, some, none}
+use Rattle.std.specs.Prelude.{Option, Some, None}
 use Rattle.pages.specs.Pages.{page_at}
 use Rattle.layout.specs.declared.Slot.{Slot}
 use Rattle.layout.specs.declared.Block.{Block}
@@ -42,18 +42,18 @@ pub record Place : Type 0 where
 
 -- the closed slot that a look-up names; document 02, N5: an open slot is named too, and may still hold its former block
 abbrev pub slot_said : Reply → Option Slot
-slot_said (refusal n) = none
-slot_said (answer n []) = none
-slot_said (answer n (s ∷ w)) = elim (names_closed n) [ true ↦ some s | false ↦ none ]
-slot_said (dealt n) = none
+slot_said (refusal n) = None
+slot_said (answer n []) = None
+slot_said (answer n (s ∷ w)) = elim (names_closed n) [ true ↦ Some s | false ↦ None ]
+slot_said (dealt n) = None
 
 -- "those of its valid entry if it is outside and has one, else none and its HDD page"
 abbrev pub entry_place : Label → Images → Block → Option Slot → Place
-entry_place l im b none = record { slot = none; page = page_at im.hdd (block_place l b) }
-entry_place l im b (some s) = record { slot = some s; page = page_at im.ssd (data_place l s) }
+entry_place l im b None = record { slot = None; page = page_at im.hdd (block_place l b) }
+entry_place l im b (Some s) = record { slot = Some s; page = page_at im.ssd (data_place l s) }
 
 abbrev pub stored_slot : Bool → Label → Images → Block → Option Slot
-stored_slot true l im b = none
+stored_slot true l im b = None
 stored_slot false l im b = slot_of (stored_rows l (metas_of l im.ssd)) b
 
 -- where a block is: of a ready box, the closed slot that a look-up names and the view's page; from a cut, or the start of a
@@ -120,7 +120,7 @@ pub record Mends (x : Box) : Type 0 where
 -- a block outside the newest stored window just before an event e that reopens, through the events es after it
 pub record Kept (e : Event) (es : List Event) (b : Block) (w : World) : Type 0 where
   pub place_kept : place (run es (apply e w)).box b ≡ place (before e w).box b
-  pub row_back : (s : Slot) → (place (before e w).box b).slot ≡ some s → Back (apply e w).box b s × AllBack es b s (apply e w)
+  pub row_back : (s : Slot) → (place (before e w).box b).slot ≡ Some s → Back (apply e w).box b s × AllBack es b s (apply e w)
 
 -- the label by which a box measures
 abbrev pub own_label : World → Label
@@ -137,7 +137,7 @@ pub record Safe (made : Label) (w : World) : Type 0 where
   pub reads : is_ready w.box.state.phase ≡ true → (b : Block) → b.0 < (own_label w).blocks → read_of w.box b ≡ w.disk.page b
   -- "a closed slot named by look-up holds the same"
   pub looks : is_ready w.box.state.phase ≡ true → (b : Block) → b.0 < (own_label w).blocks
-      → (s : Slot) → slot_said (result_of (look_up b) w.box).said ≡ some s → page_at w.box.images.ssd (data_place (own_label w) s)
+      → (s : Slot) → slot_said (result_of (look_up b) w.box).said ≡ Some s → page_at w.box.images.ssd (data_place (own_label w) s)
       ≡ w.disk.page b
   -- "after a finished reopening each block reads as nothing but" one of its contents
   pub allowed : (e : Event) → Fits e w → finishes e w ≡ true → (b : Block) → b.0 < (own_label w).blocks

@@ -1,6 +1,6 @@
 -- Lists of calls, cuts and reopenings, and what box and reference disk make of them (document 01, "The plain disk").
 use Rattle.std.specs.Prelude.{ℕ, zero, suc, ◌≡◌, Bool, true, false, not, ◌&&◌, List, [], ◌∷◌, length}
-use Rattle.std.proofs.Math.Option.{Option, some, none}
+use Rattle.std.specs.Prelude.{Option, Some, None}
 use Rattle.pages.specs.Pages.{page_at}
 use Rattle.pages.specs.Parts.{Part}
 use Rattle.layout.specs.declared.Block.{Block}
@@ -51,8 +51,8 @@ may_finish a_step = true
 may_finish (a_service a) = false
 
 abbrev pub reads_if : Bool → Box → Option (Block → List ℕ)
-reads_if true x = some (read_of x)
-reads_if false x = none
+reads_if true x = Some (read_of x)
+reads_if false x = None
 
 -- does this call, which answered so, finish a reopening
 abbrev pub finished : Call → Result → Bool
@@ -84,8 +84,8 @@ survived new store im = applied store im
 -- "that call counts as made exactly if its store was done"
 abbrev pub made : Arrival → Option Store → Bool
 made old store = false
-made new none = false
-made new (some store) = true
+made new None = false
+made new (Some store) = true
 
 -- box and reference disk just before the reopening that follows a cut
 unfoldable pub crashed : Call → Arrival → World → World

@@ -2,12 +2,10 @@
 -- first", but for a fetch's 10, which comes before 8 (document 02, N9), for 14 (N1), 15 (N3), 16 (N6) and 18 (N7), which come between 6 and
 -- 7, and for 17, which comes before 11 (N7).
 use Rattle.std.specs.Prelude.{ℕ, ◌%◌, Bool, true, false, not, ◌&&◌, ◌||◌, List, [], ◌∷◌, ◌++◌, length, eqb, ltb, leb}
-use Rattle.std.proofs.Math.Option.{Option, some, none}
+use Rattle.std.specs.Prelude.{Option, Some, None}
 use Rattle.pages.specs.Pages.{page_at}
 use Rattle.layout.specs.declared.Slot.{Slot}
 use Rattle.layout.specs.declared.Label.{Label}
-use Rattle.layout.specs.declared.LabelRead.{LabelRead}
-use Rattle.layout.specs.declared.LabelRead.TheVariants.{Legal, Illegal}
 use Rattle.layout.specs.Places.{within_limits, label_place, ssd_length, hdd_length, table_length}
 use Rattle.layout.specs.LabelPage.{decode_label}
 use Rattle.layout.specs.PageRule.{pair_test, listed}
@@ -16,6 +14,8 @@ use Rattle.layout.specs.Stamps.{largest_stamp, opening_bound}
 use Rattle.record.specs.declared.Record.{Record}
 use Rattle.record.specs.declared.Phase.{Phase}
 use Rattle.record.specs.declared.Phase.TheVariants.{Formatting, Recovering, Ready}
+use Rattle.protocol.specs.declared.Refusal.{Refusal}
+use Rattle.protocol.specs.declared.Refusal.TheVariants.{BadLimits, NoLabel, BadRecord, WrongLength, BadRows, WrongPhase, BlockTooHigh, SlotOpen, WrongState, HasSlot, WindowFull, AllOpen, StampsSpent, SheetShort, BadScan, BadList, ImportFull, UnknownCaller}
 use Rattle.protocol.specs.declared.Condition.{Condition}
 use Rattle.protocol.specs.Rows.{row_block, row_flags, valid, writing, used, each_row, open_rows, all_writing}
 use Rattle.record.specs.Window.{each_slot}
@@ -29,38 +29,26 @@ use Rattle.protocol.specs.Kinds.{Purpose, to_serve, to_settle, to_write, to_fetc
 use Rattle.protocol.specs.Recovery.{label_at, metas_of, pages_test}
 use Rattle.protocol.specs.SlotMap.{map_bytes}
 
--- the rows of document 01's table, and document 02's numbers
-pub data Reason : Type 0 where
-  bad_limits no_label bad_record wrong_length bad_rows wrong_phase block_too_high : Reason
-  slot_open wrong_state has_slot window_full all_open stamps_spent : Reason
-  -- document 02, N1
-  sheet_short : Reason
-  -- document 02, N3
-  bad_scan : Reason
-  -- document 02, N6
-  bad_list : Reason
-  -- document 02, N7
-  import_full unknown_caller : Reason
-
-abbrev pub number_of : Reason → ℕ
-number_of bad_limits = 1
-number_of no_label = 2
-number_of bad_record = 3
-number_of wrong_length = 4
-number_of bad_rows = 5
-number_of wrong_phase = 6
-number_of block_too_high = 7
-number_of slot_open = 8
-number_of wrong_state = 9
-number_of has_slot = 10
-number_of window_full = 11
-number_of all_open = 12
-number_of stamps_spent = 13
-number_of sheet_short = 14
-number_of bad_scan = 15
-number_of bad_list = 16
-number_of import_full = 17
-number_of unknown_caller = 18
+-- a refusal's number in document 01's table, and document 02's
+abbrev pub number_of : Refusal → ℕ
+number_of BadLimits = 1
+number_of NoLabel = 2
+number_of BadRecord = 3
+number_of WrongLength = 4
+number_of BadRows = 5
+number_of WrongPhase = 6
+number_of BlockTooHigh = 7
+number_of SlotOpen = 8
+number_of WrongState = 9
+number_of HasSlot = 10
+number_of WindowFull = 11
+number_of AllOpen = 12
+number_of StampsSpent = 13
+number_of SheetShort = 14
+number_of BadScan = 15
+number_of BadList = 16
+number_of ImportFull = 17
+number_of UnknownCaller = 18
 
 -- the label by which a call judges lengths: format by its arguments, reopen by the label page, others by the record
 abbrev pub label_for : Kind → Box → Label
@@ -70,9 +58,9 @@ label_for a_step x = label_in x.state
 label_for (a_service a) x = label_in x.state
 
 -- 2: "SSD under a page, or first page no legal label"
-abbrev pub is_label : LabelRead → Bool
-is_label (Legal l) = true
-is_label Illegal = false
+abbrev pub is_label : Option Label → Bool
+is_label (Some l) = true
+is_label None = false
 
 unfoldable pub label_test : List ℕ → Bool
 label_test ssd = leb 4096 (length ssd) && is_label (decode_label (page_at ssd label_place))
@@ -199,64 +187,64 @@ abbrev pub list_test : ℕ → ℕ → Bool
 list_test listed room = ltb 0 listed && (leb listed list_most && eqb listed room)
 
 -- does the condition of a row of the table hold for this call
-unfoldable pub test : Reason → Call → Box → Bool
-test bad_limits c x = not (within_limits (label_for (kind c) x))
-test no_label c x = not (label_test x.images.ssd)
-test bad_record c x = not (record_test x.state)
-test wrong_length c x = not (length_test (label_for (kind c) x) x.images x.table && lent_test (aim c).purpose (length x.table))
-test bad_rows c x = not (contents_test (kind c) x)
-test wrong_phase c x = not (phase_test (kind c) x.state.phase)
-test block_too_high c x = leb x.state.label.blocks (aim c).block.0
-test slot_open c x = open_test (aim c).purpose (condition_of x.table (aim c).block)
-test wrong_state c x = not (state_test (aim c).purpose (condition_of x.table (aim c).block))
-test has_slot c x = has_other (condition_of x.table (aim c).block)
-test window_full c x = opens_another (aim c).purpose (condition_of x.table (aim c).block) && leb window_most (open_rows x.table)
-test all_open c x = not (is_cached (condition_of x.table (aim c).block)) && all_writing x.table
-test stamps_spent c x = stores_meta (plan c x) && leb (stamp_bound (label_in x.state) (aim c).purpose) x.state.newest
+unfoldable pub test : Refusal → Call → Box → Bool
+test BadLimits c x = not (within_limits (label_for (kind c) x))
+test NoLabel c x = not (label_test x.images.ssd)
+test BadRecord c x = not (record_test x.state)
+test WrongLength c x = not (length_test (label_for (kind c) x) x.images x.table && lent_test (aim c).purpose (length x.table))
+test BadRows c x = not (contents_test (kind c) x)
+test WrongPhase c x = not (phase_test (kind c) x.state.phase)
+test BlockTooHigh c x = leb x.state.label.blocks (aim c).block.0
+test SlotOpen c x = open_test (aim c).purpose (condition_of x.table (aim c).block)
+test WrongState c x = not (state_test (aim c).purpose (condition_of x.table (aim c).block))
+test HasSlot c x = has_other (condition_of x.table (aim c).block)
+test WindowFull c x = opens_another (aim c).purpose (condition_of x.table (aim c).block) && leb window_most (open_rows x.table)
+test AllOpen c x = not (is_cached (condition_of x.table (aim c).block)) && all_writing x.table
+test StampsSpent c x = stores_meta (plan c x) && leb (stamp_bound (label_in x.state) (aim c).purpose) x.state.newest
 -- document 02, N1: "if the buffer is shorter than 67 × the number of lines"
-test sheet_short c x = ltb (aim c).room (map_bytes (label_in x.state))
-test bad_scan c x = not (scan_test (aim c).list)
-test bad_list c x = not (list_test (length (aim c).list) (aim c).room)
-test import_full c x = opens_another (aim c).purpose (condition_of x.table (aim c).block) && import_open (aim c).caller x.state
-test unknown_caller c x = ltb import_caller (aim c).caller
+test SheetShort c x = ltb (aim c).room (map_bytes (label_in x.state))
+test BadScan c x = not (scan_test (aim c).list)
+test BadList c x = not (list_test (length (aim c).list) (aim c).room)
+test ImportFull c x = opens_another (aim c).purpose (condition_of x.table (aim c).block) && import_open (aim c).caller x.state
+test UnknownCaller c x = ltb import_caller (aim c).caller
 
 -- the numbers that belong to each call, in the order of judging: first those of its kind ("Format and reopen judge neither that
 -- record nor the table's contents"), then its own
-abbrev pub asked_first : Kind → List Reason
-asked_first (a_format l) = bad_limits ∷ wrong_length ∷ []
-asked_first a_reopening = no_label ∷ wrong_length ∷ bad_rows ∷ []
-asked_first a_step = bad_record ∷ wrong_length ∷ bad_rows ∷ wrong_phase ∷ []
-asked_first (a_service a) = bad_record ∷ wrong_length ∷ bad_rows ∷ wrong_phase ∷ []
+abbrev pub asked_first : Kind → List Refusal
+asked_first (a_format l) = BadLimits ∷ WrongLength ∷ []
+asked_first a_reopening = NoLabel ∷ WrongLength ∷ BadRows ∷ []
+asked_first a_step = BadRecord ∷ WrongLength ∷ BadRows ∷ WrongPhase ∷ []
+asked_first (a_service a) = BadRecord ∷ WrongLength ∷ BadRows ∷ WrongPhase ∷ []
 
-abbrev pub asked_then : Call → List Reason
+abbrev pub asked_then : Call → List Refusal
 asked_then (format slots blocks) = []
 asked_then reopen = []
-asked_then step = stamps_spent ∷ []
-asked_then flush = stamps_spent ∷ []
-asked_then (offer b caller) = unknown_caller ∷ block_too_high ∷ slot_open ∷ import_full ∷ window_full ∷ all_open ∷ stamps_spent ∷ []
-asked_then (fetch b caller) = unknown_caller ∷ block_too_high ∷ has_slot ∷ slot_open ∷ import_full ∷ window_full ∷ all_open ∷ stamps_spent ∷ []
-asked_then (land_fetch b) = block_too_high ∷ wrong_state ∷ []
-asked_then (look_up b) = block_too_high ∷ []
-asked_then (view b) = block_too_high ∷ []
-asked_then (write_back b) = block_too_high ∷ slot_open ∷ []
-asked_then (land b page) = block_too_high ∷ wrong_state ∷ []
+asked_then step = StampsSpent ∷ []
+asked_then flush = StampsSpent ∷ []
+asked_then (offer b caller) = UnknownCaller ∷ BlockTooHigh ∷ SlotOpen ∷ ImportFull ∷ WindowFull ∷ AllOpen ∷ StampsSpent ∷ []
+asked_then (fetch b caller) = UnknownCaller ∷ BlockTooHigh ∷ HasSlot ∷ SlotOpen ∷ ImportFull ∷ WindowFull ∷ AllOpen ∷ StampsSpent ∷ []
+asked_then (land_fetch b) = BlockTooHigh ∷ WrongState ∷ []
+asked_then (look_up b) = BlockTooHigh ∷ []
+asked_then (view b) = BlockTooHigh ∷ []
+asked_then (write_back b) = BlockTooHigh ∷ SlotOpen ∷ []
+asked_then (land b page) = BlockTooHigh ∷ WrongState ∷ []
 -- document 02, N1: "It refuses with 14, after 6"
-asked_then (ask (slot_map n)) = sheet_short ∷ []
+asked_then (ask (slot_map n)) = SheetShort ∷ []
 -- document 02, N8: "The bad lists of 15 and the callers of 18 are refused by that number here too"; all else is met in the run
-asked_then (ask (cost blocks caller n)) = bad_scan ∷ unknown_caller ∷ []
+asked_then (ask (cost blocks caller n)) = BadScan ∷ UnknownCaller ∷ []
 -- document 02, N6: 16 "after 6 and before 7"
-asked_then (look_up_list blocks room) = bad_list ∷ block_too_high ∷ []
+asked_then (look_up_list blocks room) = BadList ∷ BlockTooHigh ∷ []
 -- document 02, N3: 15 "after 6", "before 7" and (N7) before 18; then as an offer of the first block
 asked_then (offer_list blocks caller) =
-    bad_scan ∷ unknown_caller ∷ block_too_high ∷ slot_open ∷ import_full ∷ window_full ∷ all_open ∷ stamps_spent ∷ []
+    BadScan ∷ UnknownCaller ∷ BlockTooHigh ∷ SlotOpen ∷ ImportFull ∷ WindowFull ∷ AllOpen ∷ StampsSpent ∷ []
 
-abbrev pub chain : Call → List Reason
+abbrev pub chain : Call → List Refusal
 chain c = asked_first (kind c) ++ asked_then c
 
 -- the first reason of a chain whose condition holds; a later one is not asked
-unfoldable pub first_of : List Reason → (Reason → Bool) → Option Reason
-first_of [] holds = none
-first_of (r ∷ rs) holds = elim (holds r) [ true ↦ some r | false ↦ first_of rs holds ]
+unfoldable pub first_of : List Refusal → (Refusal → Bool) → Option Refusal
+first_of [] holds = None
+first_of (r ∷ rs) holds = elim (holds r) [ true ↦ Some r | false ↦ first_of rs holds ]
 
-unfoldable pub judged : Call → Box → Option Reason
+unfoldable pub judged : Call → Box → Option Refusal
 judged c x = first_of (chain c) (λ r. test r c x)

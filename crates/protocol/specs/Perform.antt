@@ -1,6 +1,6 @@
 -- What each move leaves: the answer, the record, the table, and at most one store.
 use Rattle.std.specs.Prelude.{ℕ, zero, suc, ◌+◌, Bool, true, false, List, [], ◌∷◌, ◌++◌, replicate, leb}
-use Rattle.std.proofs.Math.Option.{some, none}
+use Rattle.std.specs.Prelude.{Some, None}
 use Rattle.pages.specs.Pages.{page_at, zero_page}
 use Rattle.layout.specs.declared.Slot.{Slot}
 use Rattle.layout.specs.declared.Label.{Label}
@@ -26,7 +26,7 @@ confirmed p said r table ssd =
       said = said;
       state = with_stamp r (r.newest + 1);
       table = table;
-      store = some (record {
+      store = Some (record {
         image = ssd_image;
         place = store_place (label_in r) ssd p;
         bytes = meta_bytes (label_in r) (r.newest + 1) (window_in r) (rows_on p table);
@@ -60,7 +60,7 @@ landed_in write s page x =
       said = done;
       state = landed_state (writing (row_flags x.table s)) s x.state;
       table = set_flags x.table s (landed_flags write (row_flags x.table s));
-      store = some (data_store s page x);
+      store = Some (data_store s page x);
     }
 
 -- "copy its page to its HDD block, mark it clean"
@@ -70,7 +70,7 @@ copied_from s said table hand x =
       said = said;
       state = with_hand x.state hand;
       table = set_flags table s (without_dirty (row_flags table s));
-      store = some (record {
+      store = Some (record {
         image = hdd_image;
         place = block_place (label_in x.state) (row_block table s);
         bytes = page_at x.images.ssd (data_place (label_in x.state) s);
@@ -89,7 +89,7 @@ begun l =
       said = done;
       state = record_of l (record { 0 = 0 }) 0 (Formatting 0) false [];
       table = replicate (table_length l) 0;
-      store = none;
+      store = None;
     }
 
 -- "then one store a step: a zero label page, the M metadata pages in order with stamp 0, the label"
@@ -115,10 +115,10 @@ used_all [] table = table
 used_all (s ∷ ss) table = used_all ss (set_flags table s (with_used (row_flags table s)))
 
 unfoldable pub perform : Move → Box → Effect
-perform (stay said) x = record { said = said; state = x.state; table = x.table; store = none }
+perform (stay said) x = record { said = said; state = x.state; table = x.table; store = None }
 perform (uses s said) x =
-    record { said = said; state = x.state; table = set_flags x.table s (with_used (row_flags x.table s)); store = none }
-perform (uses_all ss) x = record { said = done; state = x.state; table = used_all ss x.table; store = none }
+    record { said = said; state = x.state; table = set_flags x.table s (with_used (row_flags x.table s)); store = None }
+perform (uses_all ss) x = record { said = done; state = x.state; table = used_all ss x.table; store = None }
 perform (announces said p table hand window callers) x = confirmed p said (grown x.state hand window callers) table x.images.ssd
 perform (lands write s page) x = landed_in write s page x
 perform (copies s said table hand) x = copied_from s said table hand x
@@ -130,9 +130,9 @@ perform (formats d) x =
       said = done;
       state = format_state (label_in x.state) x.state d;
       table = x.table;
-      store = some (format_store (label_in x.state) x.table (window_in x.state) d);
+      store = Some (format_store (label_in x.state) x.table (window_in x.state) d);
     }
 perform recovers x =
     let l = label_at x.images.ssd in
     let r = recover l (metas_of l x.images.ssd) (spent_stamp l x.images.ssd) in
-    record { said = done; state = r.state; table = r.table; store = none }
+    record { said = done; state = r.state; table = r.table; store = None }

@@ -1,6 +1,6 @@
 -- The calls, and what each does where nothing refuses it: a pure function from call and box to a move.
 use Rattle.std.specs.Prelude.{ℕ, zero, suc, Bool, true, false, not, ◌&&◌, ◌||◌, List, [], ◌∷◌, ◌++◌, eqb, ltb, leb}
-use Rattle.std.proofs.Math.Option.{Option, some, none}
+use Rattle.std.specs.Prelude.{Option, Some, None}
 use Rattle.pages.specs.Pages.{page_at}
 use Rattle.layout.specs.declared.Slot.{Slot}
 use Rattle.layout.specs.declared.Block.{Block}
@@ -84,8 +84,8 @@ takes_as true r b caller flags v = copies v.slot copied_out v.table v.slot
 takes_as false r b caller flags v = opens r v.slot b caller flags v.table (next_slot (label_in r) v.slot)
 
 abbrev pub takes : Record → Block → ℕ → ℕ → Option Victim → Move
-takes r b caller flags none = stay nothing_to_do
-takes r b caller flags (some v) = takes_as (dirty (row_flags v.table v.slot)) r b caller flags v
+takes r b caller flags None = stay nothing_to_do
+takes r b caller flags (Some v) = takes_as (dirty (row_flags v.table v.slot)) r b caller flags v
 
 abbrev pub sweeps : Box → Block → ℕ → ℕ → Move
 sweeps x b caller flags = takes x.state b caller flags (sweep (label_in x.state) x.table x.state.hand)
@@ -117,7 +117,7 @@ pub record Offered : Type 0 where
 abbrev pub not_yet : Box → Offered
 not_yet x = record {
   places = 0;
-  page = none;
+  page = None;
   table = x.table;
   hand = x.state.hand;
   window = window_in x.state;
@@ -138,8 +138,8 @@ declines x b caller k =
 
 -- its slot is on "another metadata page than the first announced", or not
 abbrev pub on_page : Option ℕ → ℕ → Bool
-on_page none p = true
-on_page (some q) p = eqb p q
+on_page None p = true
+on_page (Some q) p = eqb p q
 
 -- a place that "need[s] nothing"
 abbrev pub passing : Offered → Offered
@@ -147,32 +147,32 @@ passing z = record { places = suc z.places; page = z.page; table = z.table; hand
 
 -- a place's move: what answers "overwrite" is passed, what is announced on the page joins, and before anything else the list ends
 abbrev pub dealt_with : Offered → Move → Option Offered
-dealt_with z (stay said) = some (passing z)
+dealt_with z (stay said) = Some (passing z)
 dealt_with z (announces said p table hand window callers) =
     elim (on_page z.page p) [
       | true ↦
-          some (record {
+          Some (record {
             places = suc z.places;
-            page = some p;
+            page = Some p;
             table = table;
             hand = hand;
             window = window;
             callers = callers;
           })
-      | false ↦ none
+      | false ↦ None
     ]
-dealt_with z (uses s p) = none
-dealt_with z (uses_all ss) = none
-dealt_with z (lands w s d) = none
-dealt_with z (copies s p t h) = none
-dealt_with z confirms = none
-dealt_with z (mends p) = none
-dealt_with z (begins l) = none
-dealt_with z (formats d) = none
-dealt_with z recovers = none
+dealt_with z (uses s p) = None
+dealt_with z (uses_all ss) = None
+dealt_with z (lands w s d) = None
+dealt_with z (copies s p t h) = None
+dealt_with z confirms = None
+dealt_with z (mends p) = None
+dealt_with z (begins l) = None
+dealt_with z (formats d) = None
+dealt_with z recovers = None
 
 abbrev pub placed_as : Bool → Offered → Move → Option Offered
-placed_as true z m = none
+placed_as true z m = None
 placed_as false z m = dealt_with z m
 
 -- one place, in the box that the places before it left; and one after another, to "the first that would be refused, would copy out, or
@@ -183,12 +183,12 @@ placed x caller z b = placed_as (declines x b caller (condition_of x.table b)) z
 unfoldable pub offers_from : Box → ℕ → Offered → List ℕ → Offered
 offers_from x caller z [] = z
 offers_from x caller z (b ∷ blocks) =
-    elim (placed (offered_box x z) caller z (record { 0 = b })) [ none ↦ z | some y ↦ offers_from x caller y blocks ]
+    elim (placed (offered_box x z) caller z (record { 0 = b })) [ None ↦ z | Some y ↦ offers_from x caller y blocks ]
 
 -- "All that it announced goes out in one store"
 abbrev pub announcing : Option ℕ → Offered → Move
-announcing none z = stay (dealt z.places)
-announcing (some p) z = announces (dealt z.places) p z.table z.hand z.window z.callers
+announcing None z = stay (dealt z.places)
+announcing (Some p) z = announces (dealt z.places) p z.table z.hand z.window z.callers
 
 -- "If the first place would copy out or be refused, the list gets that answer and effect": no place was dealt with
 abbrev pub together : ℕ → Move → Offered → Move

@@ -1,13 +1,11 @@
 -- What a reopening reads of the metadata pages: the newest window, the rules between pages, the table and the record
 -- (document 01, "Reopen" and the rules under the page table).
 use Rattle.std.specs.Prelude.{ℕ, suc, ◌%◌, Bool, true, false, not, ◌&&◌, ◌||◌, List, [], ◌∷◌, get_or, eqb, ltb}
-use Rattle.std.proofs.Math.Option.{Option, some, none}
+use Rattle.std.specs.Prelude.{Option, Some, None}
 use Rattle.pages.specs.Pages.{page_at}
 use Rattle.layout.specs.declared.Slot.{Slot}
 use Rattle.layout.specs.declared.Label.{Label}
 use Rattle.layout.specs.declared.Entry.{Entry}
-use Rattle.layout.specs.declared.LabelRead.{LabelRead}
-use Rattle.layout.specs.declared.LabelRead.TheVariants.{Legal, Illegal}
 use Rattle.layout.specs.Places.{label_of, meta_pages, meta_of, entry_of, label_place}
 use Rattle.layout.specs.LabelPage.{decode_label}
 use Rattle.layout.specs.MetaPage.{stamp_of, window_of, entry_at, firsts, rows_from}
@@ -20,9 +18,9 @@ use Rattle.protocol.specs.Metadata.{read_meta}
 use Rattle.record.specs.Record.{record_of}
 
 -- the label of an SSD image (of one that has none, a label of nothing)
-abbrev pub label_read : LabelRead → Label
-label_read (Legal l) = l
-label_read Illegal = label_of 0 0
+abbrev pub label_read : Option Label → Label
+label_read (Some l) = l
+label_read None = label_of 0 0
 
 abbrev pub label_at : List ℕ → Label
 label_at ssd = label_read (decode_label (page_at ssd label_place))
@@ -131,8 +129,8 @@ recover l pages spent =
 
 -- a reopening after 2 and 4: nothing where the pages break a rule
 abbrev pub recover_if : Bool → Label → List (List ℕ) → ℕ → Option Recovered
-recover_if true l pages spent = some (recover l pages spent)
-recover_if false l pages spent = none
+recover_if true l pages spent = Some (recover l pages spent)
+recover_if false l pages spent = None
 
 unfoldable pub recover_from : Label → List (List ℕ) → ℕ → Option Recovered
 recover_from l pages spent = recover_if (pages_test l pages) l pages spent

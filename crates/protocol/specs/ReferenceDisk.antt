@@ -1,7 +1,7 @@
 -- The reference disk: document 01's plain disk.
 use Rattle.std.specs.Prelude.{ℕ, Bool, true, false, cond, eqb}
 use mathlib.Core.List.{List, [], ◌∷◌, Memᴰ}
-use Rattle.std.proofs.Math.Option.{Option, some, none}
+use Rattle.std.specs.Prelude.{Option, Some, None}
 use Rattle.layout.specs.declared.Block.{Block}
 use Rattle.protocol.specs.Plan.{Call}
 use Rattle.protocol.specs.Kinds.{Purpose, to_serve, to_settle, to_write, to_fetch, to_land_fetch, to_land, to_count, aim}
@@ -39,5 +39,5 @@ fed_call (to_count n) b d = d
 -- "The plain disk is fed calls, arguments, refusals, and what blocks read as when a reopening finishes"
 abbrev pub fed : Call → Bool → Option (Block → List ℕ) → Disk → Disk
 fed c true reads d = d
-fed c false none d = fed_call (aim c).purpose (aim c).block d
-fed c false (some reads) d = durable reads
+fed c false None d = fed_call (aim c).purpose (aim c).block d
+fed c false (Some reads) d = durable reads

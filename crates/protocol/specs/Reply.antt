@@ -2,7 +2,7 @@
 use Rattle.std.specs.Prelude.{ℕ, Bool, true, false, ◌||◌, List, [], ◌∷◌, eqb}
 use Rattle.layout.specs.declared.Slot.{Slot}
 use Rattle.protocol.specs.declared.Answer.{Answer}
-use Rattle.protocol.specs.declared.Answer.TheVariants.{Refused, Announced, Overwrite, CopiedOut, Looked, NothingToDo, Done, Dealt}
+use Rattle.protocol.specs.declared.Answer.TheVariants.{Announced, Overwrite, CopiedOut, Looked, NothingToDo, Done, Dealt}
 use Rattle.protocol.specs.declared.Condition.{Condition}
 use Rattle.protocol.specs.declared.Condition.TheVariants.{NotCached, Clean, Dirty, Writing, Fetching}
 
@@ -48,7 +48,6 @@ abbrev pub done : Reply
 done = answer 0 []
 
 abbrev pub reply_of : Answer → Reply
-reply_of (Refused n) = refusal n
 reply_of (Announced s) = announced s
 reply_of Overwrite = overwrite
 reply_of CopiedOut = copied_out

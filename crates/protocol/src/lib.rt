@@ -1,13 +1,51 @@
 // The declared types of the box. What every call does is said in specs/, and crate theorem proves demand 3 of it.
 #![tactic(auto)]
 
+ghost use Rattle.std.specs.Prelude.{◌≡◌};
+ghost use Rattle.protocol.specs.Judge.{number_of};
+
 use layout::{Block, Slot};
 use record::Record;
 
-// What a call answers.
+// Why a call is refused: the rows of document 01's table "Why a call says no" and document 02's, each with its number there.
+#[derive(Clone, Copy, PartialEq, Eq)]
+pub enum Refusal {
+    BadLimits = 1,
+    NoLabel = 2,
+    BadRecord = 3,
+    WrongLength = 4,
+    BadRows = 5,
+    WrongPhase = 6,
+    BlockTooHigh = 7,
+    SlotOpen = 8,
+    WrongState = 9,
+    HasSlot = 10,
+    WindowFull = 11,
+    AllOpen = 12,
+    StampsSpent = 13,
+    // document 02, N1
+    SheetShort = 14,
+    // document 02, N3
+    BadScan = 15,
+    // document 02, N6
+    BadList = 16,
+    // document 02, N7
+    ImportFull = 17,
+    UnknownCaller = 18,
+}
+
+impl Refusal {
+    // Its number in the tables.
+    pub fn number(self) -> u32
+        ensures { result ≡ number_of self }
+    {
+        self as u32
+    }
+}
+
+// What a call answers that is not refused.
 #[derive(Clone, Copy)]
 pub enum Answer {
-    Refused(u32),
     Announced(Slot),
     Overwrite,
     CopiedOut,
@@ -17,20 +55,19 @@ pub enum Answer {
     Dealt(u32),
 }
 
-// Where a call stored: nowhere, or on a page of the SSD or of the HDD image, by its number.
+// Where a call stored: on a page of the SSD or of the HDD image, by its number.
 #[derive(Clone, Copy)]
 pub enum Stored {
-    Nothing,
     Ssd(u32),
     Hdd(u32),
 }
 
-// What a call returns: its answer, the record, and where it stored.
+// What a call returns that is not refused: its answer, the record, and where it stored, if it did.
 #[derive(Clone, Copy)]
 pub struct Outcome {
     pub answer: Answer,
     pub state: Record,
-    pub stored: Stored,
+    pub stored: Option<Stored>,
 }
 
 // The stores that an import makes, by kind: copy-outs, metadata stores, and data stores, one for each landing.
@@ -41,11 +78,10 @@ pub struct Counts {
     pub landings: u32,
 }
 
-// What an import would cost: the question is refused by a number; its stores; or the number of the refusal that the run would meet, the
-// list place that meets it, counted from 0, and the stores up to it.
+// What an import would cost: its stores; or the number of the refusal that the run would meet, the list place that meets it, counted from
+// 0, and the stores up to it.
 #[derive(Clone, Copy)]
 pub enum Cost {
-    Refused(u32),
     Counted(Counts),
     Met(u32, u32, Counts),
 }

@@ -1,7 +1,9 @@
 -- The callers of a window's places: a test at each, as an array, counted, and without one of them.
 use Prim.Native.Nat.{ℕ, zero, suc, ◌+◌, ◌-◌, ◌≤◌, ◌<◌}
 use mathlib.Core.Path.{◌≡◌, refl, sym, ap, ◌∙◌}
-use mathlib.Core.Bool.{Bool, true, false, ◌&&◌}
+use mathlib.Core.Bool.{Bool, true, false, cond}
+use Rattle.std.specs.List.{count_by}
+use Rattle.std.proofs.lemmas.List.Recursion.{is_count_by}
 use mathlib.Core.List.{List, [], ◌∷◌, ◌++◌}
 use native.Mathlib.Omega.{arith}
 use lib.ListN.{length, take, drop, replicate, length-append, length-take, length-drop, length-replicate, take-append-drop}
@@ -9,7 +11,7 @@ use lib.Seq.{take_at, drop_at}
 use lib.Dec.{eqb, leb}
 use borrow.Author.Tests.{eqb-true, eq-eqb, le-leb}
 use Rattle.layout.specs.declared.Slot.{Slot}
-use Rattle.layout.proofs.Booleans.{and_of, and_parts, and_assoc}
+use Rattle.layout.proofs.Booleans.{and_of, and_parts}
 use Rattle.record.specs.Window.{each_place, without, beside}
 use Rattle.record.specs.declared.Phase.{Phase}
 use Rattle.record.specs.declared.Phase.TheVariants.{Formatting, Recovering, Ready}
@@ -17,11 +19,6 @@ use Rattle.record.specs.Callers.{open_by, caller_array, named_places, callers_te
 use Rattle.record.proofs.WindowLaws.{padded, length_without}
 use Rattle.record.proofs.LeaveLaws.{length-beside}
 use Rattle.record.proofs.Examples as computed-first
-
--- what was passed and what is left make up the whole, one place further too
-pub one_further : {whole now : Bool} (ok ok' t rest : Bool) → (ok && now) ≡ whole → now ≡ (t && rest) → ok' ≡ (ok && t)
-    → (ok' && rest) ≡ whole
-one_further ok ok' t rest inv e p = rw (p, and_assoc ok t rest, ← e) inv
 
 -- callers that are 0 are as many zeros
 pub nobody_all : (cs : List ℕ) → each_place (λ c. eqb c 0) cs ≡ true → cs ≡ replicate (length cs) 0
@@ -56,6 +53,16 @@ by_take caller (suc n) (c ∷ cs) = go (eqb c caller) (by_take caller n cs)
         ≤ elim b [ true ↦ suc (open_by caller cs) | false ↦ open_by caller cs ]
     go true h = omega arith
     go false h = h
+
+-- counted by a test
+pub by_count : (caller : ℕ) (cs : List ℕ) → open_by caller cs ≡ count_by (λ c. eqb c caller) cs
+unfolding open_by
+by_count caller cs = is_count_by (open_by caller) (λ c. eqb c caller) refl (λ c cs. go (eqb c caller) cs) cs
+  where
+    go : (b : Bool) (cs : List ℕ) → elim b [ true ↦ suc (open_by caller cs) | false ↦ open_by caller cs ]
+        ≡ cond b (1 + open_by caller cs) (open_by caller cs)
+    go true cs = omega arith
+    go false cs = refl
 
 -- one more where it joins, at most as many once one leaves
 pub by_more : (caller c : ℕ) (cs : List ℕ) → open_by caller (cs ++ (c ∷ [])) ≡ open_by caller cs + open_by caller (c ∷ [])

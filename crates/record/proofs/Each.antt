@@ -5,23 +5,61 @@ use mathlib.Core.Logic.{◌≢◌}
 use mathlib.Core.Bool.{Bool, true, false, not, ◌&&◌, ◌||◌, or-true}
 use mathlib.Core.List.{List, [], ◌∷◌}
 use native.Mathlib.Omega.{arith}
-use lib.ListN.{length, get_or, drop}
+use native.Mathlib.Numerals.{add-one}
+use lib.ListN.{length, get_or, take}
+use Rattle.std.specs.List.{list_all}
 use lib.Dec.{eqb, ltb}
 use borrow.Author.Tests.{eqb-true, eqb-false, not-true, eq-eqb, ne_eqb}
 use Rattle.layout.specs.declared.Slot.{Slot}
 use Rattle.layout.specs.declared.Label.{Label}
 use Rattle.layout.specs.PageRule.{listed, distinct, in_range}
-use Rattle.layout.proofs.Booleans.{Told, told, told_true, told_false, clash, and_of, and_parts, not_of}
-use Rattle.layout.proofs.Loops.{left}
+use Rattle.layout.proofs.Booleans.{Told, told, told_true, told_false, clash, and_of, and_parts, not_of, and_assoc}
 use Rattle.layout.proofs.RuleLaws.{◌⇔◌}
 use Rattle.record.specs.Window.{zero_slots, each_place, each_slot}
 use Rattle.record.proofs.Examples as computed-first
 
--- a test of what is left is the test at hand and a test of the rest
-pub each_at : {A : Type 0} (t : A → Bool) (xs : List A) (i : ℕ) (d : A) → i < length xs
-    → each_place t (drop i xs) ≡ (t (get_or xs i d) && each_place t (drop (i + 1) xs))
+-- the library's test of all
+pub each-all : {A : Type 0} (t : A → Bool) (xs : List A) → list_all t xs ≡ each_place t xs
 unfolding each_place
-each_at t xs i d h = rw (left xs i d h)
+each-all t [] = refl
+each-all t (x ∷ xs) = rw (each-all t xs)
+
+pub zero-all : (w : List Slot) → list_all (λ (s : Slot). eqb s.0 0) w ≡ zero_slots w
+unfolding zero_slots
+zero-all [] = refl
+zero-all (s ∷ w) = rw (zero-all w)
+
+pub range-all : (l : Label) (w : List Slot) → list_all (λ (s : Slot). ltb s.0 l.slots) w ≡ in_range l w
+unfolding in_range
+range-all l [] = refl
+range-all l (s ∷ w) = rw (range-all l w)
+
+-- a test of one place more
+pub each_more : {A : Type 0} (t : A → Bool) (xs : List A) (i : ℕ) (d : A) → i < length xs
+    → each_place t (take (i + 1) xs) ≡ (each_place t (take i xs) && t (get_or xs i d))
+unfolding each_place
+each_more {A} t xs i d h = rw add-one (go i xs h)
+  where
+    one : (b : Bool) → (b && true) ≡ (true && b)
+    one true = refl
+    one false = refl
+
+    go : (i : ℕ) (xs : List A) → i < length xs → each_place t (take (suc i) xs) ≡ (each_place t (take i xs) && t (get_or xs i d))
+    go i [] h = absurd (omega arith)
+    go zero (x ∷ xs) h = one (t x)
+    go (suc i) (x ∷ xs) h = rw (go i xs (omega arith)) (sym (and_assoc (t x) (each_place t (take i xs)) (t (get_or xs i d))))
+
+-- a test that fails at a place
+pub each_fails : {A : Type 0} (t : A → Bool) (xs : List A) (i : ℕ) (d : A) → i < length xs → t (get_or xs i d) ≡ false
+    → false ≡ each_place t xs
+unfolding each_place
+each_fails t [] i d h e = absurd (omega arith)
+each_fails t (x ∷ xs) zero d h e = rw e
+each_fails t (x ∷ xs) (suc i) d h e = go (t x) (each_fails t xs i d (omega arith) e)
+  where
+    go : (b : Bool) {r : Bool} → false ≡ r → false ≡ (b && r)
+    go true q = q
+    go false q = refl
 
 -- a test at every place
 pub place_get : {A : Type 0} (t : A → Bool) (xs : List A) (d : A) → each_place t xs ≡ true

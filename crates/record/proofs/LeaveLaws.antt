@@ -8,20 +8,13 @@ use native.Mathlib.Numerals.{add-one}
 use lib.ListN.{length, get_or, set, take, replicate, length-take}
 use lib.Seq.{take-suc, take_all, get_or-take}
 use lib.Dec.{eqb}
-use borrow.Author.Tests.{eqb-true, eqb-false, ne_eqb}
+use borrow.Author.Tests.{eqb-true}
 use Rattle.layout.specs.declared.Slot.{Slot}
 use Rattle.layout.specs.PageRule.{listed}
 use Rattle.record.specs.Window.{without, beside}
 use Rattle.layout.proofs.Booleans.{Told, told, told_true, told_false, clash}
-use Rattle.layout.specs.Numbers.{choose}
-use Rattle.record.proofs.WindowLaws.{padded, padded_more}
-
-eqb_turn : (m n : ℕ) → eqb m n ≡ eqb n m
-eqb_turn m n = go (told (eqb n m))
-  where
-    go : Told (eqb n m) → eqb m n ≡ eqb n m
-    go (told_true e) = let q : n ≡ m = eqb-true n m e in rw q
-    go (told_false e) = rw e (ne_eqb m n (λ q. eqb-false n m e (sym q)))
+use mir.Val.{bool_byte}
+use Rattle.record.proofs.WindowLaws.{eqb_swap, padded, padded_more}
 
 -- one slot less
 pub length_less : (s : Slot) (w : List Slot) → listed s w ≡ true → suc (length (without s w)) ≡ length w
@@ -32,7 +25,7 @@ length_less s (t ∷ w) h = go (told (eqb t.0 s.0)) (length_less s w)
     go : Told (eqb t.0 s.0) → (listed s w ≡ true → suc (length (without s w)) ≡ length w)
         → suc (length {A = Slot} (elim (eqb t.0 s.0) [ true ↦ w | false ↦ t ∷ without s w ])) ≡ suc (length w)
     go (told_true e) ih = rw e
-    go (told_false e) ih = rw e (ap suc (ih (rw (eqb_turn s.0 t.0, e) at h)))
+    go (told_false e) ih = rw e (ap suc (ih (rw (eqb_swap s.0 t.0, e) at h)))
 
 -- two slots leave in either order
 pub without_comm : (s t : Slot) (w : List Slot) → without s (without t w) ≡ without t (without s w)
@@ -110,23 +103,23 @@ beside_comm {A} s t (u ∷ w) (x ∷ xs) = go (told (eqb u.0 s.0)) (told (eqb u.
 
 -- what stands at a place: what stood there, or from the slot's place on what stood one place on
 pub beside_at : {A : Type 0} (s : Slot) (w : List Slot) (xs : List A) (i : ℕ) (d : A) → length xs ≡ length w
-    → get_or (beside s w xs) i d ≡ get_or xs (i + choose (listed s (take (suc i) w)) 1 0) d
+    → get_or (beside s w xs) i d ≡ get_or xs (i + bool_byte (listed s (take (suc i) w))) d
 unfolding listed beside
 beside_at s [] xs i d n = ap (λ (k : ℕ). get_or xs k d) (omega arith)
 beside_at s (t ∷ w) [] i d n = refl
 beside_at {A} s (t ∷ w) (x ∷ xs) i d n = go (told (eqb t.0 s.0)) i (λ j. beside_at s w xs j d (omega arith))
   where
-    go : Told (eqb t.0 s.0) → (k : ℕ) → ((j : ℕ) → get_or (beside s w xs) j d ≡ get_or xs (j + choose (listed s (take (suc j) w)) 1 0) d)
+    go : Told (eqb t.0 s.0) → (k : ℕ) → ((j : ℕ) → get_or (beside s w xs) j d ≡ get_or xs (j + bool_byte (listed s (take (suc j) w))) d)
         → get_or {A = A} (elim (eqb t.0 s.0) [ true ↦ xs | false ↦ x ∷ beside s w xs ]) k d ≡ get_or (x ∷ xs)
-        (k + choose (eqb s.0 t.0 || listed s (take k w)) 1 0) d
-    go (told_true e) k ih = rw (e, eqb_turn s.0 t.0, e, add-one k)
-    go (told_false e) zero ih = rw (e, eqb_turn s.0 t.0, e)
+        (k + bool_byte (eqb s.0 t.0 || listed s (take k w))) d
+    go (told_true e) k ih = rw (e, eqb_swap s.0 t.0, e, add-one k)
+    go (told_false e) zero ih = rw (e, eqb_swap s.0 t.0, e)
     go (told_false e) (suc k) ih =
-        let z : suc k + choose (listed s (take (suc k) w)) 1 0 ≡ suc (k + choose (listed s (take (suc k) w)) 1 0) = omega arith in
-        rw (e, eqb_turn s.0 t.0, e, z) (ih k)
+        let z : suc k + bool_byte (listed s (take (suc k) w)) ≡ suc (k + bool_byte (listed s (take (suc k) w))) = omega arith in
+        rw (e, eqb_swap s.0 t.0, e, z) (ih k)
 
 -- whether the slot stands among one more
-listed_more : (s : Slot) (w : List Slot) (i : ℕ) (d : Slot) → i < length w
+pub listed_more : (s : Slot) (w : List Slot) (i : ℕ) (d : Slot) → i < length w
     → listed s (take (suc i) w) ≡ (listed s (take i w) || eqb s.0 (get_or w i d).0)
 unfolding listed
 listed_more s [] i d h = absurd (omega arith)
@@ -138,55 +131,35 @@ listed_more s (t ∷ w) (suc i) d h = go (eqb s.0 t.0) (listed_more s w i d (ome
     go true e = refl
     go false e = e
 
-gone_more : (b e : Bool) → choose e 1 (choose b 1 0) ≡ choose (b || e) 1 0
-gone_more true true = refl
-gone_more true false = refl
-gone_more false true = refl
-gone_more false false = refl
-
 -- how far the loop of `leave` is at place i, and whether it has met the slot
-pub record Leaving (s : Slot) (w : List Slot) (gone i : ℕ) : Type 0 where
+pub record Leaving (s : Slot) (w : List Slot) (gone : Bool) (i : ℕ) : Type 0 where
   pub few : i + 1 ≤ length w
   pub most : length w ≤ 63
-  pub passed : gone ≡ choose (listed s (take i w)) 1 0
+  pub passed : gone ≡ listed s (take i w)
 
 -- what it has moved of a list that stands beside the window
 pub record Moved {A : Type 0} (nil : A) (s : Slot) (w : List Slot) (xs left : List A) (i : ℕ) : Type 0 where
   pub size : length xs ≡ length w
   pub filled : left ≡ padded nil (take i (beside s w xs))
 
-pub gone_most : (s : Slot) (w : List Slot) (gone i : ℕ) → Leaving s w gone i → gone ≤ 1
-gone_most s w gone i L = rw L.passed (go (listed s (take i w)))
-  where
-    go : (b : Bool) → choose b 1 0 ≤ 1
-    go true = omega arith
-    go false = omega arith
+pub one_most : (b : Bool) → bool_byte b ≤ 1
+one_most true = omega arith
+one_most false = omega arith
 
 pub some_slot : (s : Slot) (w : List Slot) (n : ℕ) → listed s (take n w) ≡ true → 1 ≤ n
 some_slot s w n h = let k = length_less s (take n w) h in let m = length-take n w in omega arith
 
 -- the window is the first n places of its array
-module _ (s : Slot) (window : List Slot) (n gone i g : ℕ) (d : Slot) (L : Leaving s (take n window) gone i)
-    (e : g ≡ choose (eqb s.0 (get_or window i d).0) 1 gone) where
-  abbrev w : List Slot
-  w = take n window
-
-  pub next_most : g ≤ 1
-  next_most = rw e (go (eqb s.0 (get_or window i d).0))
-    where
-      go : (b : Bool) → choose b 1 gone ≤ 1
-      go true = omega arith
-      go false = gone_most s (take n window) gone i L
-
+module _ (s : Slot) (window : List Slot) (n : ℕ) (gone : Bool) (i : ℕ) (g : Bool) (d : Slot) (L : Leaving s (take n window) gone i)
+    (e : g ≡ (gone || eqb (get_or window i d).0 s.0)) where
   module _ (h : i + 1 < n) (m : n ≤ length window) where
-    met_by : g ≡ choose (listed s (take (suc i) (take n window))) 1 0
+    met_by : g ≡ listed s (take (suc i) (take n window))
     met_by =
         let z = length-take n window in
         let q : get_or (take n window) i d ≡ get_or window i d = get_or-take n window i d (omega arith) in
-        e ∙ ap (choose (eqb s.0 (get_or window i d).0) 1) L.passed
-        ∙ gone_more (listed s (take i (take n window))) (eqb s.0 (get_or window i d).0)
-        ∙ ap (λ (b : Bool). choose b 1 0)
-        (ap (λ (u : Slot). listed s (take i (take n window)) || eqb s.0 u.0) (sym q) ∙ sym (listed_more s (take n window) i d (omega arith)))
+        e ∙ ap (λ (b : Bool). b || eqb (get_or window i d).0 s.0) L.passed
+        ∙ ap (λ (b : Bool). listed s (take i (take n window)) || b) (eqb_swap (get_or window i d).0 s.0)
+        ∙ ap (λ (u : Slot). listed s (take i (take n window)) || eqb s.0 u.0) (sym q) ∙ sym (listed_more s (take n window) i d (omega arith))
 
     pub one_place : Leaving s (take n window) g (i + 1)
     one_place = let z = length-take n window in record { few = omega arith; most = L.most; passed = rw add-one met_by }
@@ -194,18 +167,19 @@ module _ (s : Slot) (window : List Slot) (n gone i g : ℕ) (d : Slot) (L : Leav
     -- one place more is moved, of a list in an array
     pub moved_on : {A : Type 0} (nil : A) (array left : List A) → listed s (take n window) ≡ true → n ≤ length array
         → Moved nil s (take n window) (take n array) left i
-        → Moved nil s (take n window) (take n array) (set left i (get_or array (i + g) nil)) (i + 1)
+        → Moved nil s (take n window) (take n array) (set left i (get_or array (i + bool_byte g) nil)) (i + 1)
     moved_on {A} nil array left here k M =
         let z = length-take n window in
-        let one = next_most in
-        let q : get_or (take n array) (i + g) nil ≡ get_or array (i + g) nil = get_or-take n array (i + g) nil (omega arith) in
+        let one = one_most g in
+        let q : get_or (take n array) (i + bool_byte g) nil ≡ get_or array (i + bool_byte g) nil =
+        get_or-take n array (i + bool_byte g) nil (omega arith) in
         let v : List A = beside s (take n window) (take n array) in
         let c = length_less s (take n window) here in
         let y : length v ≡ length (without s (take n window)) = length-beside s (take n window) (take n array) M.size in
         let u : length (take i v) ≡ i = length-take i v ∙ omega arith in
-        let x : get_or v i nil ≡ get_or array (i + g) nil =
+        let x : get_or v i nil ≡ get_or array (i + bool_byte g) nil =
         beside_at s (take n window) (take n array) i nil M.size
-        ∙ ap (λ (j : ℕ). get_or (take n array) (i + j) nil) (sym met_by) ∙ q
+        ∙ ap (λ (b : Bool). get_or (take n array) (i + bool_byte b) nil) (sym met_by) ∙ q
         in
         record {
           size = M.size;
@@ -216,7 +190,7 @@ module _ (s : Slot) (window : List Slot) (n gone i g : ℕ) (d : Slot) (L : Leav
               ∙ ap (padded nil) (sym (take-suc v i nil (omega arith)) ∙ ap (λ (j : ℕ). take j v) (sym (add-one i))));
         }
 
-pub leaving_begin : (s : Slot) (w : List Slot) → listed s w ≡ true → length w ≤ 63 → Leaving s w 0 0
+pub leaving_begin : (s : Slot) (w : List Slot) → listed s w ≡ true → length w ≤ 63 → Leaving s w false 0
 unfolding listed
 leaving_begin s w h m = let n = length_less s w h in record { few = omega arith; most = m; passed = refl }
 

@@ -1,23 +1,30 @@
 -- Windows, place by place; and as arrays.
 use Prim.Native.Nat.{ℕ, zero, suc, ◌+◌, ◌-◌, ◌*◌, ◌≤◌, ◌<◌}
 use mathlib.Core.Path.{◌≡◌, refl, sym, ap, ◌∙◌}
-use mathlib.Core.Bool.{Bool, true, false, not, ◌&&◌, ◌||◌}
+use mathlib.Core.Bool.{Bool, true, false, ◌||◌}
 use mathlib.Core.List.{List, [], ◌∷◌, ◌++◌, append_assoc}
 use native.Mathlib.Omega.{arith}
-use lib.ListN.{length, get_or, set, take, drop, replicate, length-take, length-append, length-replicate, drop_of_length-le}
+use lib.ListN.{length, get_or, set, take, drop, replicate, length-take, length-append, length-replicate}
 use lib.Seq.{get_or-take, take_at, drop_at, set_at}
 use lib.Dec.{eqb, ltb}
-use borrow.Author.Tests.{ltb-true}
-use Rattle.layout.proofs.Booleans.{and_parts}
+use borrow.Author.Tests.{ltb-true, eqb-true, eqb-false, eq-eqb, ne_eqb}
+use Rattle.layout.proofs.Booleans.{and_parts, Told, told, told_true, told_false}
+use Rattle.std.specs.List.{list_any}
 use Rattle.layout.specs.declared.Slot.{Slot}
 use Rattle.layout.specs.declared.Label.{Label}
 use Rattle.layout.specs.declared.Window.{Window}
 use Rattle.layout.specs.Places.{table_length}
-use Rattle.layout.specs.PageRule.{listed, distinct, in_range}
+use Rattle.layout.specs.PageRule.{listed, in_range}
 use Rattle.layout.specs.Window.{slots_in, array_of, window_from, ZeroPast}
-use Rattle.layout.proofs.Loops.{left}
-use Rattle.record.specs.Window.{zero_slots, each_place, each_slot, without}
+use Rattle.record.specs.Window.{zero_slots, without}
 use Rattle.record.proofs.Examples as computed-first
+
+pub eqb_swap : (m n : ℕ) → eqb m n ≡ eqb n m
+eqb_swap m n = go (told (eqb n m))
+  where
+    go : Told (eqb n m) → eqb m n ≡ eqb n m
+    go (told_true e) = rw (e, eqb-true n m e) (eq-eqb m m refl)
+    go (told_false e) = rw e (ne_eqb m n (λ q. eqb-false n m e (sym q)))
 
 -- of a test that one place passes: the search stops there, and goes on where not
 pub hit : {whole now : Bool} (t rest : Bool) → now ≡ whole → now ≡ (t || rest) → t ≡ true → true ≡ whole
@@ -26,33 +33,11 @@ hit t rest inv e h = sym (rw h at e) ∙ inv
 pub miss : {whole now : Bool} (t rest : Bool) → now ≡ whole → now ≡ (t || rest) → t ≡ false → rest ≡ whole
 miss t rest inv e h = sym (rw h at e) ∙ inv
 
-pub zero_left : (w : List Slot) (i : ℕ) (d : Slot) → i < length w
-    → zero_slots (drop i w) ≡ (eqb (get_or w i d).0 0 && zero_slots (drop (i + 1) w))
-unfolding zero_slots
-zero_left w i d h = rw (left w i d h)
-
-module _ (w : List Slot) (n i : ℕ) (d : Slot) (h : i < n) (m : n ≤ length w) where
-  pub window-left : drop i (take n w) ≡ get_or w i d ∷ drop (i + 1) (take n w)
-  window-left =
-      let k : i < length (take n w) = simp length-take (omega arith) in
-      left (take n w) i d k ∙ rw (get_or-take n w i d h)
-
-  pub range_left : (l : Label) → in_range l (drop i (take n w)) ≡ (ltb (get_or w i d).0 l.slots && in_range l (drop (i + 1) (take n w)))
-  unfolding in_range
-  range_left l = rw window-left
-
-  pub listed-left : (s : Slot) → listed s (drop i (take n w)) ≡ (eqb s.0 (get_or w i d).0 || listed s (drop (i + 1) (take n w)))
-  unfolding listed
-  listed-left s = rw window-left
-
-  pub distinct-left : distinct (drop i (take n w)) ≡
-      (not (listed (get_or w i d) (drop (i + 1) (take n w))) && distinct (drop (i + 1) (take n w)))
-  unfolding distinct
-  distinct-left = rw window-left
-
-  pub each_left : (test : Slot → Bool) → each_slot test (drop i (take n w)) ≡ (test (get_or w i d) && each_slot test (drop (i + 1) (take n w)))
-  unfolding each_place
-  each_left test = rw window-left
+-- one of these is the slot
+pub listed-any : (s : Slot) (w : List Slot) → list_any (λ (t : Slot). eqb t.0 s.0) w ≡ listed s w
+unfolding listed
+listed-any s [] = refl
+listed-any s (t ∷ w) = rw (eqb_swap t.0 s.0, listed-any s w)
 
 -- a slot of a window in range
 pub range_at : (l : Label) (w : List Slot) (i : ℕ) (d : Slot) → in_range l w ≡ true → i < length w → (get_or w i d).0 < l.slots
@@ -71,14 +56,6 @@ pub row_in : (l : Label) (t : List ℕ) (w : List Slot) (n i : ℕ) (d : Slot) �
     → i < n → n ≤ length w
     → 2 * (get_or w i d).0 + 1 < length t
 row_in l t w n i d z e h m = let k = slot-low l w n i d e h m in omega arith
-
-pub block_in_lem : (l : Label) (t : List ℕ) (w : List Slot) (n i : ℕ) (d : Slot) → length t ≡ table_length l → in_range l (take n w) ≡ true
-    → i < n → n ≤ length w
-    → 2 * (get_or w i d).0 < length t
-block_in_lem l t w n i d z e h m = let k = slot-low l w n i d e h m in omega arith
-
-pub window_end : (w : List Slot) (n i : ℕ) → n ≤ i → drop i (take n w) ≡ []
-window_end w n i h = let e = length-take n w in drop_of_length-le (take n w) {i = i} (omega arith)
 
 -- slots as an array: they read back, it has 63 places, and it is zero past them
 pub take-array : (w : List Slot) → take (length w) (array_of w) ≡ w

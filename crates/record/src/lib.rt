@@ -7,6 +7,7 @@ pub mod state;
 pub mod window;
 
 // The import's number as a caller, the largest there is.
+// Kept: a caller stays a number: C hands any, a record's words hold any, and each is judged in its order (18, and 3).
 pub const IMPORT: u32 = 1;
 
 // How many slots the import may have open.

@@ -24,11 +24,10 @@ pub fn window_of(r: Record) -> Window
 pub fn fresh(l: Label, newest: u32, phase: Phase, w: Window) -> Record
     ensures { result ≡ record_with l (record { 0 = 0 }) newest phase false w }
 {
-    let hand = Slot(0);
     let slots = w.slots;
     Record {
         label: l,
-        hand,
+        hand: Slot(0),
         newest,
         phase,
         unconfirmed: false,
@@ -51,20 +50,9 @@ pub fn with_hand(r: Record, hand: Slot) -> Record
 pub fn with_phase(r: Record, phase: Phase) -> Record
     ensures { result ≡ with_phase r phase }
 {
-    let l = r.label;
-    let hand = r.hand;
-    let slots = r.window;
-    let callers = r.callers;
-    Record {
-        label: l,
-        hand,
-        newest: r.newest,
-        phase,
-        unconfirmed: r.unconfirmed,
-        window: slots,
-        count: r.count,
-        callers,
-    }
+    let mut next = r;
+    next.phase = phase;
+    next
 }
 
 // The record with the stamp of a metadata store.
@@ -110,8 +98,7 @@ pub fn left(r: Record, s: Slot) -> Record
     requires r_value_2 { listed s (window_in r) ≡ true }
     ensures { result ≡ with_callers (with_window r true (without s (window_in r))) (beside s (window_in r) (callers_in r)) }
 {
-    let callers = r.callers;
-    let left = window::leave(window_of(r), callers, s);
+    let left = window::leave(window_of(r), r.callers, s);
     let slots = left.slots;
     let named = left.callers;
     let mut next = r;

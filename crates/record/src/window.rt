@@ -26,25 +26,6 @@ pub fn empty() -> Window
     }
 }
 
-// Whether slot s is in the window from place k on.
-pub fn listed_from(s: Slot, w: Window, k: usize) -> bool
-    requires count_le_window_most { w.count ≤ window_most }
-    requires k_le_count { k ≤ w.count }
-    ensures { result ≡ listed s (drop k (slots_in w)) }
-{
-    let slots = w.slots;
-    let n = w.count as usize;
-    let mut i: usize = k;
-    while i < n {
-        let t = slots[i];
-        if s.0 == t.0 {
-            return true;
-        }
-        i += 1;
-    }
-    false
-}
-
 // The window with a slot added at its end.
 pub fn join(w: Window, s: Slot) -> Window
     requires zero_past { ZeroPast w }
@@ -58,51 +39,26 @@ pub fn join(w: Window, s: Slot) -> Window
     next
 }
 
-// 1 from the place on where a slot is met.
-fn met(before: usize, here: Slot, s: Slot) -> usize
-    ensures { result ≡ choose (eqb s.0 here.0) 1 before }
-{
-    if s.0 == here.0 {
-        return 1;
-    }
-    before
-}
-
 // The places of a window without one of its slots: those after it move up, each with its caller.
 pub fn leave(w: Window, callers: [u32; WINDOW], s: Slot) -> Places
     requires count_le_window_most { w.count ≤ window_most }
     requires w_value { listed s (slots_in w) ≡ true }
     ensures { result ≡ record { slots = array_of (without s (slots_in w)); callers = caller_array (beside s (slots_in w) (take w.count callers)) } }
 {
-    let slots = w.slots;
     let last = (w.count as usize) - 1;
-    let mut left = [Slot(0); WINDOW];
+    let mut slots = [Slot(0); WINDOW];
     let mut named = [0u32; WINDOW];
-    let mut gone: usize = 0;
-    let mut i: usize = 0;
-    while i < last {
-        let here = slots[i];
-        gone = met(gone, here, s);
-        let k = i + gone;
-        let kept = slots[k];
-        left[i] = kept;
+    let mut gone = false;
+    for i in 0..last {
+        gone |= w.slots[i] == s;
+        let k = i + usize::from(gone);
+        slots[i] = w.slots[k];
         named[i] = callers[k];
-        i += 1;
     }
     Places {
-        slots: left,
+        slots,
         callers: named,
     }
-}
-
-// 1 where a place is the import's.
-fn is_import(caller: u32) -> u32
-    ensures { (result ≡ open_by import_caller (caller ∷ [])) × (result ≤ 1) }
-{
-    if caller != IMPORT {
-        return 0;
-    }
-    1
 }
 
 // How many of the first `count` places are the import's.
@@ -110,12 +66,6 @@ pub fn open_by_import(callers: [u32; WINDOW], count: u32) -> u32
     requires { count ≤ window_most }
     ensures { result ≡ open_by import_caller (take count callers) }
 {
-    let n = count as usize;
-    let mut counted: u32 = 0;
-    let mut i: usize = 0;
-    while i < n {
-        counted = counted + is_import(callers[i]);
-        i += 1;
-    }
-    counted
+    let named = &callers[..count as usize];
+    named.iter().filter(|c| **c == IMPORT).count() as u32
 }

@@ -1,79 +1,92 @@
--- Slots told apart by marks: a mark for each slot of what is left, by its number modulo 256.
-use Prim.Native.Nat.{ℕ, zero, suc, ◌+◌, ◌-◌, ◌%◌, ◌≤◌, ◌<◌}
-use mathlib.Core.Path.{◌≡◌, refl, ap, ◌∙◌}
-use mathlib.Core.Bool.{true, false, not, ◌||◌}
+-- Slots told apart by marks: a mark for each slot that was met, by its number modulo 256.
+use Prim.Native.Nat.{ℕ, zero, suc, ◌+◌, ◌%◌, ◌≤◌, ◌<◌}
+use mathlib.Core.Path.{◌≡◌, refl, sym, ap, ◌∙◌}
+use mathlib.Core.Bool.{Bool, true, false, not, ◌&&◌, ◌||◌}
 use mathlib.Core.List.{List, [], ◌∷◌}
 use native.Mathlib.Omega.{arith}
+use native.Mathlib.Numerals.{add-one}
 use native.Mathlib.Decide.{ℕ_discrete}
-use lib.ListN.{length, get_or, set, take, drop, length-set}
-use lib.Seq.{get_or-set_same, get_or-set_other}
+use lib.ListN.{length, get_or, set, take, replicate, length-set, length-take}
+use lib.Seq.{get_or-set_same, get_or-set_other, get_or-take}
 use lib.Dec.{eqb}
 use borrow.Author.Tests.{eqb-true}
 use Rattle.layout.specs.declared.Slot.{Slot}
 use Rattle.layout.specs.PageRule.{listed, distinct}
 use Rattle.layout.proofs.Booleans.{Told, told, told_true, told_false, clash, and_parts}
-use Rattle.record.proofs.WindowLaws.{window-left, window_end}
+use Rattle.record.proofs.WindowLaws.{eqb_swap}
+use Rattle.record.proofs.LeaveLaws.{listed_more}
+use Rattle.record.proofs.Each.{distinct_get, distinct_of}
 
--- the slots of a window are distinct, and each has its mark
-pub record Marked (w : List Slot) (marks : List ℕ) : Type 0 where
+-- one slot more is distinct from those before it
+distinct_more : (w : List Slot) (i : ℕ) (d : Slot) → i < length w
+    → distinct (take (suc i) w) ≡ (distinct (take i w) && not (listed (get_or w i d) (take i w)))
+unfolding distinct listed
+distinct_more [] i d h = absurd (omega arith)
+distinct_more (t ∷ w) zero d h = refl
+distinct_more (t ∷ w) (suc i) d h =
+    let g = get_or w i d in
+    rw (listed_more t w i d (omega arith), distinct_more w i d (omega arith), eqb_swap t.0 g.0)
+    (go (listed t (take i w)) (eqb g.0 t.0) (distinct (take i w)) (listed g (take i w)))
+  where
+    go : (a e d l : Bool) → (not (a || e) && (d && not l)) ≡ ((not a && d) && not (e || l))
+    go true e d l = refl
+    go false true true l = refl
+    go false true false l = refl
+    go false false d l = refl
+
+-- slots that are distinct are so as far as any place
+distinct_before : (w : List Slot) (i : ℕ) → i ≤ length w → distinct w ≡ true → distinct (take i w) ≡ true
+distinct_before w i h e =
+    let n = length-take i w in
+    distinct_of (take i w) λ k m p q.
+    let a : k < i = omega arith in
+    let b : m < i = omega arith in
+    rw (get_or-take i w k (record { 0 = 0 }) a, get_or-take i w m (record { 0 = 0 }) b) (distinct_get w e k m p (omega arith))
+
+-- slots are distinct, and each has its mark
+pub record Marked (w : List Slot) (marks : List Bool) : Type 0 where
   pub size : length marks ≡ 256
   pub apart : distinct w ≡ true
-  pub each : (s : Slot) → listed s w ≡ true → get_or marks (s.0 % 256) 0 ≡ 1
+  pub each : (s : Slot) → listed s w ≡ true → get_or marks (s.0 % 256) false ≡ true
 
-pub marked_none : (marks : List ℕ) → length marks ≡ 256 → Marked [] marks
+pub marks_begin : (w : List Slot) → Marked (take 0 w) (replicate 256 false)
 unfolding distinct listed
-marked_none marks n = record { size = n; apart = refl; each = λ s h. clash h refl }
+marks_begin w = record { size = refl; apart = refl; each = λ s h. clash h refl }
 
--- a slot without a mark is not listed
-pub unmarked : (w : List Slot) (marks : List ℕ) (s : Slot) → Marked w marks → get_or marks (s.0 % 256) 0 ≡ 0 → listed s w ≡ false
-unmarked w marks s M z = go (told (listed s w))
-  where
-    go : Told (listed s w) → listed s w ≡ false
-    go (told_true h) = let e = M.each s h in absurd (omega arith)
-    go (told_false h) = h
+module _ (w : List Slot) (i : ℕ) (d : Slot) (h : i < length w) where
+  pub twice : listed (get_or w i d) (take i w) ≡ true → false ≡ distinct w
+  twice e = sym (go (told (distinct w)))
+    where
+      go : Told (distinct w) → distinct w ≡ false
+      go (told_true q) =
+          clash (and_parts (distinct (take i w)) _ (sym (distinct_more w i d h) ∙ distinct_before w (suc i) (omega arith) q)).1 (rw e)
+      go (told_false q) = q
 
--- one slot more, that is not listed yet
-pub mark_more : (w : List Slot) (marks : List ℕ) (s : Slot) → Marked w marks → listed s w ≡ false
-    → Marked (s ∷ w) (set marks (s.0 % 256) 1)
-unfolding distinct listed
-mark_more w marks s M h = record {
-  size = length-set marks (s.0 % 256) 1 ∙ M.size;
-  apart = rw (h, M.apart);
-  each = λ t q. go t q (ℕ_discrete (t.0 % 256) (s.0 % 256)) (told (eqb t.0 s.0));
-}
-  where
-    go : (t : Slot) → (eqb t.0 s.0 || listed t w) ≡ true → Dec (t.0 % 256 ≡ s.0 % 256) → Told (eqb t.0 s.0)
-        → get_or (set marks (s.0 % 256) 1) (t.0 % 256) 0 ≡ 1
-    go t q (yes e) x = rw e (get_or-set_same marks (s.0 % 256) 1 0 (omega (arith, M.size)))
-    go t q (no e) (told_true x) = absurd (e (ap (λ (n : ℕ). n % 256) (eqb-true _ _ x)))
-    go t q (no e) (told_false x) = get_or-set_other marks (s.0 % 256) (t.0 % 256) 1 0 e ∙ M.each t (rw x at q)
+  -- a slot without a mark is not listed
+  pub unmarked : (marks : List Bool) → Marked (take i w) marks → get_or marks ((get_or w i d).0 % 256) false ≡ false
+      → listed (get_or w i d) (take i w) ≡ false
+  unmarked marks M z = go (told (listed (get_or w i d) (take i w)))
+    where
+      go : Told (listed (get_or w i d) (take i w)) → listed (get_or w i d) (take i w) ≡ false
+      go (told_true q) = clash (M.each (get_or w i d) q) z
+      go (told_false q) = q
 
--- what is left of distinct slots is distinct
-pub distinct-drop : (i : ℕ) (w : List Slot) → distinct w ≡ true → distinct (drop i w) ≡ true
-unfolding distinct
-distinct-drop zero w h = h
-distinct-drop (suc i) [] h = refl
-distinct-drop (suc i) (s ∷ w) h = distinct-drop i w (and_parts (not (listed s w)) (distinct w) h).1
-
-pub repeated : (i : ℕ) (w : List Slot) → distinct (drop i w) ≡ false → distinct w ≡ false
-repeated i w h = go (told (distinct w))
-  where
-    go : Told (distinct w) → distinct w ≡ false
-    go (told_true e) = clash (distinct-drop i w e) h
-    go (told_false e) = e
-
--- the loop of `distinct_slots`, from the last slot on
-pub marks_begin : (w : List Slot) (n : ℕ) (marks : List ℕ) → length marks ≡ 256 → Marked (drop n (take n w)) marks
-marks_begin w n marks e = rw (window_end w n n (omega arith)) (marked_none marks e)
-
-module _ (w : List Slot) (n i : ℕ) (d : Slot) (h : 0 < i) (k : i ≤ n) (m : n ≤ length w) where
-  one_back : drop (i - 1) (take n w) ≡ get_or w (i - 1) d ∷ drop i (take n w)
-  one_back = let e : i - 1 + 1 ≡ i = omega arith in rw e at (window-left w n (i - 1) d (omega arith) m)
-
-  pub marks_back : (marks : List ℕ) → Marked (drop i (take n w)) marks → listed (get_or w (i - 1) d) (drop i (take n w)) ≡ false
-      → Marked (drop (i - 1) (take n w)) (set marks ((get_or w (i - 1) d).0 % 256) 1)
-  marks_back marks M e = rw one_back (mark_more (drop i (take n w)) marks (get_or w (i - 1) d) M e)
-
-  pub listed_twice : listed (get_or w (i - 1) d) (drop i (take n w)) ≡ true → distinct (take n w) ≡ false
-  unfolding distinct
-  listed_twice e = repeated (i - 1) (take n w) (rw (one_back, e))
+  -- one slot more, that is not listed yet
+  pub mark_more : (marks : List Bool) → Marked (take i w) marks → listed (get_or w i d) (take i w) ≡ false
+      → Marked (take (i + 1) w) (set marks ((get_or w i d).0 % 256) true)
+  unfolding listed
+  mark_more marks M e = let s = get_or w i d in record {
+    size = length-set marks (s.0 % 256) true ∙ M.size;
+    apart = rw (add-one, distinct_more w i d h, M.apart, e);
+    each = λ t q.
+        go t (sym (rw add-one (listed_more t w i d h)) ∙ q) (ℕ_discrete (t.0 % 256) (s.0 % 256));
+  }
+    where
+      go : (t : Slot) → (listed t (take i w) || eqb t.0 (get_or w i d).0) ≡ true → Dec (t.0 % 256 ≡ (get_or w i d).0 % 256)
+          → get_or (set marks ((get_or w i d).0 % 256) true) (t.0 % 256) false ≡ true
+      go t q (yes n) = rw n (get_or-set_same marks ((get_or w i d).0 % 256) true false (omega (arith, M.size)))
+      go t q (no n) = get_or-set_other marks ((get_or w i d).0 % 256) (t.0 % 256) true false n ∙ old (told (listed t (take i w)))
+        where
+          old : Told (listed t (take i w)) → get_or marks (t.0 % 256) false ≡ true
+          old (told_true l) = M.each t l
+          old (told_false l) = absurd (n (ap (λ (m : ℕ). m % 256) (eqb-true _ _ (rw l at q))))

@@ -9,76 +9,37 @@ ghost use Rattle.record.specs.Callers.{import_caller, named_places, callers_test
 ghost use Rattle.record.specs.Rule.{steps_test, record_test};
 
 use layout::{Label, Slot, WINDOW, Window, places};
-use record::{IMPORT, Phase, Record, state, window};
+use record::{IMPORT, Phase, Record, state};
 
-// Whether the window's slots are in range.
-fn in_range(l: Label, w: Window) -> bool
-    requires { w.count ≤ window_most }
-    ensures { result ≡ in_range l (slots_in w) }
+// Whether slots are in range.
+fn in_range(l: Label, slots: &[Slot]) -> bool
+    ensures { result ≡ in_range l slots.now }
 {
-    let slots = w.slots;
-    let n = w.count as usize;
-    let mut i: usize = 0;
-    while i < n {
+    slots.iter().all(|s| s.0 < l.slots)
+}
+
+// Whether slots are distinct: none of them is among those before it. Each leaves a mark, by its number modulo 256, so that only
+// slots that share a mark are compared.
+fn distinct_slots(slots: &[Slot]) -> bool
+    ensures { result ≡ distinct slots.now }
+{
+    let mut marks = [false; 256];
+    for i in 0..slots.len() {
         let s = slots[i];
-        if l.slots <= s.0 {
-            return false;
-        }
-        i += 1;
-    }
-    true
-}
-
-// Whether slot s is listed from place k on; it has no mark where it surely is not.
-fn listed_again(mark: u8, s: Slot, w: Window, k: usize) -> bool
-    requires count_le_window_most { w.count ≤ window_most }
-    requires k_le_count { k ≤ w.count }
-    requires w_value { mark ≡ 0 → listed s (drop k (slots_in w)) ≡ false }
-    ensures { result ≡ listed s (drop k (slots_in w)) }
-{
-    if mark == 0 {
-        return false;
-    }
-    window::listed_from(s, w, k)
-}
-
-// Whether the window's slots are distinct: none of them is listed again after it. From the last slot on each leaves a mark, by
-// its number modulo 256, so that only slots that share a mark are compared.
-fn distinct_slots(w: Window) -> bool
-    requires { w.count ≤ window_most }
-    ensures { result ≡ distinct (slots_in w) }
-{
-    let slots = w.slots;
-    let mut marks = [0u8; 256];
-    let mut i: usize = w.count as usize;
-    while 0 < i {
-        let k = i - 1;
-        let s = slots[k];
         let m = (s.0 % 256) as usize;
-        if listed_again(marks[m], s, w, i) {
+        if marks[m] && slots[..i].contains(&s) {
             return false;
         }
-        marks[m] = 1;
-        i = k;
+        marks[m] = true;
     }
     true
 }
 
-// Whether the array is zero past the window's length.
-fn zero_past(w: Window) -> bool
-    requires { w.count ≤ window_most }
-    ensures { result ≡ zero_slots (drop w.count w.slots) }
+// Whether slots are zero.
+fn zero(slots: &[Slot]) -> bool
+    ensures { result ≡ zero_slots slots.now }
 {
-    let slots = w.slots;
-    let mut i: usize = w.count as usize;
-    while i < WINDOW {
-        let s = slots[i];
-        if s.0 != 0 {
-            return false;
-        }
-        i += 1;
-    }
-    true
+    slots.iter().all(|s| s.0 == 0)
 }
 
 // Whether a window keeps its rule: slots in range and distinct, and zero past its length.
@@ -86,13 +47,8 @@ fn window_ok(l: Label, w: Window) -> bool
     requires { w.count ≤ window_most }
     ensures { result ≡ (eqb (length w.slots) window_most && (in_range l (slots_in w) && (distinct (slots_in w) && zero_slots (drop w.count w.slots)))) }
 {
-    if !in_range(l, w) {
-        return false;
-    }
-    if !distinct_slots(w) {
-        return false;
-    }
-    zero_past(w)
+    let slots = w.slots();
+    in_range(l, slots) && distinct_slots(slots) && zero(&w.slots[w.count as usize..])
 }
 
 // Whether the number of a format's steps done is in range.
@@ -100,49 +56,18 @@ fn steps_ok(l: Label, phase: Phase) -> bool
     ensures { result ≡ steps_test l phase }
 {
     match phase {
-        Phase::Formatting(done) => {
-            let last = places::meta_span(l) + 1;
-            done <= last
-        }
-        Phase::Recovering => true,
-        Phase::Ready => true,
+        Phase::Formatting(done) => done <= places::meta_span(l) + 1,
+        Phase::Recovering | Phase::Ready => true,
     }
 }
 
-// Whether both hold.
-fn both(a: bool, b: bool) -> bool
-    ensures { result ≡ (a && b) }
-{
-    if a {
-        return b;
-    }
-    false
-}
-
-// Whether the callers of the first `n` places are 0 or 1.
-fn known(callers: [u32; WINDOW], n: usize) -> bool
-    requires { n ≤ window_most }
-    ensures { result ≡ each_place (λ c. leb c import_caller) (take n callers) }
+// Whether no caller is above `most`. No caller ends it early, so that the compiler takes several at a time.
+fn at_most(callers: &[u32], most: u32) -> bool
+    ensures { result ≡ each_place (λ c. leb c most) callers.now }
 {
     let mut ok = true;
-    let mut i: usize = 0;
-    while i < n {
-        ok = both(ok, callers[i] <= IMPORT);
-        i += 1;
-    }
-    ok
-}
-
-// Whether the callers from place `n` on are 0.
-fn nobody_from(callers: [u32; WINDOW], n: usize) -> bool
-    requires { n ≤ window_most }
-    ensures { result ≡ each_place (λ c. eqb c 0) (drop n callers) }
-{
-    let mut ok = true;
-    let mut at: usize = n;
-    while at < WINDOW {
-        ok = both(ok, callers[at] == 0);
-        at += 1;
+    for c in callers {
+        ok &= *c <= most;
     }
     ok
 }
@@ -152,22 +77,18 @@ fn named_places(phase: Phase, count: u32) -> u32
     ensures { result ≡ named_places phase count }
 {
     match phase {
-        Phase::Formatting(_) => count,
         Phase::Recovering => 0,
-        Phase::Ready => count,
+        Phase::Formatting(_) | Phase::Ready => count,
     }
 }
 
 // Whether the callers keep their rule, where the first `named` places may name one.
-fn callers_ok(callers: [u32; WINDOW], named: u32) -> bool
+fn callers_ok(callers: &[u32; WINDOW], named: u32) -> bool
     requires { named ≤ window_most }
-    ensures { result ≡ callers_test named callers }
+    ensures { result ≡ callers_test named callers.now }
 {
     let n = named as usize;
-    if !known(callers, n) {
-        return false;
-    }
-    nobody_from(callers, n)
+    at_most(&callers[..n], IMPORT) && at_most(&callers[n..], 0)
 }
 
 // Whether a record keeps its rule.
@@ -182,8 +103,7 @@ pub fn record_ok(r: Record) -> bool
     if l.slots <= hand.0 {
         return false;
     }
-    let phase = r.phase;
-    if !steps_ok(l, phase) {
+    if !steps_ok(l, r.phase) {
         return false;
     }
     if (WINDOW as u32) < r.count {
@@ -192,6 +112,5 @@ pub fn record_ok(r: Record) -> bool
     if !window_ok(l, state::window_of(r)) {
         return false;
     }
-    let callers = r.callers;
-    callers_ok(callers, named_places(phase, r.count))
+    callers_ok(&r.callers, named_places(r.phase, r.count))
 }

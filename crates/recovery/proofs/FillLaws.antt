@@ -5,7 +5,7 @@ use mathlib.Core.Bool.{Bool, true, false, ◌&&◌, ◌||◌}
 use mathlib.Core.List.{List, [], ◌∷◌, ◌++◌, append_assoc}
 use native.Mathlib.Omega.{arith}
 use native.Mathlib.Numerals.{add-one}
-use lib.ListN.{length, get_or, set, take, drop, length-set}
+use lib.ListN.{length, get_or, set, take, drop, length-set, drop_of_length-le}
 use lib.Seq.{take-suc-set, take_all}
 use lib.Dec.{eqb, ltb}
 use borrow.Author.Tests.{eq-eqb, ne_eqb, ltb-true, eqb-true}
@@ -18,7 +18,8 @@ use Rattle.record.specs.declared.Record.{Record}
 use Rattle.protocol.specs.Rows.{valid, writing, set_row}
 use Rattle.protocol.specs.Recovery.{entry_in, Newest, newest_of, all_open_in, free_entry, recovered, recover}
 use Rattle.layout.proofs.Booleans.{Told, told, told_true, told_false, clash, and_parts}
-use Rattle.record.proofs.WindowLaws.{take-array, window-left, window_end}
+use Rattle.record.proofs.WindowLaws.{take-array}
+use Rattle.layout.proofs.Loops.{left}
 use Rattle.layout.specs.declared.Window.{Window}
 use Rattle.layout.specs.Window.{slots_in, window_from}
 use Rattle.record.specs.declared.Phase.{Phase}
@@ -105,14 +106,14 @@ rows-freed l (s ∷ w) f e =
     go false b x = refl
 
 -- the row of each of a window's slots, in turn
-pub freed-left : (w : List Slot) (n i : ℕ) (d : Slot) (table : List ℕ) → i < n → n ≤ length w
-    → freed (drop i (take n w)) table ≡ freed (drop (i + 1) (take n w)) (set_row table (get_or w i d) (record { 0 = 0 }) 0)
+pub freed-left : (w : List Slot) (i : ℕ) (d : Slot) (table : List ℕ) → i < length w
+    → freed (drop i w) table ≡ freed (drop (i + 1) w) (set_row table (get_or w i d) (record { 0 = 0 }) 0)
 unfolding freed
-freed-left w n i d table h m = rw (window-left w n i d h m)
+freed-left w i d table h = rw (left w i d h)
 
-pub freed_end : (w : List Slot) (n i : ℕ) (table : List ℕ) → n ≤ i → freed (drop i (take n w)) table ≡ table
+pub freed_end : (w : List Slot) (i : ℕ) (table : List ℕ) → length w ≤ i → freed (drop i w) table ≡ table
 unfolding freed
-freed_end w n i table h = rw (window_end w n i h)
+freed_end w i table h = rw (drop_of_length-le w {i = i} h)
 
 -- a slot of the newest window has a valid, writing entry
 open_at : (pages : List (List ℕ)) (w : List Slot) (s : Slot) → all_open_in pages w ≡ true → listed s w ≡ true

@@ -3,7 +3,7 @@ ghost use Rattle.std.specs.Prelude.{◌≡◌, true, ◌+◌, ◌*◌, ◌≤◌
 ghost use Rattle.layout.specs.Places.{Limits, ssd_length, table_length};
 ghost use Rattle.layout.specs.MetaPage.{rows_from};
 ghost use Rattle.layout.specs.PageRule.{in_range};
-ghost use Rattle.layout.specs.Window.{window_most, slots_in};
+ghost use Rattle.layout.specs.Window.{slots_in};
 ghost use Rattle.protocol.specs.Recovery.{metas_of, spent_stamp, entry_in, pages_test, recover};
 ghost use Rattle.recovery.specs.Fill.{kept_entry, freed};
 
@@ -16,17 +16,16 @@ use stored::image;
 fn kept(entry: Entry) -> Entry
     ensures { result ≡ kept_entry entry }
 {
-    let flags = entry.flags;
-    if flags % 2 != 1 {
-        return Entry {
+    if entry.flags % 2 == 1 {
+        Entry {
+            block: entry.block,
+            flags: entry.flags % 4,
+        }
+    } else {
+        Entry {
             block: Block(0),
             flags: 0,
-        };
-    }
-    let block = entry.block;
-    Entry {
-        block,
-        flags: flags % 4,
+        }
     }
 }
 
@@ -37,33 +36,25 @@ fn fill(ssd: &[u8], table: &mut [u32], l: Label)
     ensures { table.new ≡ rows_from l.slots (λ s. kept_entry (entry_in (metas_of l ssd.now) (record { 0 = s }))) }
 {
     let slots = l.slots;
-    let mut s: u32 = 0;
-    while s < slots {
+    for s in 0..slots {
         let entry = kept(image::entry_of(ssd, l, Slot(s)));
-        let block = entry.block;
         let k = 2 * (s as usize);
-        table[k] = block.0;
+        table[k] = entry.block.0;
         table[k + 1] = entry.flags;
-        s += 1;
     }
 }
 
 // Zeroes the rows of the window's slots.
 fn free_rows(table: &mut [u32], l: Label, w: Window)
     requires table_len { length table.old ≡ table_length l }
-    requires count_le_window_most { w.count ≤ window_most }
     requires w_value { in_range l (slots_in w) ≡ true }
     ensures { table.new ≡ freed (slots_in w) table.old }
 {
-    let slots = w.slots;
-    let n = w.count as usize;
-    let mut i: usize = 0;
-    while i < n {
-        let s = slots[i];
+    let slots = w.slots();
+    for s in slots {
         let k = 2 * (s.0 as usize);
         table[k] = 0;
         table[k + 1] = 0;
-        i += 1;
     }
 }
 

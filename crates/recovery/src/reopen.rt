@@ -1,26 +1,25 @@
 // "Reopen: fill the table from the pages." Everything is judged before anything is changed.
 ghost use Rattle.std.specs.Prelude.{◌≡◌};
-ghost use Rattle.protocol.specs.Calls.{leaves, reopen_of};
+ghost use Rattle.record.specs.declared.Record.{Record};
+ghost use Rattle.protocol.specs.Calls.{ends, reopen_of};
 
 use crate::fill;
-use layout::LabelRead;
 use moves::answers;
-use protocol::{Answer, Outcome};
-use record::Record;
+use protocol::{Answer, Outcome, Refusal};
 use stored::image;
 
-pub fn reopen(ssd: &[u8], hdd: &[u8], table: &mut [u32], state: Record) -> Outcome
-    ensures { leaves result ssd.now hdd.now table.new ≡ reopen_of ssd.now hdd.now table.old state }
+// The record handed in is not asked for: a reopening judges none, and a refusal leaves it.
+pub fn reopen(ssd: &[u8], hdd: &[u8], table: &mut [u32]) -> Result<Outcome, Refusal>
+    ensures { (state : Record) → ends state result ssd.now hdd.now table.new ≡ reopen_of ssd.now hdd.now table.old state }
 {
-    let LabelRead::Legal(l) = image::label_of(ssd) else {
-        return answers::refused(2, state);
+    let Some(l) = image::label_of(ssd) else {
+        return Err(Refusal::NoLabel);
     };
     if !judging::lengths_ok(l, ssd.len(), hdd.len(), table.len()) {
-        return answers::refused(4, state);
+        return Err(Refusal::WrongLength);
     }
     if !image_rules::pages_ok(ssd, l) {
-        return answers::refused(5, state);
+        return Err(Refusal::BadRows);
     }
-    let next = fill::recover(ssd, table, l);
-    answers::answered(Answer::Done, next)
+    Ok(answers::answered(Answer::Done, fill::recover(ssd, table, l)))
 }

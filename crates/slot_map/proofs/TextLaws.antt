@@ -1,35 +1,30 @@
 -- The map's text as it is written: letters one after the other, a number's columns, the parts of a line, line after line.
-use Prim.Native.Nat.{ℕ, suc, ◌+◌, ◌-◌, ◌*◌, ◌/◌, ◌%◌, ◌≤◌, ◌<◌}
+use Prim.Native.Nat.{ℕ, suc, ◌+◌, ◌*◌, ◌/◌, ◌%◌, ◌≤◌, ◌<◌}
 use mathlib.Core.Path.{◌≡◌, refl, sym, ap, ◌∙◌}
-use mathlib.Core.Bool.{Bool, cond}
 use mathlib.Core.List.{List, [], ◌∷◌, ◌++◌, append_assoc}
 use native.Mathlib.Omega.{arith}
 use native.Mathlib.Numerals.{add-one}
 use native.Mathlib.Decide.{ℕ_discrete}
 use lib.ListN.{length, get_or, set, drop, drop_of_length-le, length-append, length-set}
 use lib.Seq.{ext_get_or, get_or-set_same, get_or-set_other, sets-eq, take_at, drop_at, set_at, drop-cons, drop-drop}
-use lib.Dec.{ltb}
-use borrow.Author.Tests.{lt-ltb, le-ltb, ltb-true, ltb-false}
+use borrow.Author.Tests.{lt-ltb, le-ltb}
 use borrow.Rule.Slice.PartMut.{put_mid}
 use Rattle.pages.proofs.PadLaws.{chunk_length}
 use Rattle.layout.specs.declared.Label.{Label}
-use Rattle.layout.specs.Numbers.{least}
 use Rattle.layout.specs.LabelPage.{decimal}
 use Rattle.layout.specs.MetaPage.{firsts}
-use Rattle.layout.proofs.Booleans.{Told, told, told_true, told_false}
 use Rattle.layout.proofs.JudgeLaws.{length-firsts, get_firsts}
 use Rattle.protocol.specs.SlotMap.{letter_of, letter_at, aligned, map_line, lines_of}
 use Rattle.laws.proofs.SlotMaps.{column_of, columns, number_columns, length-number, length_lines}
 
--- the byte at place j of a line's letters: of the first n the row's letter, then a space
-abbrev pub byte_at : ℕ → List ℕ → ℕ → ℕ → ℕ
-byte_at n table from j = cond (ltb j n) (letter_of (get_or table (2 * (from + j) + 1) 0)) 32
+-- the letter of a slot; past the last one, a space
+pub letter_here : (l : Label) (table : List ℕ) (s v : ℕ) → s < l.slots → v ≡ letter_of (get_or table (2 * s + 1) 0) → v ≡ letter_at l table s
+unfolding letter_at
+letter_here l table s v h e = rw (lt-ltb s l.slots h) e
 
-pub row_byte : (n : ℕ) (table : List ℕ) (from j : ℕ) → j < n → letter_of (get_or table (2 * (from + j) + 1) 0) ≡ byte_at n table from j
-row_byte n table from j h = rw (lt-ltb j n h)
-
-pub space_byte : (n : ℕ) (table : List ℕ) (from j : ℕ) → n ≤ j → 32 ≡ byte_at n table from j
-space_byte n table from j h = rw (le-ltb j n h)
+pub letter_past : (l : Label) (table : List ℕ) (s : ℕ) → l.slots ≤ s → 32 ≡ letter_at l table s
+unfolding letter_at
+letter_past l table s h = rw (le-ltb s l.slots h)
 
 -- a list filled from the front by a sequence, one more
 pub filled_more : (part : List ℕ) (i v : ℕ) (f : ℕ → ℕ) → i < length part → v ≡ f i → ((j : ℕ) → j < i → get_or part j 0 ≡ f j)
@@ -40,37 +35,13 @@ filled_more part i v f h e before j q = go (ℕ_discrete j i)
     go (yes s) = rw s (get_or-set_same part i v 0 h ∙ e)
     go (no s) = get_or-set_other part i j v 0 s ∙ before j (omega arith)
 
-pub least-low : (n a b : ℕ) → n ≡ least a b → (n ≤ a) × (n ≤ b)
-least-low n a b q = go (told (ltb a b))
-  where
-    go : Told (ltb a b) → (n ≤ a) × (n ≤ b)
-    go (told_true e) = let m : n ≡ a = rw e at q in (omega arith, omega (arith, ltb-true a b e))
-    go (told_false e) = let m : n ≡ b = rw e at q in (omega (arith, ltb-false a b e), omega arith)
-
--- up to the last slot there are rows, and no more
-letter_is : (l : Label) (table : List ℕ) (first j : ℕ) → first < l.slots → j < 60
-    → byte_at (least (l.slots - first) 60) table first j ≡ letter_at l table (first + j)
-unfolding letter_at
-letter_is l table first j h q = ap (λ (b : Bool). cond b (letter_of (get_or table (2 * (first + j) + 1) 0)) 32) (go (told (ltb (l.slots - first) 60)))
-  where
-    same : (n : ℕ) → (j < n → first + j < l.slots) → (n ≤ j → l.slots ≤ first + j) → ltb j n ≡ ltb (first + j) l.slots
-    same n a b = by (told (ltb j n))
-      where
-        by : Told (ltb j n) → ltb j n ≡ ltb (first + j) l.slots
-        by (told_true e) = e ∙ sym (lt-ltb (first + j) l.slots (a (ltb-true j n e)))
-        by (told_false e) = e ∙ sym (le-ltb (first + j) l.slots (b (ltb-false j n e)))
-
-    go : Told (ltb (l.slots - first) 60) → ltb j (least (l.slots - first) 60) ≡ ltb (first + j) l.slots
-    go (told_true e) = rw e (same (l.slots - first) (λ a. omega arith) (λ a. omega arith))
-    go (told_false e) = let m = ltb-false (l.slots - first) 60 e in rw e (same 60 (λ a. omega arith) (λ a. absurd (omega arith)))
-
-pub letters_are : (l : Label) (table part : List ℕ) (first n : ℕ) → first < l.slots → n ≡ least (l.slots - first) 60 → length part ≡ 60
-    → ((j : ℕ) → j < 60 → get_or part j 0 ≡ byte_at n table first j) → part ≡ firsts 60 (λ i. letter_at l table (first + i))
-letters_are l table part first n h e size each =
+-- 60 bytes that are the letters of the slots from `first` on
+pub letters_are : (l : Label) (table part : List ℕ) (first : ℕ) → length part ≡ 60
+    → ((j : ℕ) → j < 60 → get_or part j 0 ≡ letter_at l table (first + j)) → part ≡ firsts 60 (λ i. letter_at l table (first + i))
+letters_are l table part first size each =
     let m = length-firsts 60 (λ i. letter_at l table (first + i)) in
     ext_get_or 0 part (firsts 60 (λ i. letter_at l table (first + i))) (size ∙ sym m)
-    (λ j q. let k : j < 60 = omega arith in
-    each j k ∙ ap (λ (n : ℕ). byte_at n table first j) e ∙ letter_is l table first j h k ∙ sym (get_firsts 60 (λ i. letter_at l table (first + i)) j 0 k))
+    (λ j q. let k : j < 60 = omega arith in each j k ∙ sym (get_firsts 60 (λ i. letter_at l table (first + i)) j 0 k))
 
 -- five stores over five bytes
 pub number_is : (part : List ℕ) (n a b c d e : ℕ) → length part ≡ 5 → n < 100000 → a ≡ column_of (n / 10 / 10 / 10 / 10)

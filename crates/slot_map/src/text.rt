@@ -6,32 +6,29 @@ ghost use Rattle.layout.specs.MetaPage.{firsts};
 ghost use Rattle.protocol.specs.SlotMap.{held_letter, letter_of, letter_at, aligned, map_line, map_lines, map_bytes, map_text};
 
 use layout::Label;
-use layout::numbers::least;
 
 // The letter of a slot that is not free.
 fn held_letter(writing: bool, dirty: bool) -> u8
     ensures { result ≡ held_letter writing dirty }
 {
-    if writing {
-        if dirty {
-            return b'w';
-        }
-        return b'f';
+    match (writing, dirty) {
+        (true, true) => b'w',
+        (true, false) => b'f',
+        (false, true) => b'd',
+        (false, false) => b'c',
     }
-    if dirty {
-        return b'd';
-    }
-    b'c'
 }
 
 // A slot's letter, by its row's flags.
+#[tactic(auto, unfolding(protocol::specs::SlotMap::letter_of))]
 fn letter(flags: u32) -> u8
     ensures { result ≡ letter_of flags }
 {
-    if flags % 2 != 1 {
-        return b'.';
+    if flags % 2 == 1 {
+        held_letter(flags / 4 % 2 == 1, flags / 2 % 2 == 1)
+    } else {
+        b'.'
     }
-    held_letter(flags / 4 % 2 == 1, flags / 2 % 2 == 1)
 }
 
 // The letters of 60 slots from `first` on, and spaces past the last slot.
@@ -42,15 +39,12 @@ fn put_letters(part: &mut [u8], table: &[u32], l: Label, first: u32)
     ensures { part.new ≡ firsts 60 (λ i. letter_at l table.now (first + i)) }
 {
     let from = first as usize;
-    let n = least(l.slots - first, 60) as usize;
-    let mut i: usize = 0;
-    while i < n {
+    let n = (l.slots as usize - from).min(60);
+    for i in 0..n {
         part[i] = letter(table[2 * (from + i) + 1]);
-        i += 1;
     }
-    while i < 60 {
+    for i in n..60 {
         part[i] = b' ';
-        i += 1;
     }
 }
 
@@ -58,10 +52,7 @@ fn put_letters(part: &mut [u8], table: &[u32], l: Label, first: u32)
 fn column(m: u32) -> u8
     ensures { result ≡ cond (eqb m 0) 32 (48 + m % 10) }
 {
-    if m == 0 {
-        return b' ';
-    }
-    (48 + m % 10) as u8
+    if m == 0 { b' ' } else { b'0' + (m % 10) as u8 }
 }
 
 // A number, right-aligned in 5 columns.
@@ -70,11 +61,12 @@ fn put_number(part: &mut [u8], n: u32)
     requires n_bound { n < 100000 }
     ensures { part.new ≡ aligned 5 (decimal n) }
 {
+    // Kept: five lines name the five columns; a loop from the last one would treat that apart and carry the rest of the digits.
     part[0] = column(n / 10 / 10 / 10 / 10);
     part[1] = column(n / 10 / 10 / 10);
     part[2] = column(n / 10 / 10);
     part[3] = column(n / 10);
-    part[4] = (48 + n % 10) as u8;
+    part[4] = b'0' + (n % 10) as u8;
 }
 
 // Line k.
@@ -113,11 +105,8 @@ pub fn put_map(sheet: &mut [u8], table: &[u32], l: Label)
     requires l_in_bounds { map_bytes l ≤ length sheet.old }
     ensures { sheet.new ≡ map_text l table.now ++ drop (map_bytes l) sheet.old }
 {
-    let lines = map_lines(l);
-    let mut k: usize = 0;
-    while k < lines {
+    for k in 0..map_lines(l) {
         let at = 67 * k;
         put_line(&mut sheet[at..at + 67], table, l, k as u32);
-        k += 1;
     }
 }

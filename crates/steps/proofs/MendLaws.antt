@@ -6,7 +6,7 @@ use mathlib.Core.Bool.{Bool, true, false}
 use mathlib.Core.List.{List, [], ◌∷◌, ◌++◌}
 use native.Mathlib.Omega.{arith}
 use native.Mathlib.Numerals.{add-one}
-use lib.ListN.{length, get_or, take, drop}
+use lib.ListN.{length, get_or, take, drop, drop_of_length-le}
 use lib.Seq.{take-suc}
 use lib.Dec.{eqb, ltb}
 use borrow.Author.Tests.{ltb-true}
@@ -24,7 +24,8 @@ use Rattle.protocol.specs.Recovery.{off_page, phase_of}
 use Rattle.protocol.specs.Plan.{lowest_from, lowest_page}
 use Rattle.protocol.specs.Perform.{mended_at}
 use Rattle.record.specs.Rule.{record_test}
-use Rattle.record.proofs.WindowLaws.{take-array, window-left, window_end}
+use Rattle.layout.proofs.Loops.{left}
+use Rattle.record.proofs.WindowLaws.{take-array}
 use Rattle.record.proofs.RecordLaws.{parts, window_is, window-length}
 use Rattle.judging.specs.Fits.{FitsRecord}
 use Rattle.layout.proofs.PlaceLaws.{meta_of-low}
@@ -33,26 +34,25 @@ use Rattle.layout.specs.declared.Window.{Window}
 use Rattle.steps.specs.Pending.{more_if, more_off, phase_at}
 
 -- the lowest page, by the slots that are left
-module _ (w : List Slot) (n i : ℕ) (d : Slot) (h : i < n) (m : n ≤ length w) where
-  pub lowest-left : (p : ℕ) → lowest_from p (drop i (take n w)) ≡ lowest_from (least (meta_of (get_or w i d)) p) (drop (i + 1) (take n w))
+module _ (w : List Slot) (i : ℕ) (d : Slot) (h : i < length w) where
+  pub lowest-left : (p : ℕ) → lowest_from p (drop i w) ≡ lowest_from (least (meta_of (get_or w i d)) p) (drop (i + 1) w)
   unfolding lowest_from
-  lowest-left p = rw (window-left w n i d h m) (go (ltb (meta_of (get_or w i d)) p))
+  lowest-left p = rw (left w i d h) (go (ltb (meta_of (get_or w i d)) p))
     where
       rest : List Slot
-      rest = drop (i + 1) (take n w)
+      rest = drop (i + 1) w
 
       go : (b : Bool) → elim b [ true ↦ lowest_from (meta_of (get_or w i d)) rest | false ↦ lowest_from p rest ]
           ≡ lowest_from (choose b (meta_of (get_or w i d)) p) rest
       go true = refl
       go false = refl
 
-pub lowest-first : (w : List Slot) (n : ℕ) (d : Slot) → 1 ≤ n → n ≤ length w
-    → lowest_from (meta_of (get_or w 0 d)) (drop 1 (take n w)) ≡ lowest_page (take n w)
-lowest-first w n d h m = sym (ap lowest_page (window-left w n 0 d (omega arith) m))
+pub lowest-first : (w : List Slot) (d : Slot) → 1 ≤ length w → lowest_from (meta_of (get_or w 0 d)) (drop 1 w) ≡ lowest_page w
+lowest-first w d h = sym (ap lowest_page (left w 0 d (omega arith)))
 
-pub lowest_end : (w : List Slot) (n i p : ℕ) → n ≤ i → lowest_from p (drop i (take n w)) ≡ p
+pub lowest_end : (w : List Slot) (i p : ℕ) → length w ≤ i → lowest_from p (drop i w) ≡ p
 unfolding lowest_from
-lowest_end w n i p h = rw (window_end w n i h)
+lowest_end w i p h = rw (drop_of_length-le w {i = i} h)
 
 -- one slot more
 off_more : (p : ℕ) (w : List Slot) (s : Slot)

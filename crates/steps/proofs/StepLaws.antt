@@ -4,6 +4,7 @@ use mathlib.Core.Path.{◌≡◌, refl, sym, ap, ◌∙◌}
 use mathlib.Core.Bool.{Bool, true, false, not, ◌&&◌}
 use mathlib.Core.List.{List, [], ◌∷◌}
 use native.Mathlib.Omega.{arith}
+use Rattle.std.specs.Prelude.{Some, None}
 use lib.ListN.{length}
 use lib.Dec.{leb}
 use borrow.Author.Tests.{leb-true}
@@ -20,12 +21,13 @@ use Rattle.record.specs.Record.{label_in, window_in}
 use Rattle.protocol.specs.Box.{Box, Result, refusing, left}
 use Rattle.protocol.specs.Plan.{step, formats, mends, lowest_page, stepping, stores_meta, plan}
 use Rattle.protocol.specs.Perform.{format_store, format_state, perform}
-use Rattle.protocol.specs.Judge.{bad_record, wrong_length, bad_rows, wrong_phase, stamps_spent, is_ready, is_empty, agree_test, length_test, test, first_of, judged}
+use Rattle.protocol.specs.declared.Refusal.TheVariants.{BadRecord, WrongLength, BadRows, WrongPhase, StampsSpent}
+use Rattle.protocol.specs.Judge.{is_ready, is_empty, agree_test, length_test, test, first_of, judged}
 use Rattle.record.specs.Rule.{steps_test}
 use Rattle.protocol.specs.Calls.{box_of, step_of}
 use Rattle.layout.proofs.Booleans.{Told, told, told_true, told_false, clash, and_parts}
 use Rattle.judging.specs.Judging.{sound_then}
-use Rattle.judging.proofs.ServeLaws.{Judges, numbers, end, judged_on}
+use Rattle.judging.proofs.ServeLaws.{Judges, end, judged_on}
 use Rattle.laws.proofs.Judged.{first_yes, first_no, performs, refused_as}
 use Rattle.judging.proofs.ReadyLaws.{SoundBox}
 
@@ -35,7 +37,7 @@ formatted ssd hdd t r d =
     let store = format_store (label_in r) t (window_in r) d in
     record {
       said = done;
-      stored = Ssd store.place;
+      stored = Some (Ssd store.place);
       state = format_state (label_in r) r d;
       table = t;
       ssd = put_page ssd store.place store.bytes;
@@ -57,43 +59,43 @@ module _ (ssd hdd t : List ℕ) (r : Record) where
   abbrev x : Box
   x = box_of ssd hdd t r
 
-  pub step_judges : Judges step x (sound_then (length ssd) (length hdd) 4096 t r 0) (wrong_phase ∷ stamps_spent ∷ [])
-  unfolding numbers test sound_then length_test
-  step_judges = record { begins = bad_record ∷ wrong_length ∷ bad_rows ∷ []; chain_is = refl; number_is = refl }
+  pub step_judges : Judges step x (sound_then (length ssd) (length hdd) 4096 t r None) (WrongPhase ∷ StampsSpent ∷ [])
+  unfolding first_of test sound_then length_test
+  step_judges = record { begins = BadRecord ∷ WrongLength ∷ BadRows ∷ []; chain_is = refl; first_is = refl }
 
-  module _ (z : sound_then (length ssd) (length hdd) 4096 t r 0 ≡ 0) where
-    asked : judged step x ≡ first_of (wrong_phase ∷ stamps_spent ∷ []) (λ q. test q step x)
-    asked = judged_on step x _ (wrong_phase ∷ stamps_spent ∷ []) step_judges z
+  module _ (z : sound_then (length ssd) (length hdd) 4096 t r None ≡ None) where
+    asked : judged step x ≡ first_of (WrongPhase ∷ StampsSpent ∷ []) (λ q. test q step x)
+    asked = judged_on step x _ (WrongPhase ∷ StampsSpent ∷ []) step_judges z
 
     pub step_ready : r.phase ≡ Ready → left (refusing 6 x) x.images ≡ step_of ssd hdd t r
     unfolding test
-    step_ready e = refused_as step x wrong_phase (asked ∙ first_yes _ wrong_phase _ (ap (λ (p : Phase). not (not (is_ready p))) e))
+    step_ready e = refused_as step x WrongPhase (asked ∙ first_yes _ WrongPhase _ (ap (λ (p : Phase). not (not (is_ready p))) e))
 
     -- not ready: 13 is asked
-    before-ready : (p : Phase) → r.phase ≡ p → is_ready p ≡ false → judged step x ≡ first_of (stamps_spent ∷ []) (λ q. test q step x)
+    before-ready : (p : Phase) → r.phase ≡ p → is_ready p ≡ false → judged step x ≡ first_of (StampsSpent ∷ []) (λ q. test q step x)
     unfolding test
-    before-ready p e f = asked ∙ first_no _ wrong_phase _ (ap (λ (q : Phase). not (not (is_ready q))) e ∙ ap (λ (b : Bool). not (not b)) f)
+    before-ready p e f = asked ∙ first_no _ WrongPhase _ (ap (λ (q : Phase). not (not (is_ready q))) e ∙ ap (λ (b : Bool). not (not b)) f)
 
     pub step_formats : (d : ℕ) → r.phase ≡ Formatting d → formatted ssd hdd t r d ≡ step_of ssd hdd t r
     unfolding test plan
     step_formats d e = formats-left ssd hdd t r d ∙ performs step x (formats d)
         (before-ready (Formatting d) e refl
-        ∙ first_no _ stamps_spent [] (ap (λ (p : Phase). stores_meta (stepping r p) && leb (largest_stamp (label_in r)) r.newest) e) ∙ end _)
+        ∙ first_no _ StampsSpent [] (ap (λ (p : Phase). stores_meta (stepping r p) && leb (largest_stamp (label_in r)) r.newest) e) ∙ end _)
         (ap (stepping r) e)
 
     module _ (e : r.phase ≡ Recovering) where
       pub step_spent : leb (largest_stamp (label_in r)) r.newest ≡ true → left (refusing 13 x) x.images ≡ step_of ssd hdd t r
       unfolding test plan
-      step_spent s = refused_as step x stamps_spent
+      step_spent s = refused_as step x StampsSpent
           (before-ready Recovering e refl
-          ∙ first_yes _ stamps_spent [] (ap (λ (p : Phase). stores_meta (stepping r p) && leb (largest_stamp (label_in r)) r.newest) e ∙ s))
+          ∙ first_yes _ StampsSpent [] (ap (λ (p : Phase). stores_meta (stepping r p) && leb (largest_stamp (label_in r)) r.newest) e ∙ s))
 
       pub step_mends : leb (largest_stamp (label_in r)) r.newest ≡ false
           → left (perform (mends (lowest_page (window_in r))) x) x.images ≡ step_of ssd hdd t r
       unfolding test plan
       step_mends s = performs step x (mends (lowest_page (window_in r)))
           (before-ready Recovering e refl
-          ∙ first_no _ stamps_spent [] (ap (λ (p : Phase). stores_meta (stepping r p) && leb (largest_stamp (label_in r)) r.newest) e
+          ∙ first_no _ StampsSpent [] (ap (λ (p : Phase). stores_meta (stepping r p) && leb (largest_stamp (label_in r)) r.newest) e
           ∙ s) ∙ end _)
           (ap (stepping r) e)
 

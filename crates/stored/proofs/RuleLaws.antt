@@ -4,7 +4,7 @@ use mathlib.Core.Path.{◌≡◌}
 use mathlib.Core.Bool.{true, false, not, ◌&&◌, ◌||◌}
 use mathlib.Core.List.{List, []}
 use native.Mathlib.Numerals.{add-one}
-use lib.ListN.{length, get_or, take, drop}
+use lib.ListN.{length, get_or, drop, drop_of_length-le}
 use lib.Dec.{eqb}
 use Rattle.layout.proofs.Booleans.{and_parts}
 use Rattle.layout.specs.declared.Slot.{Slot}
@@ -14,7 +14,7 @@ use Rattle.layout.specs.MetaPage.{stamp_of}
 use Rattle.layout.specs.PageRule.{page_test}
 use Rattle.protocol.specs.Rows.{valid, writing}
 use Rattle.protocol.specs.Recovery.{metas_of, entry_in, newest_of, each_legal, stamp_in, stamps_differ, none_twice, stored_rows, all_open_in, pages_test}
-use Rattle.record.proofs.WindowLaws.{window-left, window_end}
+use Rattle.layout.proofs.Loops.{left}
 use Rattle.stored.proofs.StoredLaws.{metas_left, metas_end}
 
 module _ (l : Label) (ssd : List ℕ) (p : ℕ) where
@@ -49,16 +49,15 @@ module _ (l : Label) (ssd : List ℕ) (p : ℕ) where
     unfolding stamps_differ
     differ_end = rw (metas_end l ssd p h)
 
-module _ (pages : List (List ℕ)) (w : List Slot) (n i : ℕ) where
-  pub open_left : (d : Slot) → i < n → n ≤ length w → all_open_in pages (drop i (take n w))
-      ≡ ((valid (entry_in pages (get_or w i d)).flags && writing (entry_in pages (get_or w i d)).flags) && all_open_in pages
-      (drop (i + 1) (take n w)))
+module _ (pages : List (List ℕ)) (w : List Slot) (i : ℕ) where
+  pub open_left : (d : Slot) → i < length w → all_open_in pages (drop i w)
+      ≡ ((valid (entry_in pages (get_or w i d)).flags && writing (entry_in pages (get_or w i d)).flags) && all_open_in pages (drop (i + 1) w))
   unfolding all_open_in
-  open_left d h m = rw (window-left w n i d h m)
+  open_left d h = rw (left w i d h)
 
-  pub open_end : n ≤ i → all_open_in pages (drop i (take n w)) ≡ true
+  pub open_end : length w ≤ i → all_open_in pages (drop i w) ≡ true
   unfolding all_open_in
-  open_end h = rw (window_end w n i h)
+  open_end h = rw (drop_of_length-le w {i = i} h)
 
 -- 5, rule by rule
 module _ (l : Label) (pages : List (List ℕ)) where

@@ -4,6 +4,8 @@ use mathlib.Core.Path.{◌≡◌, refl, sym, ap, ◌∙◌}
 use mathlib.Core.Logic.{◌≢◌}
 use mathlib.Core.Bool.{Bool, true, false}
 use mathlib.Core.List.{List, [], ◌∷◌, ◌++◌}
+use Rattle.std.specs.Prelude.{Option, Some, None}
+use Rattle.std.specs.Option.{ForSome}
 use native.Mathlib.Omega.{arith}
 use native.Mathlib.Nat.{zero-add}
 use native.Mathlib.Numerals.{add-one}
@@ -71,28 +73,28 @@ numbered_all pages n p h i = rw (drop_of_length-le pages {i = p} h) at i
 pub record Found (pages : List (List ℕ)) (n : Numbered) : Type 0 where
   pub newest_is : newest_at pages n.at ≡ newest_of pages
   pub stamp_is : n.stamp ≡ (newest_of pages).stamp
-  pub on_page_is : n.at ≤ length pages
+  pub on_page_is : ForSome n.at (λ p. p < length pages)
 
 -- and by page p
 record Seen (pages : List (List ℕ)) (n : Numbered) (p : ℕ) : Type 0 where
   rest : newest_from (newest_at pages n.at) (drop p pages) ≡ newest_of pages
   stamp_is : n.stamp ≡ (newest_at pages n.at).stamp
-  on_page_is : n.at ≤ p
+  on_page_is : ForSome n.at (λ q. q < p)
 
-seen_none : (pages : List (List ℕ)) → Seen pages (record { stamp = 0; at = 0 }) 0
-seen_none pages = record { rest = refl; stamp_is = refl; on_page_is = omega arith }
+seen_none : (pages : List (List ℕ)) → Seen pages (record { stamp = 0; at = None }) 0
+seen_none pages = record { rest = refl; stamp_is = refl; on_page_is = λ q e. absurd cc }
 
 -- a page more: what was found before, or it
 seen_if : (pages : List (List ℕ)) (n : Numbered) (p : ℕ) (b : Bool) → ltb n.stamp (stamp_of (get_or pages p [])) ≡ b
-    → n.stamp ≡ (newest_at pages n.at).stamp → n.at ≤ p
+    → n.stamp ≡ (newest_at pages n.at).stamp → ForSome n.at (λ q. q < p)
     → newest_from (newer (newest_at pages n.at) (get_or pages p [])) (drop (p + 1) pages) ≡ newest_of pages
     → Seen pages (newer_if b n (stamp_of (get_or pages p [])) p) (p + 1)
 seen_if pages n p true e s m r = record {
-  rest = rw add-one (rw (newer, ← s, e, add-one) at r);
-  stamp_is = rw add-one refl;
-  on_page_is = omega arith;
+  rest = rw (newer, ← s, e) at r;
+  stamp_is = refl;
+  on_page_is = λ q f. let z : p ≡ q = cc in omega arith;
 }
-seen_if pages n p false e s m r = record { rest = rw (newer, ← s, e) at r; stamp_is = s; on_page_is = omega arith }
+seen_if pages n p false e s m r = record { rest = rw (newer, ← s, e) at r; stamp_is = s; on_page_is = λ q f. omega (arith, m q f) }
 
 seen_more : (pages : List (List ℕ)) (n next : Numbered) (p stamp : ℕ) → p < length pages → stamp ≡ stamp_of (get_or pages p [])
     → next ≡ newer_at n stamp p → Seen pages n p → Seen pages next (p + 1)
@@ -108,7 +110,7 @@ seen_all pages n p h k S =
     record {
       newest_is = e;
       stamp_is = S.stamp_is ∙ ap (λ (m : Newest). m.stamp) e;
-      on_page_is = omega (arith, S.on_page_is);
+      on_page_is = λ q f. omega (arith, S.on_page_is q f);
     }
 
 found_from : (pages rest : List (List ℕ)) (n : Numbered) (p : ℕ) → drop p pages ≡ rest → p ≤ length pages → Seen pages n p
@@ -151,14 +153,6 @@ window-all page window count k e h g f =
     let q : k ≡ count_of page = omega arith in
     rw (f, q, e, length-firsts (count_of page) (slot_at page))
 
-pub no_window : (pages : List (List ℕ)) (at : ℕ) → at ≡ 0
-    → window_from [] ≡ window_from (newest_at pages at).window
-no_window pages at e = rw e
-
-pub some_window : (pages : List (List ℕ)) (at : ℕ) → at ≢ 0 → window_of (get_or pages (at - 1) []) ≡ (newest_at pages at).window
-some_window pages zero h = absurd (h refl)
-some_window pages (suc p) h = let e : suc p - 1 ≡ p = omega arith in rw e
-
 -- a page of legal pages
 pub legal_at : (l : Label) (pages : List (List ℕ)) → each_legal l 0 pages ≡ true → (q : ℕ) → q < length pages
     → page_test l q (get_or pages q []) ≡ true
@@ -176,12 +170,12 @@ pub record Bounded (l : Label) (w : List Slot) : Type 0 where
   pub most : length w ≤ 63
   pub ranged : in_range l w ≡ true
 
-pub newest_bounded : (l : Label) (pages : List (List ℕ)) (at : ℕ) → each_legal l 0 pages ≡ true → at ≤ length pages
+pub newest_bounded : (l : Label) (pages : List (List ℕ)) (at : Option ℕ) → each_legal l 0 pages ≡ true → ForSome at (λ p. p < length pages)
     → Bounded l (newest_at pages at).window
 unfolding in_range
-newest_bounded l pages zero e h = record { most = omega arith; ranged = refl }
-newest_bounded l pages (suc p) e h =
-    let t = legal_at l pages e p (omega arith) in
+newest_bounded l pages None e h = record { most = omega arith; ranged = refl }
+newest_bounded l pages (Some p) e h =
+    let t = legal_at l pages e p (h p refl) in
     record {
       most = rw (length-window (get_or pages p [])) (count_low l p (get_or pages p []) t);
       ranged = window_range l (get_or pages p []) ((page-rows l p (get_or pages p [])).0 t).window;

@@ -1,8 +1,9 @@
 -- The label of an image, and the newest of its metadata pages, found by its number; its window in an array.
-use Rattle.std.specs.Prelude.{ℕ, zero, suc, ◌+◌, Bool, true, false, List, [], ◌∷◌, length, get_or, leb, ltb}
+use Rattle.std.specs.Prelude.{Option, Some, None}
+use Rattle.std.specs.Prelude.{ℕ, ◌+◌, Bool, true, false, List, [], ◌∷◌, length, get_or, leb, ltb}
 use Rattle.pages.specs.Pages.{page_at}
-use Rattle.layout.specs.declared.LabelRead.{LabelRead}
-use Rattle.layout.specs.declared.LabelRead.TheVariants.{Illegal}
+use Rattle.std.specs.Prelude.{Option, None}
+use Rattle.layout.specs.declared.Label.{Label}
 use Rattle.layout.specs.Places.{label_place}
 use Rattle.layout.specs.LabelPage.{decode_label}
 use Rattle.layout.specs.MetaPage.{stamp_of, window_of}
@@ -10,21 +11,21 @@ use Rattle.protocol.specs.Recovery.{Newest}
 use Rattle.stored.specs.declared.Newest.{Newest as Numbered}
 
 -- what the first page of an image is read as, where the image has a page
-abbrev pub read_if : Bool → List ℕ → LabelRead
+abbrev pub read_if : Bool → List ℕ → Option Label
 read_if true ssd = decode_label (page_at ssd label_place)
-read_if false ssd = Illegal
+read_if false ssd = None
 
-abbrev pub label_if : List ℕ → LabelRead
+abbrev pub label_if : List ℕ → Option Label
 label_if ssd = read_if (leb 4096 (length ssd)) ssd
 
--- stamp and window of the page with this number plus 1; 0 is no page
-abbrev pub newest_at : List (List ℕ) → ℕ → Newest
-newest_at pages zero = record { stamp = 0; window = [] }
-newest_at pages (suc p) = record { stamp = stamp_of (get_or pages p []); window = window_of (get_or pages p []) }
+-- stamp and window of the page with this number, if any
+abbrev pub newest_at : List (List ℕ) → Option ℕ → Newest
+newest_at pages None = record { stamp = 0; window = [] }
+newest_at pages (Some p) = record { stamp = stamp_of (get_or pages p []); window = window_of (get_or pages p []) }
 
 -- page p with this stamp, if it is newer
 abbrev pub newer_if : Bool → Numbered → ℕ → ℕ → Numbered
-newer_if true n stamp p = record { stamp = stamp; at = p + 1 }
+newer_if true n stamp p = record { stamp = stamp; at = Some p }
 newer_if false n stamp p = n
 
 abbrev pub newer_at : Numbered → ℕ → ℕ → Numbered
@@ -37,4 +38,4 @@ numbered_from n p (page ∷ pages) = numbered_from (newer_at n (stamp_of page) p
 
 -- the newest of all pages; where every stamp is 0, none
 abbrev pub numbered_of : List (List ℕ) → Numbered
-numbered_of pages = numbered_from (record { stamp = 0; at = 0 }) 0 pages
+numbered_of pages = numbered_from (record { stamp = 0; at = None }) 0 pages

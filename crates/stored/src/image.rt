@@ -1,5 +1,6 @@
 // What an SSD image holds: its label, its metadata pages, their entries, and the newest window.
 ghost use Rattle.std.specs.Prelude.{◌≡◌, true, [], ◌+◌, ◌≤◌, ◌<◌, length, get_or};
+ghost use Rattle.std.specs.Option.{ForSome};
 ghost use Rattle.pages.specs.Parts.{part, page_part};
 ghost use Rattle.layout.specs.Places.{Limits, meta_pages, meta_place, ssd_length};
 ghost use Rattle.layout.specs.MetaPage.{stamp_of, count_of, window_of};
@@ -8,16 +9,16 @@ ghost use Rattle.stored.specs.Stored.{label_if, newest_at, newer_at, numbered_of
 ghost use Rattle.layout.specs.Window.{window_most, window_from};
 
 use crate::Newest;
-use layout::{Entry, Label, LabelRead, Slot, WINDOW, Window, places};
+use layout::{Entry, Label, Slot, WINDOW, Window, places};
 use metadata::page;
 use record::window;
 
 // The label of an SSD image, if its first page is one.
-pub fn label_of(ssd: &[u8]) -> LabelRead
+pub fn label_of(ssd: &[u8]) -> Option<Label>
     ensures { result ≡ label_if ssd.now }
 {
     if ssd.len() < 4096 {
-        return LabelRead::Illegal;
+        return None;
     }
     label_page::decode_label(pages::page_at(ssd, 0))
 }
@@ -51,13 +52,13 @@ pub fn stamp_at(ssd: &[u8], l: Label, p: u32) -> u32
 
 // The newer of what was found before and page p, with this stamp.
 fn newer(n: Newest, stamp: u32, p: u32) -> Newest
-    requires { p < 240 }
     ensures { result ≡ newer_at n stamp p }
 {
     if n.stamp < stamp {
-        return Newest { stamp, at: p + 1 };
+        Newest { stamp, at: Some(p) }
+    } else {
+        n
     }
-    n
 }
 
 // The first page with the largest stamp; none where every stamp is 0.
@@ -67,11 +68,9 @@ pub fn newest(ssd: &[u8], l: Label) -> Newest
     ensures { result ≡ numbered_of (metas_of l ssd.now) }
 {
     let m = places::meta_pages(l);
-    let mut n = Newest { stamp: 0, at: 0 };
-    let mut p: u32 = 0;
-    while p < m {
+    let mut n = Newest { stamp: 0, at: None };
+    for p in 0..m {
         n = newer(n, stamp_at(ssd, l, p), p);
-        p += 1;
     }
     n
 }
@@ -94,24 +93,21 @@ fn window_of(page: &[u8]) -> Window
 {
     let count = page::count_of(page);
     let mut slots = [Slot(0); WINDOW];
-    let mut k: u32 = 0;
-    while k < count {
-        let s = page::slot_at(page, k);
-        slots[k as usize] = s;
-        k += 1;
+    for k in 0..count {
+        slots[k as usize] = page::slot_at(page, k);
     }
     Window { slots, count }
 }
 
 // The window of the newest page, as `newest` found it.
-pub fn pending(ssd: &[u8], l: Label, at: u32) -> Window
+pub fn pending(ssd: &[u8], l: Label, at: Option<u32>) -> Window
     requires ssd_len { length ssd.now ≡ ssd_length l }
     requires ssd_value { each_legal l 0 (metas_of l ssd.now) ≡ true }
-    requires at_bound { at ≤ meta_pages l }
+    requires at_bound { ForSome at (λ p. p < meta_pages l) }
     ensures { result ≡ window_from (newest_at (metas_of l ssd.now) at).window }
 {
-    if at == 0 {
-        return window::empty();
+    match at {
+        Some(p) => window_of(meta_page(ssd, l, p)),
+        None => window::empty(),
     }
-    window_of(meta_page(ssd, l, at - 1))
 }

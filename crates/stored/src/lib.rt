@@ -3,9 +3,9 @@
 
 pub mod image;
 
-// The largest stamp, and the number of its page plus 1, or 0 where every stamp is 0.
+// The largest stamp, and the number of its page; none where every stamp is 0.
 #[derive(Clone, Copy)]
 pub struct Newest {
     pub stamp: u32,
-    pub at: u32,
+    pub at: Option<u32>,
 }

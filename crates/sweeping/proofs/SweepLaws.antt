@@ -2,28 +2,25 @@
 use Prim.Native.Nat.{ℕ, zero, suc, ◌+◌, ◌-◌, ◌*◌, ◌/◌, ◌%◌, ◌≤◌, ◌<◌}
 use mathlib.Core.Path.{◌≡◌, refl, sym, ap, subst, ◌∙◌}
 use mathlib.Core.Logic.{◌≢◌, ◌⊎◌, inl, inr}
-use mathlib.Core.Bool.{Bool, true, false, not, ◌&&◌, cond}
+use mathlib.Core.Bool.{true, false}
 use mathlib.Core.List.{List}
-use mathlib.Core.Option.{Option, some, none}
+use Rattle.std.specs.Prelude.{Option, Some, None}
 use native.Mathlib.Omega.{arith}
 use native.Mathlib.Numerals.{add-one}
 use native.Mathlib.Decide.{ℕ_discrete}
-use lib.ListN.{length, get_or, set, length-set}
+use lib.ListN.{length, length-set}
 use lib.Seq.{get_or-set_same, get_or-set_other, set-get_or}
 use lib.Dec.{eqb, ltb}
-use borrow.Author.Tests.{lt-ltb, le-ltb, ltb-true, ltb-false, eq-eqb, ne_eqb, eqb-true, eqb-false}
+use borrow.Author.Tests.{lt-ltb, le-ltb, ltb-true, ltb-false, eqb-true}
 use Rattle.layout.specs.declared.Slot.{Slot}
 use Rattle.layout.specs.declared.Label.{Label}
 use Rattle.layout.specs.Places.{table_length}
 use Rattle.protocol.specs.Rows.{row_flags, set_flags, writing, used, without_used}
 use Rattle.protocol.specs.Sweep.{next_slot, Victim, sweep_from, sweep}
-use Rattle.layout.proofs.Booleans.{Told, told, told_true, told_false, clash}
+use Rattle.layout.proofs.Booleans.{Told, told, told_true, told_false}
 use Rattle.laws.proofs.refine.Flags.{changed_unused}
 use Rattle.laws.proofs.refine.Sweeps.{Alike, alike_flags, next_low}
-use Rattle.sweeping.specs.declared.Swept.{Swept}
-use Rattle.sweeping.specs.declared.Swept.TheVariants.{Took, Stuck}
-use Rattle.table.specs.Scan.{lowest_of}
-use Rattle.sweeping.specs.Sweeps.{slot_past, closed, unused, lap_end, lap_from, swept_of, passed, cleared_from, victim_of}
+use Rattle.sweeping.specs.Sweeps.{slot_past, closed, unused, first_closed, swept_after, lap_end, lap_from, swept_of, passed, cleared_from, victim_of}
 
 -- the next slot, as code has it
 pub next_in : (l : Label) (s : Slot) → s.0 + 1 < l.slots → record { 0 = s.0 + 1 } ≡ next_slot l s
@@ -269,24 +266,24 @@ cleared_alike (suc n) l t v A s h = cleared_alike n l t _ (one (told (writing (r
     one (told_false w) = rw w (alike_flags l t v A s.0 (without_used (row_flags v s)) h (changed_unused (A.legal s.0 h).flags _))
 
 -- the lowest-numbered choice of the code: the first closed slot met
-unfoldable pub closed_from : ℕ → Label → List ℕ → Slot → ℕ → ℕ
+unfoldable pub closed_from : ℕ → Label → List ℕ → Slot → Option Slot → Option Slot
 closed_from zero l t s first = first
-closed_from (suc n) l t s first = closed_from n l t (next_slot l s) (lowest_of first l.slots s.0 (closed (row_flags t s)))
+closed_from (suc n) l t s first = closed_from n l t (next_slot l s) (first_closed first s (closed (row_flags t s)))
 
-closed-kept : (n : ℕ) (l : Label) (t : List ℕ) (s : Slot) (first : ℕ) → first < l.slots → closed_from n l t s first ≡ first
+closed-kept : (n : ℕ) (l : Label) (t : List ℕ) (s first : Slot) → closed_from n l t s (Some first) ≡ Some first
 unfolding closed_from
-closed-kept zero l t s first h = refl
-closed-kept (suc n) l t s first h = rw (lt-ltb first l.slots h) (closed-kept n l t (next_slot l s) first h)
+closed-kept zero l t s first = refl
+closed-kept (suc n) l t s first = closed-kept n l t (next_slot l s) first
 
 -- one slot of the sweep
 sweep_step : (l : Label) (n : ℕ) (t : List ℕ) (s : Slot) (r : Option Victim)
     → sweep_from n l (set_flags t s (passed (row_flags t s))) (next_slot l s) ≡ r
-    → sweep_from (suc n) l t s ≡ elim (unused (row_flags t s)) [ true ↦ some (record { slot = s; table = t }) | false ↦ r ]
+    → sweep_from (suc n) l t s ≡ elim (unused (row_flags t s)) [ true ↦ Some (record { slot = s; table = t }) | false ↦ r ]
 unfolding sweep_from
 sweep_step l n t s r e = go (told (writing (row_flags t s))) (told (used (row_flags t s)))
   where
     go : Told (writing (row_flags t s)) → Told (used (row_flags t s))
-        → sweep_from (suc n) l t s ≡ elim (unused (row_flags t s)) [ true ↦ some (record { slot = s; table = t }) | false ↦ r ]
+        → sweep_from (suc n) l t s ≡ elim (unused (row_flags t s)) [ true ↦ Some (record { slot = s; table = t }) | false ↦ r ]
     go (told_true w) x =
         let q : sweep_from n l (set_flags t s (row_flags t s)) (next_slot l s) ≡ r = rw w at e in
         rw (sweep_from, w) (ap (λ (v : List ℕ). sweep_from n l v (next_slot l s)) (sym (set-get_or t (2 * s.0 + 1) 0)) ∙ q)
@@ -301,7 +298,7 @@ module _ (l : Label) (t : List ℕ) (h : Slot) (size : length t ≡ table_length
   round_from zero k rest = rest
   round_from (suc n) k rest =
       elim (unused (row_flags t (nth l k h))) [
-        | true ↦ some (record { slot = nth l k h; table = cleared_from k l t h })
+        | true ↦ Some (record { slot = nth l k h; table = cleared_from k l t h })
         | false ↦ round_from n (suc k) rest
       ]
 
@@ -324,22 +321,22 @@ module _ (l : Label) (t : List ℕ) (h : Slot) (size : length t ≡ table_length
       ∙ first_round n m (suc k) p (omega arith) (omega arith) in
       let a : row_flags (cleared_from k l t h) (nth l k h) ≡ row_flags t (nth l k h) = ahead l k k t h size low (omega arith) (omega arith) in
       sweep_step l p (cleared_from k l t h) (nth l k h) r q
-      ∙ ap (λ (f : ℕ). elim (unused f) [ true ↦ some (record { slot = nth l k h; table = cleared_from k l t h }) | false ↦ r ]) a
+      ∙ ap (λ (f : ℕ). elim (unused f) [ true ↦ Some (record { slot = nth l k h; table = cleared_from k l t h }) | false ↦ r ]) a
 
   -- what the code finds, in the same terms
-  found_round : (n k first : ℕ)
+  found_round : (n k : ℕ) (first : Option Slot)
       → victim_of l t h (lap_from n k l t (nth l k h) first)
       ≡ round_from n k (victim_of l t h (lap_end l.slots (closed_from n l t (nth l k h) first)))
   unfolding round_from lap_from closed_from
   found_round zero k first = refl
   found_round (suc n) k first = go (told (unused (row_flags t (nth l k h))))
-      (found_round n (suc k) (lowest_of first l.slots (nth l k h).0 (closed (row_flags t (nth l k h)))))
+      (found_round n (suc k) (first_closed first (nth l k h) (closed (row_flags t (nth l k h)))))
     where
       go : Told (unused (row_flags t (nth l k h)))
           → victim_of l t h (lap_from n (suc k) l t (nth l (suc k) h)
-          (lowest_of first l.slots (nth l k h).0 (closed (row_flags t (nth l k h)))))
+          (first_closed first (nth l k h) (closed (row_flags t (nth l k h)))))
           ≡ round_from n (suc k) (victim_of l t h (lap_end l.slots
-          (closed_from n l t (nth l (suc k) h) (lowest_of first l.slots (nth l k h).0 (closed (row_flags t (nth l k h)))))))
+          (closed_from n l t (nth l (suc k) h) (first_closed first (nth l k h) (closed (row_flags t (nth l k h)))))))
           → victim_of l t h (lap_from (suc n) k l t (nth l k h) first)
           ≡ round_from (suc n) k (victim_of l t h (lap_end l.slots (closed_from (suc n) l t (nth l k h) first)))
       go (told_true e) ih = rw (lap_from, round_from, e) refl
@@ -347,9 +344,9 @@ module _ (l : Label) (t : List ℕ) (h : Slot) (size : length t ≡ table_length
 
   -- the second round takes the first closed slot
   second_round : (n : ℕ) (s : Slot) → s.0 < l.slots
-      → sweep_from n l (cleared_from l.slots l t h) s ≡ victim_of l t h (lap_end l.slots (closed_from n l t s l.slots))
+      → sweep_from n l (cleared_from l.slots l t h) s ≡ victim_of l t h (lap_end l.slots (closed_from n l t s None))
   unfolding sweep_from closed_from
-  second_round zero s q = rw (le-ltb l.slots l.slots (omega arith)) refl
+  second_round zero s q = refl
   second_round (suc n) s q = go (told (writing (row_flags t s))) (second_round n (next_slot l s) (next_low l s q))
     where
       same : writing (row_flags (cleared_from l.slots l t h) s) ≡ writing (row_flags t s)
@@ -360,10 +357,10 @@ module _ (l : Label) (t : List ℕ) (h : Slot) (size : length t ≡ table_length
 
       go : Told (writing (row_flags t s))
           → sweep_from n l (cleared_from l.slots l t h) (next_slot l s)
-          ≡ victim_of l t h (lap_end l.slots (closed_from n l t (next_slot l s) l.slots))
+          ≡ victim_of l t h (lap_end l.slots (closed_from n l t (next_slot l s) None))
           → sweep_from (suc n) l (cleared_from l.slots l t h) s
-          ≡ victim_of l t h (lap_end l.slots (closed_from (suc n) l t s l.slots))
-      go (told_true w) ih = rw (sweep_from, closed_from, same, w, le-ltb l.slots l.slots (omega arith)) ih
+          ≡ victim_of l t h (lap_end l.slots (closed_from (suc n) l t s None))
+      go (told_true w) ih = rw (sweep_from, closed_from, same, w) ih
       go (told_false w) ih =
           rw (
             sweep_from,
@@ -371,9 +368,7 @@ module _ (l : Label) (t : List ℕ) (h : Slot) (size : length t ≡ table_length
             same,
             w,
             spent w,
-            le-ltb l.slots l.slots (omega arith),
-            closed-kept n l t (next_slot l s) s.0 q,
-            lt-ltb s.0 l.slots q,
+            closed-kept n l t (next_slot l s) s,
           ) refl
 
   -- slot and table are those of protocol's sweep
@@ -383,24 +378,24 @@ module _ (l : Label) (t : List ℕ) (h : Slot) (size : length t ≡ table_length
       first_round l.slots l.slots 0 (2 * l.slots) (omega arith) (omega arith)
       ∙ ap (round_from l.slots 0)
       (ap (sweep_from l.slots l (cleared_from l.slots l t h)) (nth_round l h low) ∙ second_round l.slots h low)
-      ∙ sym (found_round l.slots 0 l.slots)
+      ∙ sym (found_round l.slots 0 None)
 
 -- the loops' steps: of n slots k are passed
 down : (n k : ℕ) → k < n → n - k ≡ suc (n - (k + 1))
 down n k h = omega arith
 
-pub lap_on : (n k : ℕ) (l : Label) (t : List ℕ) (s : Slot) (first : ℕ) → k < n → unused (row_flags t s) ≡ false
+pub lap_on : (n k : ℕ) (l : Label) (t : List ℕ) (s : Slot) (first : Option Slot) → k < n → unused (row_flags t s) ≡ false
     → lap_from (n - k) k l t s first
-    ≡ lap_from (n - (k + 1)) (k + 1) l t (next_slot l s) (lowest_of first l.slots s.0 (closed (row_flags t s)))
+    ≡ lap_from (n - (k + 1)) (k + 1) l t (next_slot l s) (first_closed first s (closed (row_flags t s)))
 unfolding lap_from
 lap_on n k l t s first h e = rw (down n k h, add-one k) (rw (lap_from, e) refl)
 
-pub lap_took : (n k : ℕ) (l : Label) (t : List ℕ) (s : Slot) (first : ℕ) → k < n → unused (row_flags t s) ≡ true
-    → lap_from (n - k) k l t s first ≡ Took s k
+pub lap_took : (n k : ℕ) (l : Label) (t : List ℕ) (s : Slot) (first : Option Slot) → k < n → unused (row_flags t s) ≡ true
+    → lap_from (n - k) k l t s first ≡ swept_after s k
 unfolding lap_from
 lap_took n k l t s first h e = rw (down n k h) (rw (lap_from, e) refl)
 
-pub lap_done : (n k : ℕ) (l : Label) (t : List ℕ) (s : Slot) (first : ℕ) → n ≤ k → lap_from (n - k) k l t s first ≡ lap_end l.slots first
+pub lap_done : (n k : ℕ) (l : Label) (t : List ℕ) (s : Slot) (first : Option Slot) → n ≤ k → lap_from (n - k) k l t s first ≡ lap_end l.slots first
 unfolding lap_from
 lap_done n k l t s first h = let z : n - k ≡ 0 = omega arith in rw z refl
 
@@ -413,8 +408,8 @@ pub clear_done : (n k : ℕ) (l : Label) (t : List ℕ) (s : Slot) → n ≤ k �
 unfolding cleared_from
 clear_done n k l t s h = let z : n - k ≡ 0 = omega arith in rw z refl
 
-pub lap_begun : (n : ℕ) (l : Label) (t : List ℕ) (s : Slot) → lap_from (n - 0) 0 l t s n ≡ lap_from n 0 l t s n
-lap_begun n l t s = let z : n - 0 ≡ n = omega arith in ap (λ (m : ℕ). lap_from m 0 l t s n) z
+pub lap_begun : (n : ℕ) (l : Label) (t : List ℕ) (s : Slot) → lap_from (n - 0) 0 l t s None ≡ lap_from n 0 l t s None
+lap_begun n l t s = let z : n - 0 ≡ n = omega arith in ap (λ (m : ℕ). lap_from m 0 l t s None) z
 
 pub clear_begun : (n : ℕ) (l : Label) (t : List ℕ) (s : Slot) → cleared_from (n - 0) l t s ≡ cleared_from n l t s
 clear_begun n l t s = let z : n - 0 ≡ n = omega arith in ap (λ (m : ℕ). cleared_from m l t s) z

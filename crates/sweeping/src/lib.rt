@@ -4,9 +4,9 @@
 pub mod sweep;
 
 // What a sweep takes: a slot, after so many were passed, which lose their used flags (all slots, where the first round met
-// no unused one); or no slot, since all are open.
+// no unused one).
 #[derive(Clone, Copy)]
-pub enum Swept {
-    Took(layout::Slot, u32),
-    Stuck,
+pub struct Swept {
+    pub slot: layout::Slot,
+    pub passed: u32,
 }

@@ -2,11 +2,10 @@
 ghost use Rattle.std.specs.Prelude.{◌≡◌, Bool, true, false, ℕ, ◌+◌, ◌*◌, ◌≤◌, ◌<◌, length};
 ghost use Rattle.layout.specs.Places.{table_length};
 ghost use Rattle.protocol.specs.Sweep.{next_slot};
-ghost use Rattle.sweeping.specs.Sweeps.{slot_past, closed, unused, lap_end, swept_of, passed, cleared_from};
+ghost use Rattle.sweeping.specs.Sweeps.{slot_past, closed, unused, first_closed, lap_end, swept_of, passed, cleared_from};
 
 use crate::Swept;
 use layout::{Label, Slot};
-use table::rows::lowest;
 
 // The slot one past s, wrapping.
 pub fn next_slot(l: Label, s: Slot) -> Slot
@@ -14,10 +13,7 @@ pub fn next_slot(l: Label, s: Slot) -> Slot
     ensures { (result ≡ next_slot l s) × (result.0 < l.slots) }
 {
     let n = s.0 + 1;
-    if n < l.slots {
-        return Slot(n);
-    }
-    Slot(0)
+    if n < l.slots { Slot(n) } else { Slot(0) }
 }
 
 // The slot k past s, wrapping.
@@ -27,9 +23,10 @@ fn slot_past(l: Label, s: Slot, k: u32) -> Slot
 {
     let left = l.slots - s.0;
     if k < left {
-        return Slot(s.0 + k);
+        Slot(s.0 + k)
+    } else {
+        Slot(k - left)
     }
-    Slot(k - left)
 }
 
 // Whether a row is not open.
@@ -43,38 +40,47 @@ fn is_closed(flags: u32) -> bool
 fn is_unused(flags: u32) -> bool
     ensures { result ≡ unused flags }
 {
-    if flags / 4 % 2 == 1 {
-        return false;
+    is_closed(flags) & (flags / 8 % 2 != 1)
+}
+
+// The slot found before, or else this one where it is closed.
+fn first_closed(before: Option<Slot>, here: Slot, closed: bool) -> Option<Slot>
+    ensures { result ≡ first_closed before here closed }
+{
+    match before {
+        Some(s) => Some(s),
+        None => if closed { Some(here) } else { None },
     }
-    flags / 8 % 2 != 1
 }
 
 // What a round ends in that met no unused slot.
-fn lap_end(slots: u32, first: u32) -> Swept
+fn lap_end(slots: u32, first: Option<Slot>) -> Option<Swept>
     ensures { result ≡ lap_end slots first }
 {
-    if first < slots {
-        return Swept::Took(Slot(first), slots);
+    match first {
+        Some(slot) => Some(Swept {
+            slot,
+            passed: slots,
+        }),
+        None => None,
     }
-    Swept::Stuck
 }
 
-// The slot that a sweep from the hand takes. Each slot is worked out from the hand, so that none waits for the one before.
-pub fn sweep(l: Label, table: &[u32], hand: Slot) -> Swept
+// The slot that a sweep from the hand takes; none where all are open. Each slot is worked out from the hand, so that none waits for
+// the one before.
+pub fn sweep(l: Label, table: &[u32], hand: Slot) -> Option<Swept>
     requires { (length table.now ≡ table_length l) × (hand.0 < l.slots) }
     ensures { result ≡ swept_of l table.now hand }
 {
     let slots = l.slots;
-    let mut first: u32 = slots;
-    let mut k: u32 = 0;
-    while k < slots {
+    let mut first: Option<Slot> = None;
+    for k in 0..slots {
         let s = slot_past(l, hand, k);
         let flags = table[2 * (s.0 as usize) + 1];
         if is_unused(flags) {
-            return Swept::Took(s, k);
+            return Some(Swept { slot: s, passed: k });
         }
-        first = lowest(first, slots, s.0, is_closed(flags));
-        k += 1;
+        first = first_closed(first, s, is_closed(flags));
     }
     lap_end(slots, first)
 }
@@ -83,13 +89,11 @@ pub fn sweep(l: Label, table: &[u32], hand: Slot) -> Swept
 fn flags_passed(flags: u32) -> u32
     ensures { result ≡ passed flags }
 {
-    if flags / 4 % 2 == 1 {
-        return flags;
+    if is_closed(flags) & (flags / 8 % 2 == 1) {
+        flags - 8
+    } else {
+        flags
     }
-    if flags / 8 % 2 == 1 {
-        return flags - 8;
-    }
-    flags
 }
 
 // The used flags of n slots from the hand on are cleared, but for open slots.
@@ -98,11 +102,9 @@ pub fn clear_used(l: Label, table: &mut [u32], hand: Slot, n: u32)
     ensures { table.new ≡ cleared_from n l table.old hand }
 {
     let mut s = hand;
-    let mut k: u32 = 0;
-    while k < n {
+    for _ in 0..n {
         let i = 2 * (s.0 as usize) + 1;
         table[i] = flags_passed(table[i]);
         s = next_slot(l, s);
-        k += 1;
     }
 }

@@ -1,3 +1,4 @@
+mod Lowest
 pub mod RowLaws
 pub mod ScanLaws
 pub mod ConditionLaws

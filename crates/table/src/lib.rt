@@ -2,15 +2,16 @@
 // number here.
 #![tactic(auto)]
 
+use layout::Slot;
+
 pub mod condition;
 pub mod rows;
 
-// What one pass over the table finds: whether every row keeps its rule and, if so, how many are writing, how many are not
-// free, and the lowest slot that holds the block (the number of slots where none does).
+// What one pass over the table finds where every row keeps its rule: how many are writing, how many are not free, and the lowest
+// slot that holds the block.
 #[derive(Clone, Copy)]
 pub struct Scan {
-    pub legal: bool,
     pub writing: u32,
     pub busy: u32,
-    pub at: u32,
+    pub at: Option<Slot>,
 }

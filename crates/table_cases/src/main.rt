@@ -7,18 +7,18 @@ use layout::{Block, Slot, WINDOW, Window, places};
 use protocol::Condition;
 use record::{Phase, Record, state};
 use std::io;
-use sweeping::{Swept, sweep};
+use sweeping::sweep;
 use table::rows;
 
 // A word of a table whose row i holds block i, with other flags in the last 63 rows.
 fn word(i: usize, flags: u32, last: u32) -> u32 {
     if i % 2 == 0 {
-        return (i / 2 % 65536) as u32;
+        (i / 2 % 65536) as u32
+    } else if 115074 < i {
+        last
+    } else {
+        flags
     }
-    if 115074 < i {
-        return last;
-    }
-    flags
 }
 
 fn fill(rt: &impl Print, table: &mut [u32], flags: u32, last: u32) -> io::Result<()> {
@@ -52,12 +52,13 @@ fn scan(rt: &impl Print, table: &[u32], block: u32) -> io::Result<()> {
     }
     let found = rows::scan(l, table, Block(block));
     print::named(rt, b"scan for ", block)?;
-    if found.legal {
-        print::named(rt, b" -> writing ", found.writing)?;
-        print::named(rt, b" busy ", found.busy)?;
-        print::named(rt, b" at ", found.at)?;
-    } else {
-        print::text(rt, b" -> not legal")?;
+    match found {
+        Some(found) => {
+            print::named(rt, b" -> writing ", found.writing)?;
+            print::named(rt, b" busy ", found.busy)?;
+            print::named(rt, b" at ", found.at.map_or(l.slots, |s| s.0))?;
+        }
+        None => print::text(rt, b" -> not legal")?,
     }
     print::text(rt, b"\n")
 }
@@ -72,14 +73,13 @@ fn swept(rt: &impl Print, table: &[u32], hand: u32) -> io::Result<u32> {
         return Ok(0);
     }
     print::named(rt, b"sweep from ", hand)?;
-    let found = sweep::sweep(l, table, Slot(hand));
-    match found {
-        Swept::Took(s, passed) => {
-            print::named(rt, b" -> took ", s.0)?;
-            print::named(rt, b" after ", passed)?;
-            Ok(passed)
+    match sweep::sweep(l, table, Slot(hand)) {
+        Some(found) => {
+            print::named(rt, b" -> took ", found.slot.0)?;
+            print::named(rt, b" after ", found.passed)?;
+            Ok(found.passed)
         }
-        Swept::Stuck => {
+        None => {
             print::text(rt, b" -> all open")?;
             Ok(0)
         }
@@ -104,10 +104,8 @@ fn sweep_from(rt: &impl Print, table: &mut [u32], hand: u32) -> io::Result<()> {
 // A window of the last 63 slots.
 fn last_slots() -> Window {
     let mut slots = [Slot(0); WINDOW];
-    let mut i: usize = 0;
-    while i < WINDOW {
+    for i in 0..WINDOW {
         slots[i] = Slot(57537 + i as u32);
-        i += 1;
     }
     Window { slots, count: 63 }
 }
@@ -141,14 +139,14 @@ fn judged(rt: &impl Print, table: &[u32], hand: u32, block: u32) -> io::Result<(
         Block(block),
         0,
     );
-    let k = found.condition;
     print::named(rt, b"hand ", hand)?;
     print::named(rt, b" block ", block)?;
-    if found.number == 0 {
-        print::named(rt, b" -> writing ", found.writing)?;
-        condition(rt, k)?;
-    } else {
-        print::named(rt, b" -> refused ", found.number)?;
+    match found {
+        Ok(judged) => {
+            print::named(rt, b" -> writing ", judged.writing)?;
+            condition(rt, judged.condition)?;
+        }
+        Err(refusal) => print::named(rt, b" -> refused ", refusal.number())?,
     }
     print::text(rt, b"\n")
 }

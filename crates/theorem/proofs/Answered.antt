@@ -4,7 +4,8 @@ use mathlib.Core.Path.{◌≡◌, refl, sym, ap, subst, ◌∙◌}
 use mathlib.Core.Logic.{◌≢◌}
 use mathlib.Core.Bool.{Bool, true, false, not, ◌&&◌}
 use mathlib.Core.List.{List, [], ◌∷◌}
-use mathlib.Core.Option.{Option, some, none, some-ne-none}
+use Rattle.std.specs.Prelude.{Option, Some, None}
+use Rattle.std.proofs.lemmas.Option.{none-some}
 use native.Mathlib.Omega.{arith}
 use native.Mathlib.Decide.{ℕ_discrete, dec_lt}
 use lib.ListN.{length, get_or, length-set}
@@ -25,7 +26,9 @@ use Rattle.protocol.specs.Condition.{condition_of, is_open, is_cached, is_writin
 use Rattle.protocol.specs.Sweep.{next_slot, Victim, sweep_from, sweep}
 use Rattle.protocol.specs.Plan.{Call, offer, fetch, takes_as, takes, sweeps, offering, fetching, plan}
 use Rattle.protocol.specs.Perform.{confirmed, perform}
-use Rattle.protocol.specs.Judge.{Reason, slot_open, has_slot, all_open, test, judged}
+use Rattle.protocol.specs.declared.Refusal.{Refusal}
+use Rattle.protocol.specs.declared.Refusal.TheVariants.{SlotOpen, HasSlot, AllOpen}
+use Rattle.protocol.specs.Judge.{test, judged}
 use Rattle.protocol.specs.Calls.{decided, effect_of, result_of}
 use Rattle.protocol.specs.Beside.{OfferAnswer, says_announced, says_overwrite, says_copied, FetchAnswer, fetch_announced, fetch_copied, Answers}
 use Rattle.laws.proofs.refine.Sweeps.{next_low}
@@ -93,7 +96,7 @@ module _ (k : ℕ) (l : Label) (t : List ℕ) (s : Slot) where
 
   -- either it takes the slot, or it goes on, in the same table or with that slot's used flag cleared
   data Step : Option Victim → Type 0 where
-    took : (v : Victim) → Step (some v)
+    took : (v : Victim) → Step (Some v)
     passes : writing (row_flags t s) ≡ true → Step (sweep_from k l t (next_slot l s))
     clears : writing (row_flags t s) ≡ false → used (row_flags t s) ≡ true → Step (sweep_from k l cleared (next_slot l s))
 
@@ -106,7 +109,7 @@ module _ (k : ℕ) (l : Label) (t : List ℕ) (s : Slot) where
             | true ↦ sweep_from k l t (next_slot l s)
             | false ↦ elim (used (row_flags t s)) [
               | true ↦ sweep_from k l (set_flags t s (without_used (row_flags t s))) (next_slot l s)
-              | false ↦ some (record { slot = s; table = t })
+              | false ↦ Some (record { slot = s; table = t })
             ]
           ])
       go (told_true w) y = rw w (passes w)
@@ -128,14 +131,14 @@ flags_other t s u f n = get_or-set_other t (2 * s + 1) (2 * u + 1) f 0 (λ e. n 
 
 -- a closed slot without the used flag is not passed
 soon : (k : ℕ) (l : Label) (u d s : ℕ) (t : List ℕ) → d < k → Leads l u d s → writing (row_flags t (slot u)) ≡ false
-    → used (row_flags t (slot u)) ≡ false → sweep_from k l t (slot s) ≢ none
+    → used (row_flags t (slot u)) ≡ false → sweep_from k l t (slot s) ≢ None
 soon zero l u d s t h L w y = absurd (omega arith)
 soon (suc k) l u d s t h L w y = go (step k l t (slot s)) (λ e z v. soon k l u e z v)
   where
     go : {o : Option Victim} → Step k l t (slot s) o
         → ((e z : ℕ) (v : List ℕ) → e < k → Leads l u e z → writing (row_flags v (slot u)) ≡ false → used (row_flags v (slot u)) ≡ false
-        → sweep_from k l v (slot z) ≢ none) → o ≢ none
-    go (took v) ih = some-ne-none v
+        → sweep_from k l v (slot z) ≢ None) → o ≢ None
+    go (took v) ih = λ q. none-some v (sym q)
     go (passes a) ih =
         let n : s ≢ u = λ e. clash (subst (λ (z : ℕ). writing (row_flags t (slot z)) ≡ true) e a) w in
         let m = onward l u d s L n in
@@ -150,7 +153,7 @@ soon (suc k) l u d s t h L w y = go (step k l t (slot s)) (λ e z v. soon k l u 
 
 -- and with it, not twice
 late : (k : ℕ) (l : Label) (u d s : ℕ) (t : List ℕ) → l.slots + d < k → u < l.slots → s < l.slots → length t ≡ 2 * l.slots
-    → Leads l u d s → writing (row_flags t (slot u)) ≡ false → sweep_from k l t (slot s) ≢ none
+    → Leads l u d s → writing (row_flags t (slot u)) ≡ false → sweep_from k l t (slot s) ≢ None
 late zero l u d s t h ul sl size L w = absurd (omega arith)
 late (suc k) l u d s t h ul sl size L w = go (step k l t (slot s)) (λ e z v. late k l u e z v)
   where
@@ -159,8 +162,8 @@ late (suc k) l u d s t h ul sl size L w = go (step k l t (slot s)) (λ e z v. la
 
     go : {o : Option Victim} → Step k l t (slot s) o
         → ((e z : ℕ) (v : List ℕ) → l.slots + e < k → u < l.slots → z < l.slots → length v ≡ 2 * l.slots → Leads l u e z
-        → writing (row_flags v (slot u)) ≡ false → sweep_from k l v (slot z) ≢ none) → o ≢ none
-    go (took v) ih = some-ne-none v
+        → writing (row_flags v (slot u)) ≡ false → sweep_from k l v (slot z) ≢ None) → o ≢ None
+    go (took v) ih = λ q. none-some v (sym q)
     go (passes a) ih =
         let n : s ≢ u = λ e. clash (subst (λ (z : ℕ). writing (row_flags t (slot z)) ≡ true) e a) w in
         let m = onward l u d s L n in
@@ -171,7 +174,7 @@ late (suc k) l u d s t h ul sl size L w = go (step k l t (slot s)) (λ e z v. la
         v : List ℕ
         v = set_flags t (slot s) (without_used (row_flags t (slot s)))
 
-        by : Dec (s ≡ u) → sweep_from k l (set_flags t (slot s) (without_used (row_flags t (slot s)))) (next_slot l (slot s)) ≢ none
+        by : Dec (s ≡ u) → sweep_from k l (set_flags t (slot s) (without_used (row_flags t (slot s)))) (next_slot l (slot s)) ≢ None
         by (no n) =
             let m = onward l u d s L n in
             let q : d ≡ suc m.0 = m.1 in
@@ -204,7 +207,7 @@ closed-row s (b ∷ f ∷ t) e = go (told (writing f)) (closed-row (suc s) t)
         (suc r.0, omega (arith, r.1), ap (λ (n : ℕ). writing (get_or (b ∷ f ∷ t) n 0)) q ∙ r.2)
 
 module _ (x : Box) (L : Legal x) (some_shut : all_writing x.table ≡ false) where
-  sweep-takes : sweep (label_in x.state) x.table x.state.hand ≢ none
+  sweep-takes : sweep (label_in x.state) x.table x.state.hand ≢ None
   sweep-takes =
       let r = closed-row 0 x.table some_shut in
       let size : length x.table ≡ 2 * x.state.label.slots = L.table-size in
@@ -222,21 +225,21 @@ module _ (x : Box) (L : Legal x) (some_shut : all_writing x.table ≡ false) whe
     where
       go : (o : Option Victim) → sweep (label_in x.state) x.table x.state.hand ≡ o
           → P (perform (takes x.state b by-caller f o) x).said
-      go none e = absurd (sweep-takes e)
-      go (some v) e = by (dirty (row_flags v.table v.slot))
+      go None e = absurd (sweep-takes e)
+      go (Some v) e = by (dirty (row_flags v.table v.slot))
         where
           by : (d : Bool) → P (perform (takes_as d x.state b by-caller f v) x).said
           by true = c
           by false = a v.slot
 
-said-plan : (c : Call) (x : Box) → judged c x ≡ none → (result_of c x).said ≡ (perform (plan c x) x).said
+said-plan : (c : Call) (x : Box) → judged c x ≡ None → (result_of c x).said ≡ (perform (plan c x) x).said
 unfolding effect_of
-said-plan c x e = ap (λ (o : Option Reason). (decided o c x).said) e
+said-plan c x e = ap (λ (o : Option Refusal). (decided o c x).said) e
 
 module _ (b : Block) (c : ℕ) (x : Box) where
-  offered : judged (offer b c) x ≡ none → OfferAnswer (result_of (offer b c) x).said
+  offered : judged (offer b c) x ≡ None → OfferAnswer (result_of (offer b c) x).said
   unfolding plan test perform confirmed
-  offered e = rw (said-plan (offer b c) x e) (go (condition_of x.table b) (passed (offer b c) x e slot_open refl) (passed (offer b c) x e all_open refl))
+  offered e = rw (said-plan (offer b c) x e) (go (condition_of x.table b) (passed (offer b c) x e SlotOpen refl) (passed (offer b c) x e AllOpen refl))
     where
       go : (z : Condition) → is_open z ≡ false → (not (is_cached z) && all_writing x.table) ≡ false
           → OfferAnswer (perform (offering x b c z) x).said
@@ -246,10 +249,10 @@ module _ (b : Block) (c : ℕ) (x : Box) where
       go (Writing s) o a = clash {b = true} refl o
       go (Fetching s) o a = clash {b = true} refl o
 
-  fetched : judged (fetch b c) x ≡ none → FetchAnswer (result_of (fetch b c) x).said
+  fetched : judged (fetch b c) x ≡ None → FetchAnswer (result_of (fetch b c) x).said
   unfolding plan test perform confirmed
-  fetched e = rw (said-plan (fetch b c) x e) (go (condition_of x.table b) (passed (fetch b c) x e has_slot refl) (passed (fetch b c) x e slot_open refl)
-      (passed (fetch b c) x e all_open refl))
+  fetched e = rw (said-plan (fetch b c) x e) (go (condition_of x.table b) (passed (fetch b c) x e HasSlot refl) (passed (fetch b c) x e SlotOpen refl)
+      (passed (fetch b c) x e AllOpen refl))
     where
       go : (z : Condition) → has_other z ≡ false → is_writing z ≡ false → (not (is_cached z) && all_writing x.table) ≡ false
           → FetchAnswer (perform (fetching x b c z) x).said

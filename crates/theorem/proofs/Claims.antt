@@ -3,7 +3,7 @@ use Prim.Native.Nat.{ℕ, zero, suc, ◌≤◌, ◌<◌}
 use mathlib.Core.Path.{◌≡◌, refl, sym, ap, subst, ◌∙◌}
 use mathlib.Core.Bool.{Bool, true, false, not, ◌&&◌}
 use mathlib.Core.List.{[]}
-use mathlib.Core.Option.{Option, some, none}
+use Rattle.std.specs.Prelude.{Option, Some, None}
 use native.Mathlib.Omega.{arith}
 use lib.ListN.{length}
 use borrow.Author.Tests.{not-true}
@@ -17,7 +17,9 @@ use Rattle.protocol.specs.Box.{Box, box_after}
 use Rattle.protocol.specs.Plan.{Call, format, step, flush, reopen, look_up, flushing, plan}
 use Rattle.protocol.specs.Kinds.{kind}
 use Rattle.protocol.specs.Perform.{confirmed, perform}
-use Rattle.protocol.specs.Judge.{Reason, wrong_phase, is_ready, judged, test}
+use Rattle.protocol.specs.declared.Refusal.{Refusal}
+use Rattle.protocol.specs.declared.Refusal.TheVariants.{WrongPhase}
+use Rattle.protocol.specs.Judge.{is_ready, judged, test}
 use Rattle.protocol.specs.Calls.{decided, effect_of, result_of, view_of}
 use Rattle.protocol.specs.ReferenceDisk.{MayBe}
 use Rattle.protocol.specs.Events.{World, Memory, Event, call, reopens, cut, called, lent, read_of, may_finish, finished, with_memory, reopened, crashed, steps, apply, Fits}
@@ -75,9 +77,9 @@ module _ (l : Label) (w : World) (I : Inv l w) where
       ∙ sym (I.agrees.page b.0 h)) r
 
   pub looks_of : is_ready w.box.state.phase ≡ true → (b : Block) → b.0 < l.blocks → (s : Slot)
-      → slot_said (result_of (look_up b) w.box).said ≡ some s → page_at w.box.images.ssd (data_place l s) ≡ w.disk.page b
+      → slot_said (result_of (look_up b) w.box).said ≡ Some s → page_at w.box.images.ssd (data_place l s) ≡ w.disk.page b
   looks_of r b h s =
-      at_core (λ v. is_ready v.box.state.phase ≡ true → slot_said (result_of (look_up b) v.box).said ≡ some s
+      at_core (λ v. is_ready v.box.state.phase ≡ true → slot_said (result_of (look_up b) v.box).said ≡ Some s
       → page_at v.box.images.ssd (data_place l s) ≡ w.disk.page b) I
       (λ q e. let R = ready_of l I.core I.plain I.phased q in
       sym (look_page l I.core I.shape (ready_legible l I.core I.shape I.plain R) b.0 h s e)
@@ -87,7 +89,7 @@ module _ (l : Label) (w : World) (I : Inv l w) where
   -- flushes
   flush_said : model.Ready (abs l I.core) I.plain → refused (result_of flush (box_of_core l I.core)).said ≡ false
   unfolding effect_of plan perform confirmed
-  flush_said R = ap (λ (o : Option Reason). refused (decided o flush (box_of_core l I.core)).said)
+  flush_said R = ap (λ (o : Option Refusal). refused (decided o flush (box_of_core l I.core)).said)
       (flush_judged l I.core I.shape I.plain R) ∙ go I.core.unconfirmed
     where
       go : (u : Bool) → refused (perform (flushing u) (box_of_core l I.core)).said ≡ false
@@ -103,7 +105,7 @@ module _ (l : Label) (k : Core) (S : Shape l k) (p : Plain) (M : Mending (abs l 
   step_said : refused (result_of step (box_of_core l k)).said ≡ false
   unfolding effect_of perform confirmed
   step_said =
-      ap (λ (o : Option Reason). refused (decided o step (box_of_core l k)).said) (step_judged l k S p M on)
+      ap (λ (o : Option Refusal). refused (decided o step (box_of_core l k)).said) (step_judged l k S p M on)
       ∙ ap (λ v. refused (perform v (box_of_core l k)).said) (step_plan l k S p M on)
 
   step_box : box_after (result_of step (box_of_core l k)) ≡ box_of_core l (mended_core l k)
@@ -211,18 +213,18 @@ module _ (l : Label) (v : World) (H : Held l v) (x : Box) (im : x.images ≡ v.b
       (reopened_here l H.core H.plain H.shape.images H.stored x (held_images l v H x im) size) done b.0 h)
 
 -- a ready box makes no step
-wrong : (l : Label) (k : Core) → judged step (box_of_core l k) ≡ none → not (not (is_ready (phase_for k.recovering))) ≡ false
+wrong : (l : Label) (k : Core) → judged step (box_of_core l k) ≡ None → not (not (is_ready (phase_for k.recovering))) ≡ false
 unfolding test
-wrong l k q = passed step (box_of_core l k) q wrong_phase refl
+wrong l k q = passed step (box_of_core l k) q WrongPhase refl
 
 step_refused : (l : Label) (k : Core) → k.recovering ≡ false → refused (result_of step (box_of_core l k)).said ≡ true
 unfolding effect_of
 step_refused l k e = go (judged step (box_of_core l k)) refl
   where
-    go : (o : Option Reason) → judged step (box_of_core l k) ≡ o
+    go : (o : Option Refusal) → judged step (box_of_core l k) ≡ o
         → refused (decided (judged step (box_of_core l k)) step (box_of_core l k)).said ≡ true
-    go (some r) q = ap (λ (o : Option Reason). refused (decided o step (box_of_core l k)).said) q
-    go none q = clash {b = true} refl (rw e at (wrong l k q))
+    go (Some r) q = ap (λ (o : Option Refusal). refused (decided o step (box_of_core l k)).said) q
+    go None q = clash {b = true} refl (rw e at (wrong l k q))
 
 no_step : {A : Type 0} (l : Label) (k : Core) → k.recovering ≡ false → finished step (result_of step (box_of_core l k)) ≡ true → A
 no_step l k e f =

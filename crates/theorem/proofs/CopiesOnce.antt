@@ -4,7 +4,7 @@ use mathlib.Core.Path.{◌≡◌, refl, sym, ap, subst, ◌∙◌}
 use mathlib.Core.Logic.{◌≢◌}
 use mathlib.Core.Bool.{Bool, true, false}
 use mathlib.Core.List.{List}
-use mathlib.Core.Option.{Option, some, none}
+use Rattle.std.specs.Prelude.{Option, Some, None}
 use native.Mathlib.Omega.{arith}
 use lib.Seq.{get_or-set_same}
 use Rattle.layout.specs.declared.Slot.{Slot}
@@ -20,7 +20,8 @@ use Rattle.protocol.specs.Condition.{condition_of}
 use Rattle.protocol.specs.Sweep.{Victim, sweep_from, sweep}
 use Rattle.protocol.specs.Plan.{offer, Move, copies, takes_as, takes, offering, plan}
 use Rattle.protocol.specs.Perform.{confirmed, perform}
-use Rattle.protocol.specs.Judge.{Reason, judged}
+use Rattle.protocol.specs.declared.Refusal.{Refusal}
+use Rattle.protocol.specs.Judge.{judged}
 use Rattle.protocol.specs.Calls.{decided, effect_of, result_of}
 use Rattle.protocol.specs.Beside.{CopiesOnce}
 use Rattle.layout.proofs.Booleans.{clash}
@@ -41,7 +42,7 @@ is_refusal (dealt n) = false
 
 -- who answers "copied out": a sweep that took a dirty slot
 data CopyingOut (x : Box) (b : Block) : Move → Type 0 where
-  swept_dirty : (v : Victim) → sweep (label_in x.state) x.table x.state.hand ≡ some v
+  swept_dirty : (v : Victim) → sweep (label_in x.state) x.table x.state.hand ≡ Some v
       → dirty (row_flags v.table v.slot) ≡ true → CopyingOut x b (copies v.slot copied_out v.table v.slot)
 
 other : {A : Type 0} {p : Reply} (n : ℕ) → number p ≡ n → n ≢ 103 → p ≡ copied_out → A
@@ -54,8 +55,8 @@ copying_out x b c NotCached e = go (sweep (label_in x.state) x.table x.state.han
   where
     go : (o : Option Victim) → sweep (label_in x.state) x.table x.state.hand ≡ o
         → (perform (takes x.state b c 7 o) x).said ≡ copied_out → CopyingOut x b (takes x.state b c 7 o)
-    go none q = λ e. other {p = nothing_to_do} 106 refl (omega arith) e
-    go (some v) q = by (dirty (row_flags v.table v.slot)) refl
+    go None q = λ e. other {p = nothing_to_do} 106 refl (omega arith) e
+    go (Some v) q = by (dirty (row_flags v.table v.slot)) refl
       where
         by : (t : Bool) → dirty (row_flags v.table v.slot) ≡ t → (perform (takes_as t x.state b c 7 v) x).said ≡ copied_out
             → CopyingOut x b (takes_as t x.state b c 7 v)
@@ -67,22 +68,22 @@ copying_out x b c (Writing s) e = other {p = nothing_to_do} 106 refl (omega arit
 copying_out x b c (Fetching s) e = other {p = nothing_to_do} 106 refl (omega arith) e
 
 -- an answer of "copied out" is no refusal
-none_copied : (b : Block) (c : ℕ) (x : Box) → (result_of (offer b c) x).said ≡ copied_out → judged (offer b c) x ≡ none
+none_copied : (b : Block) (c : ℕ) (x : Box) → (result_of (offer b c) x).said ≡ copied_out → judged (offer b c) x ≡ None
 unfolding effect_of is_refusal
 none_copied b c x e = go (judged (offer b c) x) refl
   where
-    go : (o : Option Reason) → judged (offer b c) x ≡ o → judged (offer b c) x ≡ none
-    go (some r) q = clash {b = is_refusal (decided (judged (offer b c) x) (offer b c) x).said} (rw q) (ap is_refusal e)
-    go none q = q
+    go : (o : Option Refusal) → judged (offer b c) x ≡ o → judged (offer b c) x ≡ None
+    go (Some r) q = clash {b = is_refusal (decided (judged (offer b c) x) (offer b c) x).said} (rw q) (ap is_refusal e)
+    go None q = q
 
-said-plan : (b : Block) (c : ℕ) (x : Box) → judged (offer b c) x ≡ none → (result_of (offer b c) x).said ≡ (perform (plan (offer b c) x) x).said
+said-plan : (b : Block) (c : ℕ) (x : Box) → judged (offer b c) x ≡ None → (result_of (offer b c) x).said ≡ (perform (plan (offer b c) x) x).said
 unfolding effect_of
-said-plan b c x e = ap (λ (o : Option Reason). (decided o (offer b c) x).said) e
+said-plan b c x e = ap (λ (o : Option Refusal). (decided o (offer b c) x).said) e
 
 -- the box that it leaves, and the sweep that took the slot
 record Left (x : Box) (b : Block) (c : ℕ) : Type 0 where
   victim : Victim
-  took_it : sweep (label_in x.state) x.table x.state.hand ≡ some victim
+  took_it : sweep (label_in x.state) x.table x.state.hand ≡ Some victim
   was_dirty : dirty (row_flags victim.table victim.slot) ≡ true
   box_is : box_after (result_of (offer b c) x) ≡ box_after
       (left (perform (copies victim.slot copied_out victim.table victim.slot) x) x.images)
@@ -92,21 +93,21 @@ unfolding effect_of plan
 left_by_lem x b c e =
     let n = none_copied b c x e in
     go (copying_out x b c (condition_of x.table b) (sym (said-plan b c x n) ∙ e))
-    (ap (λ (o : Option Reason). box_after (left (decided o (offer b c) x) x.images)) n)
+    (ap (λ (o : Option Refusal). box_after (left (decided o (offer b c) x) x.images)) n)
   where
     go : {m : Move} → CopyingOut x b m → box_after (result_of (offer b c) x) ≡ box_after (left (perform m x) x.images) → Left x b c
     go (swept_dirty v q d) h = record { victim = v; took_it = q; was_dirty = d; box_is = h }
 
 -- a sweep that begins at such a slot takes it
 sweep-first : (l : Label) (t : List ℕ) (s : Slot) → 0 < l.slots → writing (row_flags t s) ≡ false → used (row_flags t s) ≡ false
-    → sweep l t s ≡ some (record { slot = s; table = t })
+    → sweep l t s ≡ Some (record { slot = s; table = t })
 unfolding sweep_from
 sweep-first l t s h w u =
     let n : ℕ = 2 * l.slots - 1 in
     let e : 2 * l.slots ≡ suc n = omega arith in
     ap (λ (m : ℕ). sweep_from m l t s) e ∙ rw (sweep_from, w, u)
 
-victim_of_lem : {v w : Victim} → some v ≡ some w → v ≡ w
+victim_of_lem : {v w : Victim} → Some v ≡ Some w → v ≡ w
 victim_of_lem e = cc
 
 module _ (b : Block) (c : ℕ) (x : Box) (L : Legal x) (v : Victim) (low : v.slot.0 < x.state.label.slots)
@@ -141,7 +142,7 @@ copies-once b c x e again =
     go : Legal x → (F : Left x b c) → Swept (label_in x.state) x.table (sweep (label_in x.state) x.table x.state.hand) → ⊥
     go L F S = by F.victim (subst (λ (o : Option Victim). Swept (label_in x.state) x.table o) F.took_it S) F.box_is
       where
-        by : (v : Victim) → Swept (label_in x.state) x.table (some v)
+        by : (v : Victim) → Swept (label_in x.state) x.table (Some v)
             → box_after (result_of (offer b c) x) ≡ box_after (left (perform (copies v.slot copied_out v.table v.slot) x) x.images)
             → ⊥
         by v (took u low w un A) q = not-again b c x L v low w un A

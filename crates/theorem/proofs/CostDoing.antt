@@ -4,7 +4,7 @@ use Prim.Native.Nat.{ℕ, suc, ◌+◌, ◌<◌}
 use mathlib.Core.Path.{◌≡◌, refl, sym, ap, subst, ◌∙◌}
 use mathlib.Core.Bool.{Bool, true, false, not, ◌&&◌}
 use mathlib.Core.List.{List, [], ◌∷◌, ◌++◌}
-use mathlib.Core.Option.{Option, some, none}
+use Rattle.std.specs.Prelude.{Option, Some, None, Ok}
 use native.Mathlib.Omega.{arith}
 use lib.ListN.{length}
 use lib.Dec.{eqb, leb}
@@ -22,11 +22,11 @@ use Rattle.record.specs.declared.Record.{Record}
 use Rattle.record.specs.Record.{label_in}
 use Rattle.protocol.specs.declared.Counts.{Counts}
 use Rattle.protocol.specs.declared.Cost.{Cost}
-use Rattle.protocol.specs.declared.Cost.TheVariants.{Refused, Counted, Met}
+use Rattle.protocol.specs.declared.Cost.TheVariants.{Counted, Met}
 use Rattle.protocol.specs.declared.Condition.{Condition}
 use Rattle.protocol.specs.declared.Condition.TheVariants.{NotCached, Clean, Dirty, Writing, Fetching}
 use Rattle.protocol.specs.declared.Stored.{Stored}
-use Rattle.protocol.specs.declared.Stored.TheVariants.{Nothing, Ssd, Hdd}
+use Rattle.protocol.specs.declared.Stored.TheVariants.{Ssd, Hdd}
 use Rattle.protocol.specs.Reply.{Reply, refusal, answer, dealt, refused}
 use Rattle.protocol.specs.Rows.{row_block, row_flags}
 use Rattle.protocol.specs.Box.{Images, Box, Image, ssd_image, hdd_image, Store, applied, stored_of, Effect, refusing}
@@ -35,7 +35,9 @@ use Rattle.protocol.specs.Plan.{Call, offer, land, ask, cost, Move, offering, la
 use Rattle.protocol.specs.Metadata.{store_place}
 use Rattle.protocol.specs.Perform.{confirmed, perform}
 use Rattle.protocol.specs.Kinds.{Purpose, to_write, to_land, aim}
-use Rattle.protocol.specs.Judge.{Reason, number_of, slot_open, window_full, import_full, unknown_caller, block_too_high, wrong_state, length_test, lengths_test, test, chain, first_of, judged}
+use Rattle.protocol.specs.declared.Refusal.{Refusal}
+use Rattle.protocol.specs.declared.Refusal.TheVariants.{SlotOpen, WindowFull, ImportFull, UnknownCaller, BlockTooHigh, WrongState}
+use Rattle.protocol.specs.Judge.{number_of, length_test, lengths_test, test, chain, first_of, judged}
 use Rattle.protocol.specs.Calls.{decided, effect_of, result_of}
 use Rattle.protocol.specs.Cost.{PageKind, copy_out, metadata, data_page, image_kind, page_kind, counts_with, no_stores, counts_after, Tally, tallied, tallies, is_copied_out, repeats, offers_to, lands_unless, imports, CostLeft, met_or, cost_from, not_started, cost_by, cost_in}
 use Rattle.protocol.specs.Beside.{Made, kinds_stored, makes_of, makes, joins, makes_if, offers_really, imports_really, Meeting, Import, import_then, import_all, is_kind, how_many, counts_of, answer_by, AsDoing, CostIsDoing}
@@ -64,16 +66,16 @@ record Alike (im jm : Images) (e f : Effect) : Type 0 where
   sizes : Sizes im (applied f.store jm)
 
 -- two chains whose tests agree
-abbrev AllSame : List Reason → (Reason → Bool) → (Reason → Bool) → Type 0
+abbrev AllSame : List Refusal → (Refusal → Bool) → (Refusal → Bool) → Type 0
 AllSame [] f g = Unit {0}
 AllSame (r ∷ rs) f g = (f r ≡ g r) × AllSame rs f g
 
-first_alike : (rs : List Reason) (f g : Reason → Bool) → AllSame rs f g → first_of rs f ≡ first_of rs g
+first_alike : (rs : List Refusal) (f g : Refusal → Bool) → AllSame rs f g → first_of rs f ≡ first_of rs g
 unfolding first_of
 first_alike [] f g h = refl
 first_alike (r ∷ rs) f g h =
-    ap (λ (b : Bool). elim b [ true ↦ some r | false ↦ first_of rs f ]) h.0
-    ∙ ap (λ (o : Option Reason). elim (g r) [ true ↦ some r | false ↦ o ]) (first_alike rs f g h.1)
+    ap (λ (b : Bool). elim b [ true ↦ Some r | false ↦ first_of rs f ]) h.0
+    ∙ ap (λ (o : Option Refusal). elim (g r) [ true ↦ Some r | false ↦ o ]) (first_alike rs f g h.1)
 
 module _ (im jm : Images) (z : Sizes im jm) (t : List ℕ) (r : Record) where
   abbrev x : Box
@@ -136,7 +138,7 @@ module _ (im jm : Images) (z : Sizes im jm) (t : List ℕ) (r : Record) where
       ),
     )
 
-    by_turn : Legal y → {m : Move} → Taken y m → ((s : Store) → (perform m y).store ≡ some s → length s.bytes ≡ 4096)
+    by_turn : Legal y → {m : Move} → Taken y m → ((s : Store) → (perform m y).store ≡ Some s → length s.bytes ≡ 4096)
         → Alike im jm (perform m x) (perform m y)
     unfolding perform confirmed store_place
     by_turn L (taken-stay n) W = record { said = refl; state = refl; table = refl; stored = refl; sizes = z }
@@ -170,18 +172,18 @@ module _ (im jm : Images) (z : Sizes im jm) (t : List ℕ) (r : Record) where
     unfolding test plan
     offer_alike = go (judged (offer b c) y) refl
       where
-        go : (o : Option Reason) → judged (offer b c) y ≡ o → Alike im jm (effect_of (offer b c) x) (effect_of (offer b c) y)
-        go (some q) e = rw (refuses (offer b c) x q (offer_judged ∙ e), refuses (offer b c) y q e)
+        go : (o : Option Refusal) → judged (offer b c) y ≡ o → Alike im jm (effect_of (offer b c) x) (effect_of (offer b c) y)
+        go (Some q) e = rw (refuses (offer b c) x q (offer_judged ∙ e), refuses (offer b c) y q e)
             (record { said = refl; state = refl; table = refl; stored = refl; sizes = z })
-        go none e =
+        go None e =
             let L = service_legal (offer b c) y refl e in
             let q = passed (offer b c) y e in
             let m : Move = offering y b c (condition_of t b) in
             let ey : effect_of (offer b c) y ≡ perform m y = does (offer b c) y m e refl in
             rw (does (offer b c) x m (offer_judged ∙ e) (offering-alike (condition_of t b)), ey)
             (by_turn L
-            (offers y (fit L) b c (q unknown_caller refl) (leb-false _ _ (q block_too_high refl)) (here y (fit L) b) (q slot_open refl)
-            (q import_full refl) (q window_full refl))
+            (offers y (fit L) b c (q UnknownCaller refl) (leb-false _ _ (q BlockTooHigh refl)) (here y (fit L) b) (q SlotOpen refl)
+            (q ImportFull refl) (q WindowFull refl))
             (λ s h. stores_whole (offer b c) y s (ap (λ (f : Effect). f.store) ey ∙ h)))
 
   -- a landing, whatever its page
@@ -192,7 +194,7 @@ module _ (im jm : Images) (z : Sizes im jm) (t : List ℕ) (r : Record) where
         (refl, (rw (lengths_alike, p-size, q-size), (refl, (refl, (refl, (refl, tt))))))
 
     landed : (s : ℕ) → s < r.label.slots → Legal y
-        → Sizes im (applied (some (record { image = ssd_image; place = data_place l (record { 0 = s }); bytes = q })) jm)
+        → Sizes im (applied (Some (record { image = ssd_image; place = data_place l (record { 0 = s }); bytes = q })) jm)
     landed s h L = record {
       ssd-size = z.ssd-size ∙ sym (length_put jm.ssd q (data_place l (record { 0 = s }))
           (rw L.ssd-size (data_within l (record { 0 = s }) h)) q-size);
@@ -212,15 +214,15 @@ module _ (im jm : Images) (z : Sizes im jm) (t : List ℕ) (r : Record) where
     unfolding test plan
     land-alike = go (judged (land b q) y) refl
       where
-        go : (o : Option Reason) → judged (land b q) y ≡ o → Alike im jm (effect_of (land b p) x) (effect_of (land b q) y)
-        go (some n) e = rw (refuses (land b p) x n (land-judged ∙ e), refuses (land b q) y n e)
+        go : (o : Option Refusal) → judged (land b q) y ≡ o → Alike im jm (effect_of (land b p) x) (effect_of (land b q) y)
+        go (Some n) e = rw (refuses (land b p) x n (land-judged ∙ e), refuses (land b q) y n e)
             (record { said = refl; state = refl; table = refl; stored = refl; sizes = z })
-        go none e =
+        go None e =
             let L = service_legal (land b q) y refl e in
             rw (
               does (land b p) x (landing p (condition_of t b)) (land-judged ∙ e) refl,
               does (land b q) y (landing q (condition_of t b)) e refl,
-            ) (by_condition L (here y (fit L) b) (not-false _ (passed (land b q) y e wrong_state refl)))
+            ) (by_condition L (here y (fit L) b) (not-false _ (passed (land b q) y e WrongState refl)))
 
 -- boxes with the same table and record, and images of the same lengths
 record Twin (x y : Box) : Type 0 where
@@ -265,10 +267,10 @@ counts-one data_page n = counts_same (omega arith) (omega arith) refl
 
 -- a page is counted by the image that it is on
 counts-stored : (p : Purpose) (o : Option Store) (n : Counts) → counts_after p o n ≡ plus n (counts_of (kinds_stored p (stored_of o)))
-counts-stored p none n = counts_none n
-counts-stored p (some s) n = go s.image
+counts-stored p None n = counts_none n
+counts-stored p (Some s) n = go s.image
   where
-    go : (i : Image) → counts_with (page_kind p i) n ≡ plus n (counts_of (kinds_stored p (stored_of (some (record { image = i; place = s.place; bytes = s.bytes })))))
+    go : (i : Image) → counts_with (page_kind p i) n ≡ plus n (counts_of (kinds_stored p (stored_of (Some (record { image = i; place = s.place; bytes = s.bytes })))))
     go ssd_image = counts-one (page_kind p ssd_image) n
     go hdd_image = counts-one (page_kind p hdd_image) n
 
@@ -280,14 +282,14 @@ record Kept (n : Counts) (w : Tally) (d : Made) : Type 0 where
 
 -- a call more
 call_kept : (c e : Call) (w : Tally) (y : Box) → Alike w.box.images y.images (effect_of c w.box) (effect_of e y)
-    → ((o : Stored) → kinds_stored (aim c).purpose o ≡ kinds_stored (aim e).purpose o) → Kept w.counts (tallies c w) (makes e y)
+    → ((o : Option Stored) → kinds_stored (aim c).purpose o ≡ kinds_stored (aim e).purpose o) → Kept w.counts (tallies c w) (makes e y)
 unfolding tallies makes
 call_kept c e w y A k = record {
   said = A.said;
   twin = record { table = A.table; state = A.state; sizes = A.sizes };
   counts =
       counts-stored (aim c).purpose (effect_of c w.box).store w.counts
-      ∙ ap (λ (o : Stored). plus w.counts (counts_of (kinds_stored (aim c).purpose o))) A.stored
+      ∙ ap (λ (o : Option Stored). plus w.counts (counts_of (kinds_stored (aim c).purpose o))) A.stored
       ∙ ap (λ (kinds : List PageKind). plus w.counts (counts_of kinds)) (k (stored_of (effect_of e y).store));
 }
 
@@ -311,10 +313,10 @@ land-kept b page size w y T = call_kept (land b zero_page) (land b page) w y
     (land-alike w.box.images y.images T.sizes w.box.table w.box.state b zero_page page length_zero size))
     same_kind
   where
-    same_kind : (o : Stored) → kinds_stored (to_land zero_page) o ≡ kinds_stored (to_land page) o
-    same_kind Nothing = refl
-    same_kind (Ssd i) = refl
-    same_kind (Hdd i) = refl
+    same_kind : (o : Option Stored) → kinds_stored (to_land zero_page) o ≡ kinds_stored (to_land page) o
+    same_kind None = refl
+    same_kind (Some (Ssd i)) = refl
+    same_kind (Some (Hdd i)) = refl
 
 -- the calls of one block
 module _ (b : Block) (c : ℕ) (page : List ℕ) (size : length page ≡ 4096) (w : Tally) (y : Box) (T : Twin w.box y) where
@@ -343,7 +345,7 @@ module _ (b : Block) (c : ℕ) (page : List ℕ) (size : length page ≡ 4096) (
 
 -- a list
 record Ended (n : Counts) (e : CostLeft) (m : Import) : Type 0 where
-  answer_is : e.answer ≡ answer_by m.met (plus n (counts_of m.kinds))
+  answer_is : e.answer ≡ Ok (answer_by m.met (plus n (counts_of m.kinds)))
   table_is : e.scratch ≡ m.box.table
 
 module _ (c : ℕ) (pages : ℕ → List ℕ) (size : (k : ℕ) → length (pages k) ≡ 4096) where
@@ -352,21 +354,21 @@ module _ (c : ℕ) (pages : ℕ → List ℕ) (size : (k : ℕ) → length (page
       → Ended n e (record { kinds = d.kinds ++ m.kinds; box = m.box; met = m.met })
   later {n} {w} {d} K {e} {m} E = record {
     answer_is = E.answer_is
-        ∙ ap (λ (k : Counts). answer_by m.met (plus k (counts_of m.kinds))) K.counts
-        ∙ ap (answer_by m.met) (counts-append n d.kinds m.kinds);
+        ∙ ap (λ (k : Counts). Ok (answer_by m.met (plus k (counts_of m.kinds)))) K.counts
+        ∙ ap (λ (k : Counts). Ok (answer_by m.met k)) (counts-append n d.kinds m.kinds);
     table_is = E.table_is;
   }
 
   place-ends : {n : Counts} {w : Tally} {d : Made} → Kept n w d → (place : ℕ) {e : CostLeft} {m : Import} → Ended w.counts e m
       → (p : Reply) → Ended n (met_or p place w e) (import_then p place d m)
-  place-ends K place E (refusal k) = record { answer_is = ap (Met k place) K.counts; table_is = K.twin.table }
+  place-ends K place E (refusal k) = record { answer_is = ap (λ (n : Counts). Ok (Met k place n)) K.counts; table_is = K.twin.table }
   place-ends K place E (answer k s) = later K E
   place-ends K place E (dealt k) = later K E
 
   run_ends : (blocks : List ℕ) (place : ℕ) (w : Tally) (y : Box) → Twin w.box y
       → Ended w.counts (cost_from c place blocks w) (import_all c pages place blocks y)
   unfolding cost_from import_all
-  run_ends [] place w y T = record { answer_is = ap Counted (counts_none w.counts); table_is = T.table }
+  run_ends [] place w y T = record { answer_is = ap (λ (n : Counts). Ok (Counted n)) (counts_none w.counts); table_is = T.table }
   run_ends (b ∷ blocks) place w y T =
       let a : Block = record { 0 = b } in
       let K = imports-kept a c (pages place) (size place) w y T in
@@ -394,19 +396,19 @@ cost_is_doing blocks caller scratch pages x size = record {
     q : Call
     q = ask (cost blocks caller (length scratch))
 
-    run : (o : Option Reason) → o ≡ none
+    run : (o : Option Refusal) → o ≡ None
         → ((cost_by o blocks caller scratch x).answer
-        ≡ answer_by (import_all caller pages 0 blocks x).met (counts_of (import_all caller pages 0 blocks x).kinds))
+        ≡ Ok (answer_by (import_all caller pages 0 blocks x).met (counts_of (import_all caller pages 0 blocks x).kinds)))
         × ((cost_by o blocks caller scratch x).scratch ≡ (import_all caller pages 0 blocks x).box.table)
-    run (some n) e = clash {b = true} refl (ap is_some e)
+    run (Some n) e = clash {b = true} refl (ap is_some e)
       where
-        is_some : Option Reason → Bool
-        is_some (some r) = true
-        is_some none = false
-    run none e =
+        is_some : Option Refusal → Bool
+        is_some (Some r) = true
+        is_some None = false
+    run None e =
         let E = run_ends caller pages size blocks 0 (not_started x) x (twin_self x) in
-        (E.answer_is ∙ ap (answer_by (import_all caller pages 0 blocks x).met) (none_plus _), E.table_is)
+        (E.answer_is ∙ ap (λ (k : Counts). Ok (answer_by (import_all caller pages 0 blocks x).met k)) (none_plus _), E.table_is)
 
-    stays : (o : Option Reason) → refused (decided o q x).said ≡ true → (cost_by o blocks caller scratch x).scratch ≡ scratch
-    stays (some n) h = refl
-    stays none h = clash {b = false} h refl
+    stays : (o : Option Refusal) → refused (decided o q x).said ≡ true → (cost_by o blocks caller scratch x).scratch ≡ scratch
+    stays (Some n) h = refl
+    stays None h = clash {b = false} h refl

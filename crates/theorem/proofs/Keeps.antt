@@ -4,7 +4,7 @@ use mathlib.Core.Path.{◌≡◌, refl, sym, ap, subst, ◌∙◌}
 use mathlib.Core.Logic.{◌⊎◌, inl, inr}
 use mathlib.Core.Bool.{Bool, true, false}
 use mathlib.Core.List.{List, [], ◌∷◌}
-use mathlib.Core.Option.{Option, some, none}
+use Rattle.std.specs.Prelude.{Option, Some, None}
 use native.Mathlib.Omega.{arith}
 use lib.ListN.{length}
 use Rattle.layout.specs.declared.Slot.{Slot}
@@ -16,7 +16,8 @@ use Rattle.protocol.specs.Rows.{valid, dirty}
 use Rattle.protocol.specs.Box.{Box}
 use Rattle.protocol.specs.Recovery.{metas_of, entry_in}
 use Rattle.protocol.specs.Plan.{Call, step, reopen, lowest_page}
-use Rattle.protocol.specs.Judge.{Reason, is_ready, judged}
+use Rattle.protocol.specs.declared.Refusal.{Refusal}
+use Rattle.protocol.specs.Judge.{is_ready, judged}
 use Rattle.protocol.specs.Calls.{result_of}
 use Rattle.protocol.specs.ReferenceDisk.{Disk}
 use Rattle.protocol.specs.Events.{World, Memory, Arrival, Event, call, reopens, cut, called, with_memory, taken_if, reopened, crashed, apply, run, CallFits, RightLength, Fits, AllFit}
@@ -74,32 +75,32 @@ same_place l j k b A = λ i. record { slot = ap as_slot A.0 i; page = A.1 i }
 
 -- a row that a look-up names is that of a kept entry
 module _ (l : Label) (k : Core) (S : Shape l k) (p : Plain) (M : Mending (abs l k) p) (b s : ℕ)
-    (e : places.slot_of (abs l k) b ≡ some s) where
+    (e : places.slot_of (abs l k) b ≡ Some s) where
   record Named : Type 0 where
     low : s < l.slots
     held : model.valid (row_at k.table s) ≡ true
     blocked : block_of (row_at k.table s) ≡ b
     shut_row : open_row (row_at k.table s) ≡ false
 
-  none_some : {A : Type 0} {t : ℕ} → none ≡ some t → A
+  none_some : {A : Type 0} {t : ℕ} → None ≡ Some t → A
   none_some q = let z : ◌≡◌ {A = ℕ} 0 1 = cc in absurd (omega arith)
 
   number_of : Option ℕ → ℕ
-  number_of none = 0
-  number_of (some t) = t
+  number_of None = 0
+  number_of (Some t) = t
 
   named : Named
   unfolding places.slot_of abs number_of
   named = go (found (row_at k.table) l.slots b) e
     where
-      go : {o : Option ℕ} → Found (row_at k.table) l.slots b o → shut_at (abs l k) o ≡ some s → Named
+      go : {o : Option ℕ} → Found (row_at k.table) l.slots b o → shut_at (abs l k) o ≡ Some s → Named
       go (Found.nowhere h) q = none_some q
       go (Found.at t i v f) q = by (told (open_row (row_at k.table t)))
         where
           by : Told (open_row (row_at k.table t)) → Named
           by (told_true o) = none_some (rw o at q)
           by (told_false o) =
-              let r : some t ≡ some s = rw o at q in
+              let r : Some t ≡ Some s = rw o at q in
               let z : t ≡ s = ap number_of r in
               record { low = rw (← z) i; held = rw (← z) v; blocked = rw (← z) f; shut_row = rw (← z) o }
 
@@ -178,11 +179,11 @@ goes_step l k S p M on d b =
 -- a call of a mending box: a step, a reopening, or refused
 core_call : (l : Label) (k : Core) (S : Shape l k) (p : Plain) (M : Mending (abs l k) p) (on : k.recovering ≡ true) (d : Disk) (b : ℕ)
     (c : Call) → CallFits c (world_of l k d)
-    → (o : Option Reason) → judged c (box_of_core l k) ≡ o → Goes l k b (called c (world_of l k d))
-core_call l k S p M on d b c f (some r) e =
+    → (o : Option Refusal) → judged c (box_of_core l k) ≡ o → Goes l k b (called c (world_of l k d))
+core_call l k S p M on d b c f (Some r) e =
     goes_to (sym (refused-same c (world_of l k d) r e))
     (goes_same {w = world_of l k d} (record { core = k; is_core = refl; shape = S; plain = p; mending = M }) b)
-core_call l k S p M on d b c f none e = go (mendable l k d on c f e)
+core_call l k S p M on d b c f None e = go (mendable l k d on c f e)
   where
     go : {c : Call} → Mendable c → Goes l k b (called c (world_of l k d))
     go steps = goes_step l k S p M on d b
@@ -265,17 +266,17 @@ goes_run l (e ∷ es) w U b f n = let G = goes_event l w U b n.0 e f.0 in
     goes_on G.like (goes_run l es (apply e w) G.under b f.1 n.1)
 
 -- the row is back in every such world
-under_back : (l : Label) (w : World) (U : Under l w) (b s : ℕ) → places.slot_of (abs l U.core) b ≡ some s
+under_back : (l : Label) (w : World) (U : Under l w) (b s : ℕ) → places.slot_of (abs l U.core) b ≡ Some s
     → Back w.box (record { 0 = b }) (record { 0 = s })
 under_back l w U b s e = subst (λ (x : Box). Back x (record { 0 = b }) (record { 0 = s })) (sym U.is_core)
     (back_of l U.core U.shape U.plain U.mending b s e)
 
-all_back : (l : Label) (es : List Event) (w : World) (U : Under l w) (b s : ℕ) → places.slot_of (abs l U.core) b ≡ some s
+all_back : (l : Label) (es : List Event) (w : World) (U : Under l w) (b s : ℕ) → places.slot_of (abs l U.core) b ≡ Some s
     → AllFit es w → NotYet es w → AllBack es (record { 0 = b }) (record { 0 = s }) w
 all_back l [] w U b s e f n = tt
 all_back l (g ∷ es) w U b s e f n =
     let G = goes_event l w U b n.0 g f.0 in
-    let q : places.slot_of (abs l G.under.core) b ≡ some s = G.like.0 ∙ e in
+    let q : places.slot_of (abs l G.under.core) b ≡ Some s = G.like.0 ∙ e in
     ((λ _. under_back l (apply g w) G.under b s q), all_back l es (apply g w) G.under b s q f.1 n.1)
 
 -- the first reopening, of a block outside the newest stored window
@@ -310,13 +311,13 @@ first_event l w I e f (whole j h) b out = first_memory l w (inv_held I) b out j 
 first_event l w I e f (broken c a j h) b out = first_memory l (crashed c a w) (crashed_held l c a w f.0 I) b out j h
 
 -- a slot of the model
-slot_of_lem : (o : Option ℕ) (s : Slot) → as_slot o ≡ some s → o ≡ some s.0
-slot_of_lem none s e = let z : ◌≡◌ {A = ℕ} 0 1 = cc in absurd (omega arith)
-slot_of_lem (some t) s e = ap back e
+slot_of_lem : (o : Option ℕ) (s : Slot) → as_slot o ≡ Some s → o ≡ Some s.0
+slot_of_lem None s e = let z : ◌≡◌ {A = ℕ} 0 1 = cc in absurd (omega arith)
+slot_of_lem (Some t) s e = ap back e
   where
     back : Option Slot → Option ℕ
-    back none = none
-    back (some u) = some u.0
+    back None = None
+    back (Some u) = Some u.0
 
 pub keeps_of : (l : Label) (w : World) → Inv l w → (e : Event) → Fits e w → Reopening w e → (b : Block) → b.0 < l.blocks
     → Outside (before e w).box.images b
@@ -344,5 +345,5 @@ keeps_of l w I e f r b h out es g n =
     kept = under_place H.under b.0 h ∙ same_place l H.under.core G.under.core b.0 H.like
         ∙ same_place l G.under.core J.core b.0 G.like ∙ sym at_first
 
-    slot_is : (s : Slot) → (place (before e w).box b).slot ≡ some s → places.slot_of (abs l G.under.core) b.0 ≡ some s.0
+    slot_is : (s : Slot) → (place (before e w).box b).slot ≡ Some s → places.slot_of (abs l G.under.core) b.0 ≡ Some s.0
     slot_is s q = G.like.0 ∙ slot_of_lem (places.slot_of (abs l J.core) b.0) s (ap (λ (x : Place). x.slot) (sym at_first) ∙ q)

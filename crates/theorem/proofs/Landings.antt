@@ -4,7 +4,7 @@ use mathlib.Core.Path.{◌≡◌, refl, sym, ap, subst, ◌∙◌}
 use mathlib.Core.Logic.{◌≢◌}
 use mathlib.Core.Bool.{Bool, true, false, not}
 use mathlib.Core.List.{List}
-use mathlib.Core.Option.{some, none}
+use Rattle.std.specs.Prelude.{Some, None}
 use native.Mathlib.Omega.{arith}
 use lib.ListN.{length, get_or, set, take}
 use lib.Seq.{get_or-set_other, set_comm}
@@ -32,7 +32,8 @@ use Rattle.protocol.specs.Condition.{open_as, condition_of, is_open, takes_write
 use Rattle.protocol.specs.Plan.{land, land_fetch, lands, landing, landing_fetch, plan}
 use Rattle.protocol.specs.Perform.{landed_flags, landed_state, data_store, perform}
 use Rattle.protocol.specs.Kinds.{Purpose, to_land_fetch, to_land, aims, a_service, kind}
-use Rattle.protocol.specs.Judge.{wrong_length, block_too_high, wrong_state, length_test, state_test, test, judged}
+use Rattle.protocol.specs.declared.Refusal.TheVariants.{WrongLength, BlockTooHigh, WrongState}
+use Rattle.protocol.specs.Judge.{length_test, state_test, test, judged}
 use Rattle.protocol.specs.Calls.{effect_of}
 use Rattle.protocol.specs.Beside.{Landing, of_write, of_fetch, landing_call, landing_block, LandsOpen, OtherBlock, TwoOpen, landed, EitherOrder, StillOpen}
 use Rattle.laws.proofs.refine.Flags.{changed_landed}
@@ -64,14 +65,14 @@ kind_is (of_fetch b) = refl
 
 -- no reason refuses a landing, and its block is open for it, at this slot
 record Goes (c : Landing) (x : Box) (s : Slot) : Type 0 where
-  no_reason : judged (landing_call c) x ≡ none
+  no_reason : judged (landing_call c) x ≡ None
   open_there : condition_of x.table (landing_block c) ≡ open_as (is_write c) s
 
-takes_it : (c : Landing) (x : Box) → judged (landing_call c) x ≡ none
+takes_it : (c : Landing) (x : Box) → judged (landing_call c) x ≡ None
     → state_test (purpose_of c) (condition_of x.table (landing_block c)) ≡ true
 unfolding test
-takes_it (of_write b page) x e = not-false _ (passed (land b page) x e wrong_state refl)
-takes_it (of_fetch b) x e = not-false _ (passed (land_fetch b) x e wrong_state refl)
+takes_it (of_write b page) x e = not-false _ (passed (land b page) x e WrongState refl)
+takes_it (of_fetch b) x e = not-false _ (passed (land_fetch b) x e WrongState refl)
 
 open_at : (c : Landing) (z : Condition) → is_open z ≡ true → state_test (purpose_of c) z ≡ true → (s : Slot) × (z ≡ open_as (is_write c) s)
 open_at c NotCached o t = clash {b = false} o refl
@@ -145,17 +146,17 @@ module _ (c : Landing) (x : Box) (s : Slot) (G : Goes c x s) where
       (changed_landed (is_write c) (box-legal.rows s.0 in_slot.0.low).flags 0 in_slot.0.held).still
       (λ e. n (sym in_slot.0.block ∙ e))
 
-  still_judged : (d : Landing) → OtherBlock c d → judged (landing_call d) x ≡ none → judged (landing_call d) shut ≡ none
+  still_judged : (d : Landing) → OtherBlock c d → judged (landing_call d) x ≡ None → judged (landing_call d) shut ≡ None
   unfolding test
   still_judged (of_write b page) n e =
       let q = passed (land b page) x e in
-      let size = (and_parts (length_test (label_in x.state) x.images x.table) _ (not-false _ (q wrong_length refl))).1 in
+      let size = (and_parts (length_test (label_in x.state) x.images x.table) _ (not-false _ (q WrongLength refl))).1 in
       accepted (land b page) shut (legal-first shut shut_legal box-ready (land b page) refl size)
-      (q block_too_high refl, (ap (λ (z : Condition). not (takes_write z)) (other-kept b n) ∙ q wrong_state refl, tt))
+      (q BlockTooHigh refl, (ap (λ (z : Condition). not (takes_write z)) (other-kept b n) ∙ q WrongState refl, tt))
   still_judged (of_fetch b) n e =
       let q = passed (land_fetch b) x e in
       accepted (land_fetch b) shut (legal-first shut shut_legal box-ready (land_fetch b) refl refl)
-      (q block_too_high refl, (ap (λ (z : Condition). not (takes_fetch z)) (other-kept b n) ∙ q wrong_state refl, tt))
+      (q BlockTooHigh refl, (ap (λ (z : Condition). not (takes_fetch z)) (other-kept b n) ∙ q WrongState refl, tt))
 
   still_goes : (d : Landing) (t : Slot) → OtherBlock c d → Goes d x t → Goes d shut t
   still_goes d t n H = record {
@@ -237,7 +238,7 @@ abbrev pub turned : {c d : Landing} {x : Box} → TwoOpen c d x → TwoOpen d c 
 turned T = record { one = T.other; other = T.one; different = λ e. T.different (sym e) }
 
 -- a landing stores a page
-pub lands-store : (c : Landing) (x : Box) → LandsOpen c x → (s : Store) × ((effect_of (landing_call c) x).store ≡ some s)
+pub lands-store : (c : Landing) (x : Box) → LandsOpen c x → (s : Store) × ((effect_of (landing_call c) x).store ≡ Some s)
 unfolding perform
 lands-store c x O =
     let G = goes c x O in

@@ -3,7 +3,7 @@ use Prim.Native.Nat.{ℕ, ◌<◌}
 use mathlib.Core.Path.{◌≡◌, refl, sym, ap, subst, ◌∙◌}
 use mathlib.Core.Bool.{true, false, not, ◌&&◌}
 use mathlib.Core.List.{List, [], ◌∷◌}
-use mathlib.Core.Option.{Option, some, none}
+use Rattle.std.specs.Prelude.{Option, Some, None}
 use native.Mathlib.Omega.{arith}
 use lib.ListN.{length}
 use borrow.Author.Tests.{leb-false, lt-leb}
@@ -20,7 +20,9 @@ use Rattle.protocol.specs.Condition.{condition_of, word_of, words_of, closed_slo
 use Rattle.protocol.specs.Plan.{Call, look_up, look_up_list, looking_up, plan}
 use Rattle.protocol.specs.Perform.{used_all, perform}
 use Rattle.protocol.specs.Kinds.{highest}
-use Rattle.protocol.specs.Judge.{Reason, block_too_high, test, judged}
+use Rattle.protocol.specs.declared.Refusal.{Refusal}
+use Rattle.protocol.specs.declared.Refusal.TheVariants.{BlockTooHigh}
+use Rattle.protocol.specs.Judge.{test, judged}
 use Rattle.protocol.specs.Calls.{decided, effect_of, result_of, words_by, words_left}
 use Rattle.protocol.specs.Demand3.{slot_said}
 use Rattle.protocol.specs.Beside.{word_said, Singles, singles, LooksAlike}
@@ -82,7 +84,7 @@ module _ (x : Box) (L : Legal x) (on : x.state.phase ≡ Ready) (b : Block) (low
   abbrev v : List ℕ
   v = used_all (closed_slot z) x.table
 
-  goes : judged (look_up b) x ≡ none
+  goes : judged (look_up b) x ≡ None
   unfolding test
   goes = accepted (look_up b) x (legal-first x L on (look_up b) refl refl) (lt-leb _ _ low, tt)
 
@@ -130,29 +132,29 @@ module _ (blocks words : List ℕ) (x : Box) where
   c = look_up_list blocks (length words)
 
   module _ (f : refused (result_of c x).said ≡ false) where
-    e : judged c x ≡ none
+    e : judged c x ≡ None
     e = none_of c x f
 
     all-singles : singles blocks x ≡ listed blocks x
     unfolding test
     all-singles = singles_are blocks x (service_legal c x refl e) (service_ready c x refl e)
-        (below-highest _ blocks (leb-false _ _ (passed c x e block_too_high refl)))
+        (below-highest _ blocks (leb-false _ _ (passed c x e BlockTooHigh refl)))
 
     words_are : words_left blocks words x ≡ (singles blocks x).words
     unfolding words_left
-    words_are = ap (λ (o : Option Reason). words_by o x.table blocks words) e ∙ ap (λ (s : Singles). s.words) (sym all-singles)
+    words_are = ap (λ (o : Option Refusal). words_by o x.table blocks words) e ∙ ap (λ (s : Singles). s.words) (sym all-singles)
 
     box_is : box_after (result_of c x) ≡ (singles blocks x).box
     unfolding effect_of plan perform
-    box_is = ap (λ (o : Option Reason). box_after (left (decided o c x) x.images)) e ∙ ap (λ (s : Singles). s.box) (sym all-singles)
+    box_is = ap (λ (o : Option Refusal). box_after (left (decided o c x) x.images)) e ∙ ap (λ (s : Singles). s.box) (sym all-singles)
 
   no_words : refused (result_of c x).said ≡ true → words_left blocks words x ≡ words
   unfolding words_left effect_of
   no_words = go (judged c x) refl
     where
-      go : (o : Option Reason) → judged c x ≡ o → refused (decided o c x).said ≡ true → words_by o x.table blocks words ≡ words
-      go (some r) j h = refl
-      go none j h = clash h (plan_answers c x j)
+      go : (o : Option Refusal) → judged c x ≡ o → refused (decided o c x).said ≡ true → words_by o x.table blocks words ≡ words
+      go (Some r) j h = refl
+      go None j h = clash h (plan_answers c x j)
 
 pub looks-alike : LooksAlike
 looks-alike blocks words x = record {

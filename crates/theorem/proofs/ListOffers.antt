@@ -4,7 +4,8 @@ use mathlib.Core.Path.{◌≡◌, refl, sym, ap, subst, ◌∙◌}
 use mathlib.Core.Logic.{◌≢◌}
 use mathlib.Core.Bool.{Bool, true, false, not, ◌&&◌, ◌||◌, and-false}
 use mathlib.Core.List.{List, [], ◌∷◌, ◌++◌}
-use mathlib.Core.Option.{Option, some, none, some-injective, some-ne-none}
+use Rattle.std.specs.Prelude.{Option, Some, None}
+use Rattle.std.proofs.lemmas.Option.{same_Some, none-some}
 use native.Mathlib.Omega.{arith}
 use lib.ListN.{length, get_or, take}
 use lib.Dec.{ltb, leb}
@@ -34,7 +35,9 @@ use Rattle.protocol.specs.Plan.{offer, offer_list, grown, Move, takes_as, takes,
 use Rattle.protocol.specs.Sweep.{Victim, sweep}
 use Rattle.protocol.specs.Metadata.{store_place}
 use Rattle.protocol.specs.Perform.{confirmed, perform}
-use Rattle.protocol.specs.Judge.{Reason, number_of, block_too_high, slot_open, window_full, all_open, import_full, unknown_caller, agree_test, test, judged}
+use Rattle.protocol.specs.declared.Refusal.{Refusal}
+use Rattle.protocol.specs.declared.Refusal.TheVariants.{BlockTooHigh, SlotOpen, WindowFull, AllOpen, ImportFull, UnknownCaller}
+use Rattle.protocol.specs.Judge.{number_of, agree_test, test, judged}
 use Rattle.protocol.specs.Calls.{effect_of, result_of}
 use Rattle.protocol.specs.Beside.{OfferAnswer, says_announced, says_overwrite, says_copied, stamped_at, at_stamp, is_taken, Offers, stored_pages, one_by_one, EndsList, by_refusal, by_copy, by_page, AsOffers, ListAsOffers}
 use Rattle.laws.proofs.model.Base.{Window}
@@ -91,9 +94,9 @@ module _ (y : Box) (L : Legal y) (on : y.state.phase ≡ Ready) {s : Slot} {b : 
   }
 
 -- another page than the first announced, so one was announced
-page-other : (o : Option ℕ) (p : ℕ) → on_page o p ≡ false → (q : ℕ) × (o ≡ some q) × (p ≢ q)
-page-other none p e = clash {b = true} refl e
-page-other (some q) p e = (q, refl, eqb-false p q e)
+page-other : (o : Option ℕ) (p : ℕ) → on_page o p ≡ false → (q : ℕ) × (o ≡ Some q) × (p ≢ q)
+page-other None p e = clash {b = true} refl e
+page-other (Some q) p e = (q, refl, eqb-false p q e)
 
 pub never : {p : Reply} → OfferAnswer p → p ≢ nothing_to_do
 never (says_announced s) e = omega (arith, ap code_in e)
@@ -111,8 +114,8 @@ stamped_as m u r = put_window (with_stamp r m) u (window_of r)
 module _ (x : Box) (on : x.state.phase ≡ Ready) (caller : ℕ) (known : ltb 1 caller ≡ false) where
   -- settled by the first store
   abbrev unconfirmed_by : Option ℕ → Bool
-  unconfirmed_by none = x.state.unconfirmed
-  unconfirmed_by (some q) = false
+  unconfirmed_by None = x.state.unconfirmed
+  unconfirmed_by (Some q) = false
 
   -- the box of single offers after the places that z dealt with: at another stamp, with other images
   abbrev twin : Images → ℕ → Offered → Box
@@ -153,8 +156,8 @@ module _ (x : Box) (on : x.state.phase ≡ Ready) (caller : ℕ) (known : ltb 1 
       by false v = refl
 
       go : (o : Option Victim) → takes (twin im m z).state b caller 7 o ≡ takes (offered_box x z).state b caller 7 o
-      go none = refl
-      go (some v) = by (dirty (row_flags v.table v.slot)) v
+      go None = refl
+      go (Some v) = by (dirty (row_flags v.table v.slot)) v
   offering-same im m z b (Clean s) = refl
   offering-same im m z b (Dirty s) = refl
   offering-same im m z b (Writing s) = refl
@@ -164,13 +167,13 @@ module _ (x : Box) (on : x.state.phase ≡ Ready) (caller : ℕ) (known : ltb 1 
   data Ends (z : Offered) : Reply → Type 0 where
     refused_by : (k : ℕ) → Ends z (refusal k)
     copied_out_is : Ends z copied_out
-    elsewhere : (s : Slot) (q : ℕ) → z.page ≡ some q → meta_of s ≢ q → Ends z (announced s)
+    elsewhere : (s : Slot) (q : ℕ) → z.page ≡ Some q → meta_of s ≢ q → Ends z (announced s)
 
   data Step (im : Images) (m : ℕ) (z : Offered) (b : Block) : Option Offered → Type 0 where
     goes_on : (y : Offered) (im' : Images) (m' : ℕ) → y.places ≡ suc z.places → m' ≤ suc m → Sized im' → Legal (offered_box x y)
         → is_taken (result_of (offer b caller) (twin im m z)).said ≡ true
-        → box_after (result_of (offer b caller) (twin im m z)) ≡ twin im' m' y → Step im m z b (some y)
-    stops : Ends z (result_of (offer b caller) (twin im m z)).said → Step im m z b none
+        → box_after (result_of (offer b caller) (twin im m z)) ≡ twin im' m' y → Step im m z b (Some y)
+    stops : Ends z (result_of (offer b caller) (twin im m z)).said → Step im m z b None
 
   module _ (im : Images) (m : ℕ) (z : Offered) (I : Sized im) (L : Legal (offered_box x z))
       (spare : m < opening_bound (label_in x.state)) (b : Block) where
@@ -203,7 +206,7 @@ module _ (x : Box) (on : x.state.phase ≡ Ready) (caller : ℕ) (known : ltb 1 
         record { low = q.0; shut = r.0; import_few = s.0; few_open = s.1; some_shut = t.1 }
 
     -- a place that is not declined is accepted, and the other way round
-    goes : Asked → judged (offer b caller) y ≡ none
+    goes : Asked → judged (offer b caller) y ≡ None
     unfolding test callers_in
     goes A =
         accepted (offer b caller) y (legal-first y Ly on (offer b caller) refl refl) (
@@ -226,26 +229,26 @@ module _ (x : Box) (on : x.state.phase ≡ Ready) (caller : ℕ) (known : ltb 1 
           ),
         )
 
-    not_declined : judged (offer b caller) y ≡ none → declined ≡ false
+    not_declined : judged (offer b caller) y ≡ None → declined ≡ false
     unfolding test callers_in
     not_declined e =
         let q = passed (offer b caller) y e in
         rw (
-          q block_too_high refl,
-          q slot_open refl,
-          one_of (not (takes_write k)) (import_open caller (offered_box x z).state) (leb 63 (open_rows z.table)) (q import_full refl) (q window_full refl),
-        ) (q all_open refl)
+          q BlockTooHigh refl,
+          q SlotOpen refl,
+          one_of (not (takes_write k)) (import_open caller (offered_box x z).state) (leb 63 (open_rows z.table)) (q ImportFull refl) (q WindowFull refl),
+        ) (q AllOpen refl)
 
     taken : Asked → Taken (offered_box x z) (offering (offered_box x z) b caller k)
     taken A = offers (offered_box x z) (fit L) b caller known (leb-false _ _ A.low) (here (offered_box x z) (fit L) b) A.shut
         A.import_few A.few_open
 
-    made : judged (offer b caller) y ≡ none → {v : Move} → offering y b caller k ≡ v → effect_of (offer b caller) y ≡ perform v y
+    made : judged (offer b caller) y ≡ None → {v : Move} → offering y b caller k ≡ v → effect_of (offer b caller) y ≡ perform v y
     unfolding plan
     made j {v} e = does (offer b caller) y v j e
 
     -- by what the offer does
-    by_turn : judged (offer b caller) y ≡ none → {v : Move} → Taken (offered_box x z) v → offering y b caller k ≡ v
+    by_turn : judged (offer b caller) y ≡ None → {v : Move} → Taken (offered_box x z) v → offering y b caller k ≡ v
         → Step im m z b (dealt_with z v)
     unfolding perform confirmed store_place
     by_turn j (taken-stay still_overwrite) e =
@@ -274,9 +277,9 @@ module _ (x : Box) (on : x.state.phase ≡ Ready) (caller : ℕ) (known : ltb 1 
     unfolding placed
     step = go (told declined)
       where
-        refused_so : (o : Option Reason) → judged (offer b caller) y ≡ o → declined ≡ true → Ends z (result_of (offer b caller) y).said
-        refused_so none j e = clash e (not_declined j)
-        refused_so (some r) j e = subst (Ends z) (ap (λ (f : Effect). f.said) (sym (refuses (offer b caller) y r j))) (refused_by (number_of r))
+        refused_so : (o : Option Refusal) → judged (offer b caller) y ≡ o → declined ≡ true → Ends z (result_of (offer b caller) y).said
+        refused_so None j e = clash e (not_declined j)
+        refused_so (Some r) j e = subst (Ends z) (ap (λ (f : Effect). f.said) (sym (refuses (offer b caller) y r j))) (refused_by (number_of r))
 
         go : Told declined → Step im m z b (placed (offered_box x z) caller z b)
         go (told_true e) = subst (λ (d : Bool). Step im m z b (placed_as d z (offering (offered_box x z) b caller k))) (sym e)
@@ -313,7 +316,7 @@ module _ (x : Box) (on : x.state.phase ≡ Ready) (caller : ℕ) (known : ltb 1 
     where
       go : ((im : Images) (m : ℕ) (z : Offered) → Sized im → Legal (offered_box x z) → m + length blocks ≤ opening_bound (label_in x.state)
           → Alike im m z blocks (offers_from x caller z blocks)) → {o : Option Offered} → Step im m z (record { 0 = b }) o
-          → Alike im m z (b ∷ blocks) (elim o [ none ↦ z | some y ↦ offers_from x caller y blocks ])
+          → Alike im m z (b ∷ blocks) (elim o [ None ↦ z | Some y ↦ offers_from x caller y blocks ])
       go rest (stops e) = record {
         count = 0;
         most = omega arith;
@@ -364,7 +367,7 @@ module _ (x : Box) (L : Legal x) (on : x.state.phase ≡ Ready) (caller : ℕ) (
     state : stamped_as 0 (unconfirmed_by x on caller known z.page) (grown x.state z.hand z.window z.callers)
         ≡ stamped_at 0 e.state
     stamp : e.state.newest ≡ x.state.newest + stored_pages (stored_of e.store)
-    page : (q : ℕ) → z.page ≡ some q → stored_of e.store ≡ Ssd (meta_place (label_in x.state) q)
+    page : (q : ℕ) → z.page ≡ Some q → stored_of e.store ≡ Some (Ssd (meta_place (label_in x.state) q))
 
   announcing-leaves : {o : Option ℕ} {t : List ℕ} {h : Slot} {w : List Slot} {cs : List ℕ} → Ran x L S caller known o t h w cs → (k n : ℕ)
       → (perform (announcing o (offered_of k o t h w cs)) x).said ≡ dealt n
@@ -375,14 +378,14 @@ module _ (x : Box) (L : Legal x) (on : x.state.phase ≡ Ready) (caller : ℕ) (
     table = refl;
     state = ap (stamped_as 0 x.state.unconfirmed) (grown_self x L);
     stamp = omega arith;
-    page = λ q e. absurd (some-ne-none q (sym e));
+    page = λ q e. absurd (none-some q e);
   }
   announcing-leaves (ran_some {q} Os) k n s = record {
     counted = dealt_is k n s;
     table = refl;
     state = refl;
     stamp = refl;
-    page = λ p e. ap (λ (i : ℕ). Ssd (meta_place (label_in x.state) i)) (some-injective q p e);
+    page = λ p e. ap (λ (i : ℕ). Some (Ssd (meta_place (label_in x.state) i))) (same_Some q p e);
   }
 
   together-leaves : {first : Move} → Taken x first → (z : Offered) → RanTo x L S caller known z → (k n : ℕ)
@@ -391,14 +394,14 @@ module _ (x : Box) (L : Legal x) (on : x.state.phase ≡ Ready) (caller : ℕ) (
   together-leaves T z R (suc k) n s = (omega arith, announcing-leaves R z.places n s)
 
   -- the first place alone
-  first_taken : (blocks : List ℕ) → judged (offer_list blocks caller) x ≡ none
+  first_taken : (blocks : List ℕ) → judged (offer_list blocks caller) x ≡ None
       → Taken x (offering x (first_block blocks) caller (condition_of x.table (first_block blocks)))
   unfolding test
   first_taken blocks e =
       let q = passed (offer_list blocks caller) x e in
       let b : Block = first_block blocks in
-      offers x (fit L) b caller known (leb-false _ _ (q block_too_high refl)) (here x (fit L) b) (q slot_open refl) (q import_full refl)
-      (q window_full refl)
+      offers x (fit L) b caller known (leb-false _ _ (q BlockTooHigh refl)) (here x (fit L) b) (q SlotOpen refl) (q ImportFull refl)
+      (q WindowFull refl)
 
   starts : offered_box x (not_yet x) ≡ x
   starts = λ i. record { images = x.images; table = x.table; state = grown_self x L i }
@@ -413,7 +416,7 @@ module _ (x : Box) (L : Legal x) (on : x.state.phase ≡ Ready) (caller : ℕ) (
   ended z e W copied_out_is = by_copy
   ended z e W (elsewhere s q h d) = by_page s q (W.page q h) d
 
-  module _ (blocks : List ℕ) (n m : ℕ) (j : judged (offer_list blocks caller) x ≡ none) (said : (result_of (offer_list blocks caller) x).said ≡ dealt n)
+  module _ (blocks : List ℕ) (n m : ℕ) (j : judged (offer_list blocks caller) x ≡ None) (said : (result_of (offer_list blocks caller) x).said ≡ dealt n)
       (h : m + length blocks ≤ opening_bound (label_in x.state)) where
     z : Offered
     z = offers_from x caller (not_yet x) blocks
@@ -477,4 +480,4 @@ unfolding test
 list_as_offers blocks caller n m x said h =
     let j = none_of (offer_list blocks caller) x (ap refused said) in
     as_offers x (service_legal (offer_list blocks caller) x refl j) (service_ready (offer_list blocks caller) x refl j) caller
-    (passed (offer_list blocks caller) x j unknown_caller refl) blocks n m j said h
+    (passed (offer_list blocks caller) x j UnknownCaller refl) blocks n m j said h

@@ -3,7 +3,7 @@ use Prim.Native.Nat.{ℕ, zero, suc, ◌+◌, ◌≤◌, ◌<◌}
 use mathlib.Core.Path.{◌≡◌, ap, subst, ◌∙◌}
 use mathlib.Core.Bool.{true, false, not}
 use mathlib.Core.List.{List}
-use mathlib.Core.Option.{Option, none}
+use Rattle.std.specs.Prelude.{Option, None}
 use native.Mathlib.Omega.{arith}
 use lib.ListN.{length}
 use borrow.Author.Tests.{not-true}
@@ -17,7 +17,8 @@ use Rattle.protocol.specs.Box.{Box}
 use Rattle.protocol.specs.Recovery.{off_page}
 use Rattle.protocol.specs.Plan.{step, lowest_page, stepping, plan}
 use Rattle.protocol.specs.Perform.{confirmed, perform}
-use Rattle.protocol.specs.Judge.{Reason, is_empty, agree_test, judged}
+use Rattle.protocol.specs.declared.Refusal.{Refusal}
+use Rattle.protocol.specs.Judge.{is_empty, agree_test, judged}
 use Rattle.protocol.specs.Calls.{decided, effect_of, result_of}
 use Rattle.protocol.specs.Events.{steps}
 use Rattle.protocol.specs.Beside.{MendsSoon}
@@ -29,14 +30,14 @@ use Rattle.theorem.proofs.UpdateFirst.{none_of}
 use Rattle.laws.proofs.Accepted.{step_legal}
 
 -- a step that is not refused leaves the pending slots of other pages
-module _ (x : Box) (e : judged step x ≡ none) (on : x.state.phase ≡ Recovering) where
+module _ (x : Box) (e : judged step x ≡ None) (on : x.state.phase ≡ Recovering) where
   rest : List Slot
   rest = off_page (lowest_page (window_in x.state)) (window_in x.state)
 
   pub step_window : window_in (result_of step x).state ≡ off_page (lowest_page (window_in x.state)) (window_in x.state)
   unfolding effect_of plan perform confirmed window_in
   step_window =
-      ap (λ (o : Option Reason). window_in (decided o step x).state) e
+      ap (λ (o : Option Refusal). window_in (decided o step x).state) e
       ∙ ap (λ (q : Phase). window_in (perform (stepping x.state q) x).state) on
       ∙ take-array (off_page (lowest_page (window_in x.state)) (window_in x.state))
 
@@ -53,7 +54,7 @@ module _ (x : Box) (e : judged step x ≡ none) (on : x.state.phase ≡ Recoveri
 
 module _ (x : Box) (k : ℕ) (f : (j : ℕ) → j ≤ k → refused (result_of step (steps j x)).said ≡ false)
     (on : (j : ℕ) → j ≤ k → (steps j x).state.phase ≡ Recovering) where
-  taken : (j : ℕ) → j ≤ k → judged step (steps j x) ≡ none
+  taken : (j : ℕ) → j ≤ k → judged step (steps j x) ≡ None
   taken j h = none_of step (steps j x) (f j h)
 
   less : (j : ℕ) → j ≤ k → length (window_in (steps j x).state) + j ≤ 63

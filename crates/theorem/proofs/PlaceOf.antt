@@ -4,7 +4,7 @@ use mathlib.Core.Path.{◌≡◌, refl, sym, ap, subst, ◌∙◌}
 use mathlib.Core.Logic.{◌≢◌}
 use mathlib.Core.Bool.{Bool, true, false, ◌||◌, or-true}
 use mathlib.Core.List.{List, [], ◌∷◌}
-use mathlib.Core.Option.{Option, some, none}
+use Rattle.std.specs.Prelude.{Option, Some, None}
 use native.Mathlib.Omega.{arith}
 use native.Mathlib.Nat.{zero-add}
 use lib.ListN.{length, get_or}
@@ -104,7 +104,7 @@ module _ (l : Label) (k : Core) (S : Shape l k) (p : Plain) (St : Stored (abs l 
           let f : valid (entry i).flags ≡ true = sym (ap valid (flags_are i j)) ∙ v in
           let same : i ≡ s = once_of i s (valid_entry l k p S.images St i j ∙ f) x
           (block_entry l k p S.images St i j f ∙ sym (block_is i j) ∙ e ∙ sym y) in
-          ap (λ (n : ℕ). some (record { 0 = n })) (zero-add i ∙ same)
+          ap (λ (n : ℕ). Some (record { 0 = n })) (zero-add i ∙ same)
         where
           once_of : (s t : ℕ) → model.valid (entry_row l (metas_of l k.ssd) s) ≡ true → model.valid (entry_row l (metas_of l k.ssd) t) ≡ true
               → block_of (entry_row l (metas_of l k.ssd) s) ≡ block_of (entry_row l (metas_of l k.ssd) t) → s ≡ t
@@ -133,15 +133,15 @@ module _ (l : Label) (k : Core) (S : Shape l k) (p : Plain) (St : Stored (abs l 
     shut_all : (o : Option ℕ) → (shut_at (abs l k) o ≡ o) ×
         ((entry_place l (record { ssd = k.ssd; hdd = k.hdd }) (record { 0 = b }) (as_slot o)).page ≡ view_at (abs l k) b o)
     unfolding abs
-    shut_all none = (refl, refl)
-    shut_all (some s) = rw (row_shut (abs l k) p St rows b s) (refl, refl)
+    shut_all None = (refl, refl)
+    shut_all (Some s) = rw (row_shut (abs l k) p St rows b s) (refl, refl)
 
     slot_of_entry : (o : Option Slot) → (entry_place l (record { ssd = k.ssd; hdd = k.hdd }) (record { 0 = b }) o).slot ≡ o
-    slot_of_entry none = refl
-    slot_of_entry (some s) = refl
+    slot_of_entry None = refl
+    slot_of_entry (Some s) = refl
 
-    none_is : places.slot_of (abs l k) b ≡ none → seen.view (abs l k) b ≡ page_at k.hdd b
-        → entry_place l (record { ssd = k.ssd; hdd = k.hdd }) (record { 0 = b }) none ≡ model_place l k b
+    none_is : places.slot_of (abs l k) b ≡ None → seen.view (abs l k) b ≡ page_at k.hdd b
+        → entry_place l (record { ssd = k.ssd; hdd = k.hdd }) (record { 0 = b }) None ≡ model_place l k b
     none_is e f = λ i. record { slot = ap as_slot (sym e) i; page = sym f i }
 
     found_is : places.slot_of (abs l k) b ≡ seen.find (abs l k).entry (abs l k).slots b

@@ -3,7 +3,7 @@ use Prim.Native.Nat.{ℕ}
 use mathlib.Core.Path.{◌≡◌, refl, sym, ap, subst, ◌∙◌}
 use mathlib.Core.Bool.{Bool, true, false, ◌&&◌}
 use mathlib.Core.List.{List, [], ◌∷◌}
-use mathlib.Core.Option.{Option, some, none}
+use Rattle.std.specs.Prelude.{Option, Some, None}
 use lib.ListN.{length}
 use lib.Dec.{eqb}
 use borrow.Author.Tests.{eqb-true, not-false}
@@ -15,7 +15,9 @@ use Rattle.protocol.specs.Reply.{refused}
 use Rattle.protocol.specs.Box.{Images, Box, Store, applied}
 use Rattle.protocol.specs.Plan.{Call, format, step, reopen, plan}
 use Rattle.protocol.specs.Perform.{perform}
-use Rattle.protocol.specs.Judge.{Reason, wrong_length, wrong_phase, test, lengths_test, length_test, judged}
+use Rattle.protocol.specs.declared.Refusal.{Refusal}
+use Rattle.protocol.specs.declared.Refusal.TheVariants.{WrongLength, WrongPhase}
+use Rattle.protocol.specs.Judge.{test, lengths_test, length_test, judged}
 use Rattle.protocol.specs.Calls.{decided, effect_of, result_of}
 use Rattle.protocol.specs.ReferenceDisk.{Disk}
 use Rattle.protocol.specs.Events.{World, Memory, Arrival, old, new, Event, call, reopens, cut, called, with_memory, taken_if, reopened, survived, made, crashed, apply, run, CallFits, RightLength, Fits, AllFit}
@@ -31,12 +33,12 @@ use Rattle.theorem.proofs.refine.MendingCalls.{phased_stored, step_inv, reopen_i
 use Rattle.laws.proofs.refine.Abstract.{Core, box_of_core, abs, ImagesKept, Shape, Agrees, Phased, is_ready_is, is_mending, phased_tied, Held, Inv}
 
 -- a call that no reason refuses answers what its plan says
-pub said_of : (c : Call) (x : Box) → judged c x ≡ none → refused (result_of c x).said ≡ refused (perform (plan c x) x).said
+pub said_of : (c : Call) (x : Box) → judged c x ≡ None → refused (result_of c x).said ≡ refused (perform (plan c x) x).said
 unfolding effect_of
-said_of c x e = ap (λ (o : Option Reason). refused (decided o c x).said) e
+said_of c x e = ap (λ (o : Option Refusal). refused (decided o c x).said) e
 
 -- a format that is not refused does not fit a list
-no_format : {A : Type 0} (slots blocks : ℕ) (w : World) → CallFits (format slots blocks) w → judged (format slots blocks) w.box ≡ none
+no_format : {A : Type 0} (slots blocks : ℕ) (w : World) → CallFits (format slots blocks) w → judged (format slots blocks) w.box ≡ None
     → A
 unfolding plan perform
 no_format slots blocks w f e = clash f (said_of (format slots blocks) w.box e)
@@ -47,21 +49,21 @@ pub data Mendable : Call → Type 0 where
   reopens_it : Mendable reopen
 
 pub mendable : (l : Label) (k : Core) (d : Disk) → k.recovering ≡ true → (c : Call) → CallFits c (world_of l k d)
-    → judged c (box_of_core l k) ≡ none → Mendable c
+    → judged c (box_of_core l k) ≡ None → Mendable c
 mendable l k d on c = go (sorted c)
   where
-    go : {c : Call} → Sorted c → CallFits c (world_of l k d) → judged c (box_of_core l k) ≡ none → Mendable c
+    go : {c : Call} → Sorted c → CallFits c (world_of l k d) → judged c (box_of_core l k) ≡ None → Mendable c
     go (is_format slots blocks) f e = no_format slots blocks (world_of l k d) f e
     go is_step f e = steps
     go is_reopen f e = reopens_it
     go (is_service {c} q _) f e =
-        clash {b = true} refl (unfold test in (rw (q, on) at (passed_first c (box_of_core l k) e q wrong_phase refl)))
+        clash {b = true} refl (unfold test in (rw (q, on) at (passed_first c (box_of_core l k) e q WrongPhase refl)))
 
 -- a call that is not refused
 module _ (l : Label) (k : Core) (S : Shape l k) (d : Disk) (p : Plain) (A : Agrees l d p) where
-  made_as : (c : Call) → judged c (box_of_core l k) ≡ none
+  made_as : (c : Call) → judged c (box_of_core l k) ≡ None
       → called c (world_of l k d) ≡ called_as c (perform (plan c (box_of_core l k)) (box_of_core l k)) (world_of l k d)
-  made_as c e = called_as_lem c (world_of l k d) ∙ ap (λ (o : Option Reason). called_as c (decided o c (box_of_core l k)) (world_of l k d)) e
+  made_as c e = called_as_lem c (world_of l k d) ∙ ap (λ (o : Option Refusal). called_as c (decided o c (box_of_core l k)) (world_of l k d)) e
 
   reopen_call : Stored (abs l k) p → Inv l (called reopen (world_of l k d))
   reopen_call St = reopen_inv l k p S.images St (box_of_core l k) refl S.table-size d A
@@ -71,15 +73,15 @@ module _ (l : Label) (k : Core) (S : Shape l k) (d : Disk) (p : Plain) (A : Agre
     on : k.recovering ≡ false
     on = unfold abs in R.phase
 
-    ready_call : {c : Call} → Sorted c → CallFits c (world_of l k d) → judged c (box_of_core l k) ≡ none → Inv l (called c (world_of l k d))
+    ready_call : {c : Call} → Sorted c → CallFits c (world_of l k d) → judged c (box_of_core l k) ≡ None → Inv l (called c (world_of l k d))
     ready_call (is_format slots blocks) f e = no_format slots blocks (world_of l k d) f e
-    ready_call is_step f e = clash {b = true} refl (unfold test in (rw on at (passed step (box_of_core l k) e wrong_phase refl)))
+    ready_call is_step f e = clash {b = true} refl (unfold test in (rw on at (passed step (box_of_core l k) e WrongPhase refl)))
     ready_call is_reopen f e = reopen_call (phased_stored (abs l k) p (is_ready_is R))
     ready_call (is_service {c} K does) f e = rw (made_as c e) (service_next l k S d p A R c K (does (box_of_core l k) e))
 
   -- a mending box
   module _ (M : Mending (abs l k) p) (on : k.recovering ≡ true) where
-    mending_call : (c : Call) → CallFits c (world_of l k d) → judged c (box_of_core l k) ≡ none → Inv l (called c (world_of l k d))
+    mending_call : (c : Call) → CallFits c (world_of l k d) → judged c (box_of_core l k) ≡ None → Inv l (called c (world_of l k d))
     mending_call c f e = go (mendable l k d on c f e)
       where
         go : {c : Call} → Mendable c → Inv l (called c (world_of l k d))
@@ -100,10 +102,10 @@ core_inv I = record { core = I.core; is_core = refl; shape = I.shape; plain = I.
 pub call_inv : (l : Label) (c : Call) (w : World) → CallFits c w → Inv l w → Inv l (called c w)
 call_inv l c w f I = at_core (λ v. CallFits c v → Inv l (called c v)) I go f
   where
-    by : (o : Option Reason) → judged c (box_of_core l I.core) ≡ o → CallFits c (world_of l I.core w.disk)
+    by : (o : Option Refusal) → judged c (box_of_core l I.core) ≡ o → CallFits c (world_of l I.core w.disk)
         → Inv l (called c (world_of l I.core w.disk))
-    by (some r) e g = rw (refused-same c (world_of l I.core w.disk) r e) (core_inv I)
-    by none e g = phase I.phased
+    by (Some r) e g = rw (refused-same c (world_of l I.core w.disk) r e) (core_inv I)
+    by None e g = phase I.phased
       where
         phase : Phased (abs l I.core) I.plain → Inv l (called c (world_of l I.core w.disk))
         phase (is_ready_is R) = ready_call l I.core I.shape w.disk I.plain I.agrees R (sorted c) g e
@@ -118,14 +120,14 @@ module _ (l : Label) (k : Core) (p : Plain) (K : ImagesKept l k.ssd k.hdd) (St :
   pub label_there : label_at x.images.ssd ≡ l
   label_there = ap (λ (i : Images). label_at i.ssd) im ∙ label_is l k p K St
 
-  table-judged : judged reopen x ≡ none → length x.table ≡ table_length l
+  table-judged : judged reopen x ≡ None → length x.table ≡ table_length l
   unfolding test length_test lengths_test
   table-judged e =
       let a = label_at x.images.ssd in
       let i = eqb (length x.images.ssd) (ssd_length a) in
       let j = eqb (length x.images.hdd) (hdd_length a) in
       let t = eqb (length x.table) (table_length a) in
-      let q = not-false _ (passed reopen x e wrong_length refl) in
+      let q = not-false _ (passed reopen x e WrongLength refl) in
       let r : t ≡ true = (and_parts j t (and_parts i (j && t) (and_parts (i && (j && t)) true q).0).1).1 in
       eqb-true _ _ r ∙ ap table_length label_there
 
@@ -133,13 +135,13 @@ module _ (l : Label) (k : Core) (p : Plain) (K : ImagesKept l k.ssd k.hdd) (St :
   unfolding effect_of
   table-right f = go (judged reopen x) refl
     where
-      go : (o : Option Reason) → judged reopen x ≡ o → length x.table ≡ table_length l
-      go (some r) e = clash {b = refused (decided (judged reopen x) reopen x).said} (rw e) f
-      go none e = table-judged e
+      go : (o : Option Refusal) → judged reopen x ≡ o → length x.table ≡ table_length l
+      go (Some r) e = clash {b = refused (decided (judged reopen x) reopen x).said} (rw e) f
+      go None e = table-judged e
 
   pub reopen_taken : length x.table ≡ table_length l → refused (result_of reopen x).said ≡ false
   unfolding effect_of plan
-  reopen_taken h = ap (λ (o : Option Reason). refused (decided o reopen x).said) (reopen_judged l k p K St x im h)
+  reopen_taken h = ap (λ (o : Option Refusal). refused (decided o reopen x).said) (reopen_judged l k p K St x im h)
       ∙ (unfold perform in refl)
 
 -- a reachable world is held
@@ -203,7 +205,7 @@ cut_at c w o = let v = taken_if (made new o) (called c w) w in
     record { box = record { images = survived new o w.box.images; table = v.box.table; state = v.box.state }; disk = v.disk }
 
 -- where there is one, the world after the call
-pub crashed-made : (c : Call) (w : World) (s : Store) → (effect_of c w.box).store ≡ some s → crashed c new w ≡ called c w
+pub crashed-made : (c : Call) (w : World) (s : Store) → (effect_of c w.box).store ≡ Some s → crashed c new w ≡ called c w
 unfolding crashed
 crashed-made c w s e =
     ap (cut_at c w) e
@@ -226,8 +228,8 @@ crashed-or c old w = inr refl
 crashed-or c new w = go (effect_of c w.box).store refl
   where
     go : (o : Option Store) → (effect_of c w.box).store ≡ o → CutLeaves c new w
-    go none e = inr (ap (cut_at c w) e)
-    go (some s) e = inl (crashed-made c w s e)
+    go None e = inr (ap (cut_at c w) e)
+    go (Some s) e = inl (crashed-made c w s e)
 
 pub crashed_held : (l : Label) (c : Call) (a : Arrival) (w : World) → CallFits c w → Inv l w → Held l (crashed c a w)
 crashed_held l c a w f I = go (crashed-or c a w)

@@ -4,7 +4,8 @@ use mathlib.Core.Path.{◌≡◌, refl, sym, ap, subst, ◌∙◌}
 use mathlib.Core.Logic.{◌≢◌}
 use mathlib.Core.Bool.{Bool, true, false, ◌&&◌}
 use mathlib.Core.List.{List, [], ◌∷◌}
-use mathlib.Core.Option.{Option, some, none, some-injective, none-ne-some}
+use Rattle.std.specs.Prelude.{Option, Some, None}
+use Rattle.std.proofs.lemmas.Option.{same_Some, none-some}
 use native.Mathlib.Omega.{arith}
 use lib.ListN.{length}
 use lib.Dec.{leb}
@@ -32,7 +33,9 @@ use Rattle.protocol.specs.Box.{Box, Image, ssd_image, hdd_image, Store, Effect}
 use Rattle.protocol.specs.Recovery.{off_page}
 use Rattle.protocol.specs.Plan.{Call, step, grown, announces, lands, mends, formats, lowest_page, stepping, plan, stores_meta, Move}
 use Rattle.protocol.specs.Perform.{confirmed, landed_in, mended_at, format_store, format_state, perform}
-use Rattle.protocol.specs.Judge.{Reason, is_empty, agree_test, test, judged, stamps_spent}
+use Rattle.protocol.specs.declared.Refusal.{Refusal}
+use Rattle.protocol.specs.declared.Refusal.TheVariants.{StampsSpent}
+use Rattle.protocol.specs.Judge.{is_empty, agree_test, test, judged}
 use Rattle.protocol.specs.Calls.{decided, effect_of}
 use Rattle.protocol.specs.Beside.{stamp_stored, MetaStored, StoresLegally}
 use Rattle.layout.proofs.Booleans.{Told, told, told_true, told_false, clash, and_parts}
@@ -73,15 +76,15 @@ meta_stored l K table size R t fits w W z p ph r st wi = record {
 -- what is asked of an effect
 abbrev Stores : Label → Phase → Effect → Type 0
 Stores l ph e =
-    (s : Store) → e.store ≡ some s
+    (s : Store) → e.store ≡ Some s
     → (length s.bytes ≡ 4096)
     × (s.image ≡ ssd_image → (p : ℕ) → p < meta_pages l → s.place ≡ meta_place l p → MetaStored l p s.bytes ph e.state e.table)
 
-no_store : {A : Type 0} {s : Store} → none ≡ some s → A
-no_store {s = s} q = absurd (none-ne-some s q)
+no_store : {A : Type 0} {s : Store} → None ≡ Some s → A
+no_store {s = s} q = absurd (none-some s q)
 
-the_store : {s t : Store} → some s ≡ some t → s ≡ t
-the_store {s} {t} q = some-injective s t q
+the_store : {s t : Store} → Some s ≡ Some t → s ≡ t
+the_store {s} {t} q = same_Some s t q
 
 sized : {s t : Store} → s ≡ t → length s.bytes ≡ 4096 → length t.bytes ≡ 4096
 sized q n = ap (λ (u : Store). length u.bytes) (sym q) ∙ n
@@ -98,7 +101,7 @@ hdd-not q i = clash {b = true} refl (sym (ap is_ssd (ap (λ (t : Store). t.image
 
 -- an effect with this one metadata store
 one_store : (l : Label) (ph : Phase) (e : Effect) (q : ℕ) (bytes : List ℕ)
-    → e.store ≡ some (record { image = ssd_image; place = meta_place l q; bytes = bytes }) → MetaStored l q bytes ph e.state e.table
+    → e.store ≡ Some (record { image = ssd_image; place = meta_place l q; bytes = bytes }) → MetaStored l q bytes ph e.state e.table
     → Stores l ph e
 one_store l ph e q bytes f M s g = (sized same M.is_page.size, at)
   where
@@ -112,7 +115,7 @@ one_store l ph e q bytes f M s g = (sized same M.is_page.size, at)
         (subst (λ (t : Store). MetaStored l q t.bytes ph e.state e.table) same M)
 
 -- an effect that stores elsewhere
-elsewhere : (l : Label) (ph : Phase) (e : Effect) (u : Store) → e.store ≡ some u → length u.bytes ≡ 4096
+elsewhere : (l : Label) (ph : Phase) (e : Effect) (u : Store) → e.store ≡ Some u → length u.bytes ≡ 4096
     → ((p : ℕ) → p < meta_pages l → u.place ≢ meta_place l p) → Stores l ph e
 elsewhere l ph e u f z n s g =
     (sized (the_store (sym f ∙ g)) z, λ i p h pl. absurd (n p h (ap (λ (t : Store). t.place) (the_store (sym f ∙ g)) ∙ pl)))
@@ -130,7 +133,7 @@ confirmed_stores : (l : Label) → Limits l → (r : Record) → label_in r ≡ 
 unfolding confirmed store_place meta_bytes
 confirmed_stores l K r e table size R n W ph v q said ssd =
     one_store l ph (confirmed q said r table ssd) q _
-    (ap (λ (k : Label). some (record {
+    (ap (λ (k : Label). Some (record {
       image = ssd_image;
       place = meta_place k q;
       bytes = encode_meta (r.newest + 1) (window_in r) (rows_on q table);
@@ -259,24 +262,24 @@ module _ (x : Box) (L : Legal x) where
   step_stores Ready on spent = λ s g. no_store g
 
 -- a call that no reason refuses
-made_stores : {c : Call} → Sorted c → (x : Box) → judged c x ≡ none → Stores (label_in x.state) x.state.phase (perform (plan c x) x)
+made_stores : {c : Call} → Sorted c → (x : Box) → judged c x ≡ None → Stores (label_in x.state) x.state.phase (perform (plan c x) x)
 made_stores (is_format slots blocks) x e = unfold plan perform in λ s g. no_store g
 made_stores is_reopen x e = unfold plan perform in λ s g. no_store g
 made_stores is_step x e =
-    unfold test plan in (step_stores x (step_legal x e) x.state.phase refl (passed step x e stamps_spent refl))
+    unfold test plan in (step_stores x (step_legal x e) x.state.phase refl (passed step x e StampsSpent refl))
 made_stores (is_service {c} k does) x e = does_stores x (service_legal c x k e) (service_ready c x k e) (does x e)
 
 pub stores_legally : (c : Call) (x : Box) → StoresLegally c x
 unfolding effect_of
 stores_legally c x r s g =
     let e = none_of c x r in
-    (subst (λ (o : Option Reason). Stores (label_in x.state) x.state.phase (decided o c x)) (sym e) (made_stores (sorted c) x e) s g).1
+    (subst (λ (o : Option Refusal). Stores (label_in x.state) x.state.phase (decided o c x)) (sym e) (made_stores (sorted c) x e) s g).1
 
 -- a refused call stores nothing, so this is of any call
-pub stores_whole : (c : Call) (x : Box) (s : Store) → (effect_of c x).store ≡ some s → length s.bytes ≡ 4096
+pub stores_whole : (c : Call) (x : Box) (s : Store) → (effect_of c x).store ≡ Some s → length s.bytes ≡ 4096
 unfolding effect_of
 stores_whole c x s = by_reason (judged c x) refl
   where
-    by_reason : (o : Option Reason) → judged c x ≡ o → (decided o c x).store ≡ some s → length s.bytes ≡ 4096
-    by_reason (some r) e g = no_store g
-    by_reason none e g = (made_stores (sorted c) x e s g).0
+    by_reason : (o : Option Refusal) → judged c x ≡ o → (decided o c x).store ≡ Some s → length s.bytes ≡ 4096
+    by_reason (Some r) e g = no_store g
+    by_reason None e g = (made_stores (sorted c) x e s g).0

@@ -3,7 +3,7 @@ use Prim.Native.Nat.{ℕ, ◌+◌, ◌*◌}
 use mathlib.Core.Path.{◌≡◌, refl, sym, subst, ◌∙◌}
 use mathlib.Core.Bool.{true, false}
 use mathlib.Core.List.{[]}
-use mathlib.Core.Option.{Option, some, none}
+use Rattle.std.specs.Prelude.{Option, Some, None}
 use lib.ListN.{get_or}
 use Rattle.layout.specs.declared.Slot.{Slot}
 use Rattle.layout.specs.declared.Block.{Block}
@@ -16,7 +16,8 @@ use Rattle.protocol.specs.Box.{Box}
 use Rattle.protocol.specs.Plan.{Call, land, land_fetch}
 use Rattle.protocol.specs.Kinds.{kind}
 use Rattle.protocol.specs.Recovery.{metas_of, entry_in, newest_of}
-use Rattle.protocol.specs.Judge.{Reason, judged}
+use Rattle.protocol.specs.declared.Refusal.{Refusal}
+use Rattle.protocol.specs.Judge.{judged}
 use Rattle.protocol.specs.Calls.{decided, effect_of, result_of}
 use Rattle.protocol.specs.ReferenceDisk.{Disk}
 use Rattle.protocol.specs.Events.{World, may_finish, CallFits}
@@ -34,13 +35,13 @@ use Rattle.theorem.proofs.Reachable.{Mendable, steps, reopens_it, mendable}
 use Rattle.laws.proofs.refine.Abstract.{Core, box_of_core, abs, Shape, Phased, is_ready_is, is_mending, Inv}
 
 -- a call that is neither refused nor one of mending finds a ready box
-pub none_of : (c : Call) (x : Box) → refused (result_of c x).said ≡ false → judged c x ≡ none
+pub none_of : (c : Call) (x : Box) → refused (result_of c x).said ≡ false → judged c x ≡ None
 unfolding effect_of
 none_of c x f = go (judged c x) refl
   where
-    go : (o : Option Reason) → judged c x ≡ o → judged c x ≡ none
-    go (some r) e = clash {b = refused (decided (judged c x) c x).said} (rw e) f
-    go none e = e
+    go : (o : Option Refusal) → judged c x ≡ o → judged c x ≡ None
+    go (Some r) e = clash {b = refused (decided (judged c x) c x).said} (rw e) f
+    go None e = e
 
 module _ (l : Label) (k : Core) (S : Shape l k) (p : Plain) (R : model.Ready (abs l k) p) (b s : ℕ) (H : Held l k.table b s) where
   stored : model.Stored (abs l k) p

@@ -1,9 +1,10 @@
 -- What a sweep finds: all slots open, or a slot that is not open; and what the table is after it.
+use Rattle.std.specs.Prelude.{Option, None}
 use Prim.Native.Nat.{ℕ, zero, suc, ◌+◌, ◌*◌, ◌≤◌, ◌<◌}
 use mathlib.Core.Path.{◌≡◌, refl, sym, ap, subst, ◌∙◌}
 use mathlib.Core.Bool.{Bool, true, false}
 use mathlib.Core.List.{List}
-use mathlib.Core.Option.{some}
+use Rattle.std.specs.Prelude.{Some}
 use native.Mathlib.Omega.{arith}
 use lib.ListN.{length, get_or}
 use borrow.Author.Tests.{lt-ltb, le-ltb}
@@ -18,74 +19,69 @@ use Rattle.laws.proofs.refine.Flags.{dirty_holds}
 use Rattle.laws.proofs.refine.Tables.{Rows, at_dirty, at_open, each_get, each_of}
 use Rattle.laws.proofs.refine.Sweeps.{alike_same, next_low, swept}
 use Rattle.sweeping.specs.declared.Swept.{Swept}
-use Rattle.sweeping.specs.declared.Swept.TheVariants.{Took, Stuck}
-use Rattle.table.specs.Scan.{lowest_of}
-use Rattle.sweeping.specs.Sweeps.{closed, unused, lap_end, lap_from, swept_of, cleared_from, victim_of}
+use Rattle.sweeping.specs.Sweeps.{closed, unused, first_closed, lap_end, lap_from, swept_of, cleared_from, victim_of, swept_after}
 use Rattle.sweeping.proofs.SweepLaws.{nth, nth_meets, cleared_alike, sweep_is}
 
-abbrev took_some : Swept → Bool
-took_some (Took s k) = true
-took_some Stuck = false
+abbrev took_some : Option Swept → Bool
+took_some (Some w) = true
+took_some None = false
 
-never : (s : Slot) (k : ℕ) → Took s k ≡ Stuck → ⊥
+never : (s : Slot) (k : ℕ) → swept_after s k ≡ None → ⊥
 never s k e = clash {b = true} refl (ap took_some e)
 
 module _ (l : Label) (t : List ℕ) where
-  lap_on : (n k : ℕ) (s : Slot) (first : ℕ) → unused (row_flags t s) ≡ false
-      → lap_from (suc n) k l t s first ≡ lap_from n (suc k) l t (next_slot l s) (lowest_of first l.slots s.0 (closed (row_flags t s)))
+  lap_on : (n k : ℕ) (s : Slot) (first : Option Slot) → unused (row_flags t s) ≡ false
+      → lap_from (suc n) k l t s first ≡ lap_from n (suc k) l t (next_slot l s) (first_closed first s (closed (row_flags t s)))
   unfolding lap_from
   lap_on n k s first e = rw (lap_from, e)
 
-  lap_takes : (n k : ℕ) (s : Slot) (first : ℕ) → unused (row_flags t s) ≡ true → lap_from (suc n) k l t s first ≡ Took s k
+  lap_takes : (n k : ℕ) (s : Slot) (first : Option Slot) → unused (row_flags t s) ≡ true → lap_from (suc n) k l t s first ≡ swept_after s k
   unfolding lap_from
   lap_takes n k s first e = rw (lap_from, e)
 
-  lap_ends : (k : ℕ) (s : Slot) (first : ℕ) → lap_from 0 k l t s first ≡ lap_end l.slots first
+  lap_ends : (k : ℕ) (s : Slot) (first : Option Slot) → lap_from 0 k l t s first ≡ lap_end l.slots first
   unfolding lap_from
   lap_ends k s first = refl
 
   -- a closed slot was met: the round does not end stuck
-  not_stuck : (n k : ℕ) (s : Slot) (first : ℕ) → first < l.slots → lap_from n k l t s first ≡ Stuck → ⊥
-  not_stuck zero k s first h e = never _ _ (rw (lt-ltb first l.slots h) at (sym (lap_ends k s first) ∙ e))
-  not_stuck (suc n) k s first h e = go (told (unused (row_flags t s))) (not_stuck n (suc k) (next_slot l s) first h)
+  not_stuck : (n k : ℕ) (s first : Slot) → lap_from n k l t s (Some first) ≡ None → ⊥
+  not_stuck zero k s first e = never _ _ (sym (lap_ends k s (Some first)) ∙ e)
+  not_stuck (suc n) k s first e = go (told (unused (row_flags t s))) (not_stuck n (suc k) (next_slot l s) first)
     where
-      kept : lowest_of first l.slots s.0 (closed (row_flags t s)) ≡ first
-      kept = rw (lt-ltb first l.slots h)
-
-      go : Told (unused (row_flags t s)) → (lap_from n (suc k) l t (next_slot l s) first ≡ Stuck → ⊥) → ⊥
-      go (told_true u) ih = never _ _ (sym (lap_takes n k s first u) ∙ e)
-      go (told_false u) ih = ih (ap (lap_from n (suc k) l t (next_slot l s)) (sym kept) ∙ sym (lap_on n k s first u) ∙ e)
+      go : Told (unused (row_flags t s)) → (lap_from n (suc k) l t (next_slot l s) (Some first) ≡ None → ⊥) → ⊥
+      go (told_true u) ih = never _ _ (sym (lap_takes n k s (Some first) u) ∙ e)
+      go (told_false u) ih = ih (sym (lap_on n k s (Some first) u) ∙ e)
 
   -- a round that ends stuck met open slots alone
-  met_open : (n k : ℕ) (s : Slot) (first : ℕ) → s.0 < l.slots → l.slots ≤ first → lap_from n k l t s first ≡ Stuck
+  met_open : (n k : ℕ) (s : Slot) → s.0 < l.slots → lap_from n k l t s None ≡ None
       → (j : ℕ) → j < n → writing (row_flags t (nth l j s)) ≡ true
   unfolding nth
-  met_open zero k s first h f e j q = absurd (omega arith)
-  met_open (suc n) k s first h f e j q = go (told (unused (row_flags t s))) (told (writing (row_flags t s))) j q
-      (λ g. met_open n (suc k) (next_slot l s) l.slots (next_low l s h) (omega arith) g)
+  met_open zero k s h e j q = absurd (omega arith)
+  met_open (suc n) k s h e j q = go (told (unused (row_flags t s))) (told (writing (row_flags t s))) j q
+      (λ g. met_open n (suc k) (next_slot l s) (next_low l s h) g)
     where
-      rest : unused (row_flags t s) ≡ false → (m : ℕ) → lowest_of first l.slots s.0 (closed (row_flags t s)) ≡ m
-          → lap_from n (suc k) l t (next_slot l s) m ≡ Stuck
-      rest u m d = ap (lap_from n (suc k) l t (next_slot l s)) (sym d) ∙ sym (lap_on n k s first u) ∙ e
+      rest : unused (row_flags t s) ≡ false → (m : Option Slot) → first_closed None s (closed (row_flags t s)) ≡ m
+          → lap_from n (suc k) l t (next_slot l s) m ≡ None
+      rest u m d = ap (lap_from n (suc k) l t (next_slot l s)) (sym d) ∙ sym (lap_on n k s None u) ∙ e
 
       go : Told (unused (row_flags t s)) → Told (writing (row_flags t s)) → (j : ℕ) → j < suc n
-          → (lap_from n (suc k) l t (next_slot l s) l.slots ≡ Stuck → (i : ℕ) → i < n → writing (row_flags t (nth l i (next_slot l s))) ≡ true)
+          → (lap_from n (suc k) l t (next_slot l s) None ≡ None → (i : ℕ) → i < n → writing (row_flags t (nth l i (next_slot l s))) ≡ true)
           → writing (row_flags t (nth l j s)) ≡ true
-      go (told_true u) w j p ih = absurd (never _ _ (sym (lap_takes n k s first u) ∙ e))
+      go (told_true u) w j p ih = absurd (never _ _ (sym (lap_takes n k s None u) ∙ e))
       go (told_false u) (told_true w) zero p ih = w
-      go (told_false u) (told_true w) (suc i) p ih = ih (rest u l.slots (rw (le-ltb first l.slots f, w))) i (omega arith)
+      go (told_false u) (told_true w) (suc i) p ih = ih (rest u None (rw w)) i (omega arith)
       go (told_false u) (told_false w) j p ih =
-          absurd (not_stuck n (suc k) (next_slot l s) s.0 h (rest u s.0 (rw (le-ltb first l.slots f, w))))
+          absurd (not_stuck n (suc k) (next_slot l s) s (rest u (Some s) (rw w)))
 
   -- 12: no slot was found
-  pub stuck_all : (h : Slot) → length t ≡ table_length l → h.0 < l.slots → swept_of l t h ≡ Stuck → all_writing t ≡ true
+  pub stuck_all : (h : Slot) → length t ≡ table_length l → h.0 < l.slots → swept_of l t h ≡ None → all_writing t ≡ true
   stuck_all h size low e = each_of (λ s block flags. writing flags) 0 t each
     where
       each : (s : ℕ) → 2 * s + 1 < length t → writing (get_or t (2 * s + 1) 0) ≡ true
       each s q =
           let m = nth_meets l h (record { 0 = s }) low (omega (arith, size)) in
           subst (λ (u : Slot). writing (row_flags t u) ≡ true) m.2
-          (met_open l.slots 0 h l.slots low (omega arith) e m.0 m.1)
+          (met_open l.slots 0 h low e m.0 m.1)
 
 -- a slot was found: one of the table's, and not open
 pub record Found (l : Label) (t : List ℕ) (s : Slot) : Type 0 where
@@ -114,11 +110,11 @@ passed_is n l t h size R low =
     }
 
 module _ (l : Label) (t : List ℕ) (h s : Slot) (k : ℕ) (size : length t ≡ table_length l) (R : Rows l t) (low : h.0 < l.slots)
-    (e : Took s k ≡ swept_of l t h) where
-  pub swept_is : sweep l t h ≡ some (record { slot = s; table = cleared_from k l t h })
+    (e : swept_after s k ≡ swept_of l t h) where
+  pub swept_is : sweep l t h ≡ Some (record { slot = s; table = cleared_from k l t h })
   swept_is = sweep_is l t h size low ∙ ap (victim_of l t h) (sym e)
 
-  of : {v : Victim} → Rattle.laws.proofs.refine.Sweeps.Swept l t (some v) → Found l t v.slot
+  of : {v : Victim} → Rattle.laws.proofs.refine.Sweeps.Swept l t (Some v) → Found l t v.slot
   of (Rattle.laws.proofs.refine.Sweeps.took v a w u A) = record {
     low = a;
     shut = sym (at_open l t R v.slot.0 a) ∙ ap open_row (sym (A.row v.slot.0)) ∙ at_open l v.table A.legal v.slot.0 a ∙ w;

@@ -6,6 +6,9 @@ use mathlib.Core.Bool.{Bool, true, false, ◌&&◌}
 use mathlib.Core.List.{List}
 use native.Mathlib.Omega.{arith}
 use lib.ListN.{length}
+use Rattle.std.specs.Prelude.{Option, Some, None}
+use Rattle.protocol.specs.declared.Refusal.{Refusal}
+use Rattle.protocol.specs.declared.Refusal.TheVariants.{WindowFull, ImportFull}
 use lib.Dec.{eqb, leb}
 use borrow.Author.Tests.{ltb-true}
 use Rattle.layout.specs.declared.Block.{Block}
@@ -26,10 +29,8 @@ use Rattle.protocol.specs.Judge.{row_test}
 use Rattle.laws.proofs.refine.Flags.{legal-row}
 use Rattle.laws.proofs.refine.Tables.{Rows, each_get}
 use Rattle.table.specs.Scan.{legal_rows}
-use Rattle.turns.specs.declared.turn.Turn.{Turn}
-use Rattle.turns.specs.declared.turn.Turn.TheVariants.{Refused, Passes, Opens, CopiesOut}
 use Rattle.judging.specs.declared.Judged.{Judged}
-use Rattle.turns.specs.Turns.{Sweepable, Seen, Within, is_pass, held_by, crowd_by, crowd_of, if_room}
+use Rattle.turns.specs.Turns.{Sweepable, Seen, Within, held_by, crowd_by, crowd_of}
 use Rattle.laws.proofs.Judged.{refuses}
 use Rattle.judging.proofs.SlotLaws.{Where}
 use Rattle.judging.proofs.ServedLaws.{Served}
@@ -53,27 +54,11 @@ where_within r t b (Dirty s) w = w.low
 where_within r t b (Writing s) w = w.low
 where_within r t b (Fetching s) w = w.low
 
--- there is one turn that passes
-pub pass_is : (T : Turn) → is_pass T ≡ true → T ≡ Passes
-pass_is (Refused n) e = clash e refl
-pass_is Passes e = refl
-pass_is (Opens s flags passed hand) e = clash e refl
-pass_is (CopiesOut s passed) e = clash e refl
-
 -- what judging found is what a turn is decided on
 pub seen : (ssd hdd : List ℕ) (page : ℕ) (t : List ℕ) (r : Record) (b : Block) (caller : ℕ) (j : Judged) → Served ssd hdd page t r b caller j
     → Seen t r j.writing
 seen ssd hdd page t r b caller j S = let B = S.box.box in
     record { size = B.sound.table-size; record_kept = B.record_kept; rows = B.rows; counted = S.writing_is }
-
--- refused by a number, or there is room
-pub turn_full : (n : ℕ) (T : Turn) → n ≢ 0 → Refused n ≡ if_room n T
-turn_full zero T h = absurd (h refl)
-turn_full (suc n) T h = refl
-
-pub turn_room : (n : ℕ) (T : Turn) → n ≡ 0 → T ≡ if_room n T
-turn_room zero T h = refl
-turn_room (suc n) T h = absurd (omega arith)
 
 -- 17, 11, or neither
 module _ (t : List ℕ) (r : Record) (caller : ℕ) where
@@ -84,17 +69,17 @@ module _ (t : List ℕ) (r : Record) (caller : ℕ) where
       go true = refl
       go false = refl
 
-  pub crowd_import : import_open caller r ≡ true → 17 ≡ crowd_of t r caller
+  pub crowd_import : import_open caller r ≡ true → Some ImportFull ≡ crowd_of t r caller
   crowd_import a = rw (held_full, a, crowd_by)
 
-  pub crowd_full : import_open caller r ≡ false → leb 63 (open_rows t) ≡ true → 11 ≡ crowd_of t r caller
+  pub crowd_full : import_open caller r ≡ false → leb 63 (open_rows t) ≡ true → Some WindowFull ≡ crowd_of t r caller
   crowd_full a f = rw (held_full, a, f, crowd_by)
 
-  pub crowd_none : import_open caller r ≡ false → leb 63 (open_rows t) ≡ false → 0 ≡ crowd_of t r caller
+  pub crowd_none : import_open caller r ≡ false → leb 63 (open_rows t) ≡ false → None ≡ crowd_of t r caller
   crowd_none a f = rw (held_full, a, f, crowd_by)
 
   -- of what is counted
-  pub crowd_seen : {w m n : ℕ} → Seen t r w → n ≡ crowd_by w m → m ≡ held_by caller r → n ≡ crowd_of t r caller
+  pub crowd_seen : {w m : ℕ} {n : Option Refusal} → Seen t r w → n ≡ crowd_by w m → m ≡ held_by caller r → n ≡ crowd_of t r caller
   crowd_seen S e h = e ∙ (λ i. crowd_by (S.counted i) (h i))
 
 -- what a turn is decided on, of a record

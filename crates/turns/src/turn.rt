@@ -1,43 +1,30 @@
 // The turn of an offer or a fetch, once 3 to 7 are passed: what it does is decided, and nothing is changed.
-ghost use Rattle.std.specs.Prelude.{◌≡◌, true, ◌+◌, ◌*◌, ◌<◌, length};
+ghost use Rattle.std.specs.Prelude.{◌≡◌, true, ◌+◌, ◌*◌, ◌<◌, length, Ok};
 ghost use Rattle.layout.specs.Places.{table_length};
-ghost use Rattle.sweeping.specs.declared.Swept.TheVariants.{Took};
 ghost use Rattle.record.specs.Rule.{record_test};
-ghost use Rattle.turns.specs.Turns.{Sweepable, Seen, Within, is_pass, held_by, crowd_by, spent, take_turn, sweep_turn, clean_turn, offer_turn_at, fetch_turn_at, offer_turn, fetch_turn};
+ghost use Rattle.sweeping.specs.Sweeps.{swept_after};
+ghost use Rattle.turns.specs.Turns.{Sweepable, Seen, Within, held_by, crowd_by, spent, take_turn, sweep_turn, clean_turn, offer_turn_at, fetch_turn_at, offer_turn, fetch_turn};
 
 use layout::{Label, Slot, WINDOW, stamps};
-use protocol::Condition;
+use protocol::{Condition, Refusal};
 use record::{IMPORT, IMPORT_MOST, Record, window};
-use sweeping::{Swept, sweep};
+use sweeping::sweep;
 
-// What an offer or a fetch does: refused by a number (8, 10, 17, 11 or 12); passes, the answer being "overwrite"; opens a slot with these
+// What an offer or a fetch does that 8, 10, 17, 11 or 12 does not refuse: passes, the answer being "overwrite"; opens a slot with these
 // flags, after so many slots were passed, which lose their used flags, and leaves the hand on the last one named; copies out a
 // slot, after so many were passed. Whoever performs it judges 13, where it opens.
 #[derive(Clone, Copy)]
 pub enum Turn {
-    Refused(u32),
     Passes,
     Opens(Slot, u32, u32, Slot),
     CopiesOut(Slot, u32),
-}
-
-// Whether a turn leaves everything as it is, and is no refusal.
-pub fn passes(turn: Turn) -> bool
-    ensures { result ≡ is_pass turn }
-{
-    match turn {
-        Turn::Refused(_) => false,
-        Turn::Passes => true,
-        Turn::Opens(_, _, _, _) => false,
-        Turn::CopiesOut(_, _) => false,
-    }
 }
 
 // A slot that the sweep took, after it passed so many: copied out where it is dirty, else opened.
 fn take(l: Label, table: &[u32], flags: u32, s: Slot, passed: u32) -> Turn
     requires table_len { length table.now ≡ table_length l }
     requires s_lt_slots { s.0 < l.slots }
-    ensures { result ≡ take_turn l table.now flags (Took s passed) }
+    ensures { Ok result ≡ take_turn l table.now flags (swept_after s passed) }
 {
     let dirty = table[2 * (s.0 as usize) + 1] / 2 % 2;
     if dirty == 1 {
@@ -59,75 +46,98 @@ pub fn held(state: Record, caller: u32) -> u32
     window::open_by_import(callers, state.count)
 }
 
-// The number that refuses another slot, where so many are open and so many of these count against the caller's most: 17, then 11; 0 where
-// there is room.
-pub fn crowded(all: u32, mine: u32) -> u32
+// What refuses another slot, where so many are open and so many of these count against the caller's most: 17, then 11; nothing where there
+// is room.
+pub fn crowded(all: u32, mine: u32) -> Option<Refusal>
     ensures { result ≡ crowd_by all mine }
 {
     if IMPORT_MOST <= mine {
-        return 17;
+        return Some(Refusal::ImportFull);
     }
     if (WINDOW as u32) <= all {
-        return 11;
+        return Some(Refusal::WindowFull);
     }
-    0
+    None
 }
 
-// A block that is not cached: a slot is swept for, to be opened with these flags, unless a number refuses another slot.
-fn sweeps(l: Label, table: &[u32], hand: Slot, number: u32, flags: u32) -> Turn
+// A block that is not cached: a slot is swept for, to be opened with these flags, unless another slot is refused.
+fn sweeps(
+    l: Label,
+    table: &[u32],
+    hand: Slot,
+    full: Option<Refusal>,
+    flags: u32,
+) -> Result<Turn, Refusal>
     requires { Sweepable l table.now hand }
-    ensures { result ≡ sweep_turn l table.now hand number flags }
+    ensures { result ≡ sweep_turn l table.now hand full flags }
 {
-    if number != 0 {
-        return Turn::Refused(number);
+    if let Some(refusal) = full {
+        return Err(refusal);
     }
-    let swept = sweep::sweep(l, table, hand);
-    match swept {
-        Swept::Stuck => Turn::Refused(12),
-        Swept::Took(s, passed) => take(l, table, flags, s, passed),
+    match sweep::sweep(l, table, hand) {
+        Some(swept) => Ok(take(l, table, flags, swept.slot, swept.passed)),
+        None => Err(Refusal::AllOpen),
     }
 }
 
-// A clean block's slot: it is opened where it is, and the hand stays, unless a number refuses another slot.
-fn opens_clean(l: Label, table: &[u32], hand: Slot, number: u32, s: Slot) -> Turn
+// A clean block's slot: it is opened where it is, and the hand stays, unless another slot is refused.
+fn opens_clean(
+    l: Label,
+    table: &[u32],
+    hand: Slot,
+    full: Option<Refusal>,
+    s: Slot,
+) -> Result<Turn, Refusal>
     requires sweepable { Sweepable l table.now hand }
     requires s_lt_slots { s.0 < l.slots }
-    ensures { result ≡ clean_turn table.now hand number s }
+    ensures { result ≡ clean_turn table.now hand full s }
 {
-    if number != 0 {
-        return Turn::Refused(number);
+    if let Some(refusal) = full {
+        return Err(refusal);
     }
     let flags = table[2 * (s.0 as usize) + 1] + 6;
-    Turn::Opens(s, flags, 0, hand)
+    Ok(Turn::Opens(s, flags, 0, hand))
 }
 
-// The turn of an offer of a block in this condition, with the hand here, where this number refuses another slot, or 0. A list of offers
+// The turn of an offer of a block in this condition, with the hand here, where this refuses another slot, if anything does. A list of offers
 // asks this at each place: no record is passed, which would be copied.
-pub fn offer_at(l: Label, table: &[u32], hand: Slot, number: u32, condition: Condition) -> Turn
+pub fn offer_at(
+    l: Label,
+    table: &[u32],
+    hand: Slot,
+    full: Option<Refusal>,
+    condition: Condition,
+) -> Result<Turn, Refusal>
     requires sweepable { Sweepable l table.now hand }
     requires within { Within l.slots condition }
-    ensures { result ≡ offer_turn_at l table.now hand number condition }
+    ensures { result ≡ offer_turn_at l table.now hand full condition }
 {
     match condition {
-        Condition::NotCached => sweeps(l, table, hand, number, 7),
-        Condition::Clean(s) => opens_clean(l, table, hand, number, s),
-        Condition::Dirty(_) => Turn::Passes,
-        Condition::Writing(_) => Turn::Refused(8),
-        Condition::Fetching(_) => Turn::Refused(8),
+        Condition::NotCached => sweeps(l, table, hand, full, 7),
+        Condition::Clean(s) => opens_clean(l, table, hand, full, s),
+        Condition::Dirty(_) => Ok(Turn::Passes),
+        Condition::Writing(_) => Err(Refusal::SlotOpen),
+        Condition::Fetching(_) => Err(Refusal::SlotOpen),
     }
 }
 
 // The turn of a fetch of a block in this condition, likewise.
-pub fn fetch_at(l: Label, table: &[u32], hand: Slot, number: u32, condition: Condition) -> Turn
+pub fn fetch_at(
+    l: Label,
+    table: &[u32],
+    hand: Slot,
+    full: Option<Refusal>,
+    condition: Condition,
+) -> Result<Turn, Refusal>
     requires { Sweepable l table.now hand }
-    ensures { result ≡ fetch_turn_at l table.now hand number condition }
+    ensures { result ≡ fetch_turn_at l table.now hand full condition }
 {
     match condition {
-        Condition::NotCached => sweeps(l, table, hand, number, 5),
-        Condition::Clean(_) => Turn::Refused(10),
-        Condition::Dirty(_) => Turn::Refused(10),
-        Condition::Writing(_) => Turn::Refused(8),
-        Condition::Fetching(_) => Turn::Refused(10),
+        Condition::NotCached => sweeps(l, table, hand, full, 5),
+        Condition::Clean(_) => Err(Refusal::HasSlot),
+        Condition::Dirty(_) => Err(Refusal::HasSlot),
+        Condition::Writing(_) => Err(Refusal::SlotOpen),
+        Condition::Fetching(_) => Err(Refusal::HasSlot),
     }
 }
 
@@ -139,24 +149,32 @@ pub fn is_spent(l: Label, newest: u32) -> bool
 }
 
 // The turn of a caller's offer of a block in this condition, while so many rows are writing.
-pub fn offer(table: &[u32], state: Record, caller: u32, condition: Condition, writing: u32) -> Turn
+pub fn offer(
+    table: &[u32],
+    state: Record,
+    caller: u32,
+    condition: Condition,
+    writing: u32,
+) -> Result<Turn, Refusal>
     requires seen { Seen table.now state writing }
     requires within { Within state.label.slots condition }
     ensures { result ≡ offer_turn table.now state caller condition }
 {
-    let number = crowded(writing, held(state, caller));
-    let l = state.label;
-    let hand = state.hand;
-    offer_at(l, table, hand, number, condition)
+    let full = crowded(writing, held(state, caller));
+    offer_at(state.label, table, state.hand, full, condition)
 }
 
 // The turn of a caller's fetch of a block in this condition, while so many rows are writing.
-pub fn fetch(table: &[u32], state: Record, caller: u32, condition: Condition, writing: u32) -> Turn
+pub fn fetch(
+    table: &[u32],
+    state: Record,
+    caller: u32,
+    condition: Condition,
+    writing: u32,
+) -> Result<Turn, Refusal>
     requires { Seen table.now state writing }
     ensures { result ≡ fetch_turn table.now state caller condition }
 {
-    let number = crowded(writing, held(state, caller));
-    let l = state.label;
-    let hand = state.hand;
-    fetch_at(l, table, hand, number, condition)
+    let full = crowded(writing, held(state, caller));
+    fetch_at(state.label, table, state.hand, full, condition)
 }

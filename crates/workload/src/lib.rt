@@ -18,23 +18,21 @@ fn run_load(seed: u32, draws: u32) -> Counts
     let mut hdd = [0u8; 32768];
     let mut table = [0u32; 8];
     let mut plain = [0u8; 32768];
-    let state = prepare(&mut ssd, &hdd, &mut table);
-    let ran = run(
-        &mut ssd, &mut hdd, &mut table, &mut plain, state, seed, draws,
+    let mut state = prepare(&mut ssd, &hdd, &mut table);
+    let refusals = run(
+        &mut ssd, &mut hdd, &mut table, &mut plain, &mut state, seed, draws,
     );
-    let left = ran.state;
     Counts {
-        refusals: ran.refusals,
-        equal: count_equal(&ssd, &hdd, &table, &plain, left),
+        refusals,
+        equal: count_equal(&ssd, &hdd, &table, &plain, state),
     }
 }
 
 // The load of an input, or its refusal.
-fn put_workload(page: &mut [u8], input: &[u8]) -> usize
-    requires { length page.old ≡ 4096 }
+fn put_workload(page: &mut [u8; 4096], input: &[u8]) -> usize
     ensures { Written page.old page.new 0 result 4096 (workload_of input.now) }
 {
-    let Input::Load(seed, draws) = load_input::read_input(input) else {
+    let Some(Input { seed, draws }) = load_input::read_input(input) else {
         return fields::put_refusal(page, 19);
     };
     let counts = run_load(seed, draws);

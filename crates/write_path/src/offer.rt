@@ -1,12 +1,13 @@
 // "Offer a write of a block": dirty and not open "overwrite", clean "announced", not cached swept for.
 ghost use Rattle.std.specs.Prelude.{◌≡◌};
-ghost use Rattle.protocol.specs.Calls.{leaves, offer_of};
+ghost use Rattle.protocol.specs.Calls.{ends, offer_of};
 
 use layout::Block;
 use moves::answers;
-use protocol::{Answer, Outcome};
+use protocol::{Answer, Outcome, Refusal};
 use record::Record;
 use turns::turn;
+use turns::turn::Turn;
 
 pub fn offer(
     ssd: &mut [u8],
@@ -15,19 +16,14 @@ pub fn offer(
     state: Record,
     block: Block,
     caller: u32,
-) -> Outcome
-    ensures { leaves result ssd.new hdd.new table.new ≡ offer_of ssd.old hdd.old table.old state block caller }
+) -> Result<Outcome, Refusal>
+    ensures { ends state result ssd.new hdd.new table.new ≡ offer_of ssd.old hdd.old table.old state block caller }
 {
-    let seen = judging::judge_block(ssd.len(), hdd.len(), 4096, table, state, block, caller);
-    let number = seen.number;
-    if number != 0 {
-        return answers::refused(number, state);
-    }
-    let condition = seen.condition;
-    let turn = turn::offer(table, state, caller, condition, seen.writing);
-    if turn::passes(turn) {
+    let seen = judging::judge_block(ssd.len(), hdd.len(), 4096, table, state, block, caller)?;
+    let turn = turn::offer(table, state, caller, seen.condition, seen.writing)?;
+    if let Turn::Passes = turn {
         // at once: performing a turn copies the record
-        return answers::answered(Answer::Overwrite, state);
+        return Ok(answers::answered(Answer::Overwrite, state));
     }
     performing::perform(ssd, hdd, table, state, block, caller, turn)
 }

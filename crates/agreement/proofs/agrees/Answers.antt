@@ -2,27 +2,13 @@ use mathlib.Core.Path.{sym, ap, ◌∙◌}
 use Rattle.record.specs.declared.Phase.{Phase}
 use Rattle.record.specs.Record.{window_in}
 use Rattle.protocol.specs.Judge.{agree_test}
-use Rattle.record.proofs.RecordLaws.{parts, window_is}
 use Rattle.agreement.proofs.AgreeLaws.{formatting_is, recovering_is, ready_is}
 use Rattle.agreement.proofs.agrees.Goals as goal
 
-pub recovering_agrees-requires : goal.recovering_agrees-requires
-recovering_agrees-requires c =
-    let r = c.args.state in
-    let P = parts r c.requires.state_value in
-    rw (c.window_of-w.ensures, window_is r) record { table_len = c.requires.table_len; count_le_window_most = P.most; w_value = P.ranged }
-
-pub ready_agrees-requires : goal.ready_agrees-requires
-ready_agrees-requires c =
-    let r = c.args.state in
-    let P = parts r c.requires.state_value in
-    rw (c.window_of-w.ensures, window_is r) record { table_len = c.requires.table_len; count_le_window_most = P.most; w_value = P.ranged }
-
 pub returns-in-Formatting : goal.returns-in-Formatting
 returns-in-Formatting c =
-    rw c.window_of-w.ensures at c.is_zero.ensures
-    ∙ formatting_is c.args.state c.args.table.now c.requires.state_value c.in-Formatting.field-0 c.args.scan.busy
-    c.requires.table_value c.requires.busy_value
+    rw c.window_of-w.ensures (formatting_is c.args.state c.args.table.now c.requires.state_value c.in-Formatting.field-0 c.args.scan.busy
+    c.requires.table_value c.requires.busy_value)
     ∙ ap (λ (p : Phase). agree_test p c.args.table.now (window_in c.args.state)) (sym c.in-Formatting.is)
 
 pub returns-in-Recovering : goal.returns-in-Recovering

@@ -1,46 +1,15 @@
-use borrow.Author.Rules.{rules}
-use Prim.Native.Nat.{◌-◌}
-use mathlib.Core.Path.{◌≡◌, sym, ap, ◌∙◌}
-use lib.ListN.{length}
-use Rattle.layout.proofs.Loops.{go_on, stop, length-mapped}
-use Rattle.record.specs.Window.{each_place, each_slot}
-use Rattle.record.proofs.WindowLaws.{each_left, row_in, block_in_lem, window_end}
-use native.Mathlib.Omega.{arith}
+use Rattle.std.proofs.Common.{rules, tests}
+use Rattle.std.proofs.lemmas.Iterator.{YieldsList-from_slice}
+use Rattle.std.proofs.lemmas.Iterator.Search.{all_from_yields_List}
+use mathlib.Core.Path.{◌∙◌}
+use mathlib.Core.Bool.{◌&&◌}
+use lib.Dec.{eqb}
+use Rattle.layout.specs.declared.Slot.{Slot}
+use Rattle.protocol.specs.Rows.{row_block, row_flags}
+use Rattle.record.proofs.Each.{each-all}
 use Rattle.agreement.proofs.all_zero.Goals as goal
 
-pub bounds-table-k : goal.bounds-table-k
-bounds-table-k c =
-    let l = c.loop-i in
-    let all : length c.args.w.slots ≡ 63 = search (rules, length-mapped) in
-    block_in_lem c.args.l c.args.table.now c.args.w.slots c.args.w.count l.i _ c.requires.table_len c.requires.w_value (omega arith)
-    (omega (arith, c.requires.count_le_window_most))
-
-pub bounds-table-k-in-loop-i : goal.bounds-table-k-in-loop-i
-bounds-table-k-in-loop-i c =
-    let l = c.loop-i in
-    let all : length c.args.w.slots ≡ 63 = search (rules, length-mapped) in
-    row_in c.args.l c.args.table.now c.args.w.slots c.args.w.count l.i _ c.requires.table_len c.requires.w_value (omega arith)
-    (omega (arith, c.requires.count_le_window_most))
-
-pub returns-then-not-is_zero : goal.returns-then-not-is_zero
-returns-then-not-is_zero c =
-    let l = c.loop-i in
-    let all : length c.args.w.slots ≡ 63 = search (rules, length-mapped) in
-    stop _ _ l.invariant.1 (each_left c.args.w.slots c.args.w.count l.i _ (omega arith) (omega (arith, c.requires.count_le_window_most)) _)
-    (sym c.is_zero.ensures ∙ c.if-not-is_zero.true)
-
-pub loop-i-preserved : goal.loop-i-preserved
-loop-i-preserved c =
-    let l = c.loop-i in
-    let all : length c.args.w.slots ≡ 63 = search (rules, length-mapped) in (
-      omega arith,
-      go_on _ _ l.invariant.1
-          (each_left c.args.w.slots c.args.w.count l.i _ (omega arith) (omega (arith, c.requires.count_le_window_most)) _)
-          (sym c.is_zero.ensures ∙ c.if-not-is_zero.false),
-    )
-
 pub returns : goal.returns
-unfolding each_place
 returns c =
-    let l = c.loop-i in
-    sym (ap (each_slot _) (window_end c.args.w.slots c.args.w.count l.i (omega arith))) ∙ l.invariant.1
+    all_from_yields_List (λ (s : Slot). eqb (row_block c.args.table.now s).0 0 && eqb (row_flags c.args.table.now s) 0) _ _ _ c.all.ensures.ran (YieldsList-from_slice c.args.slots.now cc) (λ x b q k. search (rules, tests))
+    ∙ each-all _ c.args.slots.now

@@ -3,7 +3,7 @@ use Rattle.layout.specs.PageRule.{page_test}
 use Rattle.layout.proofs.Loops.{go_on, stop}
 use Rattle.stored.proofs.StoredLaws.{page-read, pages-most}
 use Rattle.stored.proofs.RuleLaws.{legal-left, legal_end}
-use Prim.Native.Nat.{◌-◌, ◌<◌}
+use Prim.Native.Nat.{◌<◌}
 use mathlib.Core.Path.{sym, ap, ◌∙◌}
 use lib.ListN.{get_or}
 use Rattle.layout.specs.Places.{meta_pages}

@@ -1,4 +1,4 @@
-use Prim.Native.Nat.{◌-◌, ◌≤◌}
+use Prim.Native.Nat.{◌≤◌}
 use mathlib.Core.Path.{◌≡◌}
 use lib.ListN.{drop}
 use Rattle.layout.specs.Places.{meta_pages}
@@ -7,6 +7,3 @@ use Rattle.image_rules.proofs.all_legal.Given as goal
 
 abbrev pub invariant-loop-p : goal.invariant-loop-p
 invariant-loop-p l = (l.m ≡ meta_pages l.l) × (l.p ≤ meta_pages l.l) × (each_legal l.l l.p (drop l.p (metas_of l.l l.ssd)) ≡ each_legal l.l 0 (metas_of l.l l.ssd))
-
-abbrev pub decreases-loop-p : goal.decreases-loop-p
-decreases-loop-p l = l.m - l.p

@@ -39,7 +39,7 @@ all_open-requires c =
     let w = newest_bounded c.args.l (metas_of c.args.l c.args.ssd.now) _
     (sym c.all_legal.ensures ∙ c.if-not-all_legal.false) (found _ _ c.newest-found.ensures).on_page_is in
     let z = pending_bounded c.args.l _ _ c.pending.ensures w in
-    record { ssd_len = c.requires.ssd_len; count_le_window_most = z.0; w_value = z.1 }
+    record { ssd_len = c.requires.ssd_len; w_value = z.1 }
 
 pub returns : goal.returns
 returns c =

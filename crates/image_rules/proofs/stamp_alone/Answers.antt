@@ -4,7 +4,7 @@ use lib.Dec.{eqb}
 use Rattle.layout.specs.MetaPage.{stamp_of}
 use Rattle.record.proofs.WindowLaws.{hit, miss}
 use Rattle.stored.proofs.RuleLaws.{stamp-left, stamp_end}
-use Prim.Native.Nat.{◌-◌, ◌<◌}
+use Prim.Native.Nat.{◌<◌}
 use mathlib.Core.Path.{sym, ◌∙◌}
 use lib.ListN.{get_or}
 use Rattle.layout.specs.Places.{meta_pages}

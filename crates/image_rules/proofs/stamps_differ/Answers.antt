@@ -5,7 +5,7 @@ use Rattle.layout.specs.MetaPage.{stamp_of}
 use Rattle.layout.proofs.Loops.{go_on, stop}
 use Rattle.protocol.specs.Recovery.{stamp_in, metas_of}
 use Rattle.stored.proofs.RuleLaws.{differ_left, differ_end}
-use Prim.Native.Nat.{ℕ, ◌+◌, ◌-◌, ◌<◌}
+use Prim.Native.Nat.{ℕ, ◌+◌, ◌<◌}
 use mathlib.Core.Path.{sym, ap, ◌∙◌}
 use lib.ListN.{get_or, drop}
 use Rattle.layout.specs.Places.{meta_pages}

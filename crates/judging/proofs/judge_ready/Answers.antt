@@ -1,33 +1,26 @@
-use mathlib.Core.Path.{◌≡◌, sym, ◌∙◌}
-use Prim.Native.Nat.{ℕ}
-use Rattle.judging.specs.Judging.{sound_then}
-use Rattle.judging.proofs.JudgingLaws.{sound_asks, stops, goes_on, found}
+use Rattle.std.proofs.Common.{◌≡◌, ap, ◌∙◌, inl, inr}
+use Rattle.std.specs.Prelude.{ℕ, Bool, false, not, ◌⊎◌, None}
+use Rattle.record.specs.declared.Phase.TheVariants.{Formatting, Recovering}
+use Rattle.record.specs.declared.Phase.{Phase}
+use Rattle.protocol.specs.declared.Refusal.TheVariants.{WrongPhase}
+use Rattle.protocol.specs.Judge.{is_ready}
+use Rattle.judging.specs.Judging.{refuse_if}
+use Rattle.judging.proofs.JudgingLaws.{sound_asks, went_on, stopped_at, refused_on, unless_some}
 use Rattle.judging.proofs.judge_ready.Goals as goal
-use Rattle.judging.proofs.judge_ready.Goals.{Else-judged-ne0}
 
-pub returns-then-judged-ne0 : goal.returns-then-judged-ne0
-returns-then-judged-ne0 c =
+pub returns-in_err-judged : goal.returns-in_err-judged
+returns-in_err-judged c =
     let a = c.args in
-    rw (stops (sound_asks a.ssd a.hdd a.page a.table.now a.state) (λ q. c.if-judged-ne0.true (found (sound_then a.ssd a.hdd a.page a.table.now a.state 0) a.table.now a.b c.judge_box-judged.ensures ∙ q)) _)
-    c.judge_box-judged.ensures
+    refused_on c.from_residual.ensures.1
+    ∙ unless_some _ (stopped_at (sound_asks a.ssd a.hdd a.page a.table.now a.state) _ _ c.in_err-judged.was c.judge_box.ensures _)
 
--- 3, 4 and 5 are passed
-sound : (c : Else-judged-ne0) → let a = c.args in
-    sound_then a.ssd a.hdd a.page a.table.now a.state 0 ≡ 0
-sound c =
+unready : (p : Phase) → (p ≡ Recovering) ⊎ ((d : ℕ) × (p ≡ Formatting d)) → is_ready p ≡ false
+unready p (inl e) = ap is_ready e
+unready p (inr k) = ap is_ready k.1
+
+pub returns-in-Recovering : goal.returns-in-Recovering
+returns-in-Recovering c =
     let a = c.args in
-    sym (found (sound_then a.ssd a.hdd a.page a.table.now a.state 0) a.table.now a.b c.judge_box-judged.ensures)
-    ∙ c.if-judged-ne0.false
-
-on : (c : Else-judged-ne0) (rest : ℕ) → let a = c.args in
-    sound_then a.ssd a.hdd a.page a.table.now a.state rest ≡ rest
-on c rest = let a = c.args in
-    goes_on (sound_asks a.ssd a.hdd a.page a.table.now a.state) (sound c) rest
-
-pub returns-then-not-is_ready : goal.returns-then-not-is_ready
-returns-then-not-is_ready c =
-    rw (on (goal.at.returns-then-not-is_ready c).Else-judged-ne0 _, sym c.is_ready.ensures ∙ c.if-not-is_ready.true) c.refused.ensures
-
-pub returns : goal.returns
-returns c =
-    rw (on (goal.at.returns c).Else-judged-ne0 _, sym c.is_ready.ensures ∙ c.if-not-is_ready.false) (rw (sound (goal.at.returns c).Else-judged-ne0) at c.judge_box-judged.ensures)
+    unless_some _
+    (went_on (sound_asks a.ssd a.hdd a.page a.table.now a.state) _ _ c.in_ok-judged.was c.judge_box.ensures _
+    ∙ ap (λ (b : Bool). refuse_if (not b) WrongPhase None) (unready _ c.in-Recovering.is))

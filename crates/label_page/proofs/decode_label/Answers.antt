@@ -1,45 +1,43 @@
-use Prim.Native.Nat.{◌≤◌}
-use mathlib.Core.Path.{◌≡◌, sym, ◌∙◌}
-use mathlib.Core.Option.{some}
-use lib.ListN.{length, drop}
-use native.Mathlib.Omega.{arith}
-use Rattle.layout.specs.LabelPage.{after, number}
-use Rattle.label_page.proofs.LabelReads.{head_text, head_read, missed, met, read, unread}
+use mathlib.Core.Path.{sym, ap, ◌∙◌}
+use Rattle.layout.specs.LabelPage.{blocks_key}
+use Rattle.text.specs.Numbers.{number_read}
+use Rattle.label_page.proofs.LabelReads.{head_text, head_read, met, missed}
 use Rattle.label_page.proofs.decode_label.Goals as goal
-use Rattle.label_page.proofs.decode_label.Goals.{Else-not-begins, In-Number}
 
--- the fixed lines and the key were found
-head : (c : Else-not-begins) → let page = c.args.page.now in (27 ≤ length page) × (after head_text page ≡ some (drop 27 page))
-head c =
+pub returns-in_err-bytes : goal.returns-in_err-bytes
+returns-in_err-bytes c =
     let page = c.args.page.now in
-    met page 0 (omega arith) head_text (sym c.begins.ensures ∙ c.if-not-begins.false)
+    rw (c.from_residual.ensures, head_read page, missed head_text page _ c.strip_prefix.ensures.cases c.in_err-bytes.was)
 
--- and a number after them
-line : (c : In-Number)
-    → let page = c.args.page.now in
-    let v = c.in-Number in
-    (v.end ≤ length page) × (number (drop 27 page) ≡ some (record { value = v.slots; rest = drop v.end page }))
-line c =
+pub returns-in_err-slots : goal.returns-in_err-slots
+returns-in_err-slots c =
     let page = c.args.page.now in
-    read page 27 (head (goal.at.In-Number c).Else-not-begins).0 _ _ _ c.scan_number.ensures c.in-Number.is
+    let a = met head_text page _ c.strip_prefix.ensures.cases c.in_ok-bytes.bytes c.in_ok-bytes.was in
+    let s = sym c.read_number.ensures ∙ ap number_read c.in_err-slots.was in
+    rw (c.from_residual-in_err-slots.ensures, head_read page, a, s)
 
-pub returns-then-not-begins : goal.returns-then-not-begins
-returns-then-not-begins c =
+pub returns-in_err-bytes-2 : goal.returns-in_err-bytes-2
+returns-in_err-bytes-2 c =
     let page = c.args.page.now in
-    rw (head_read page, missed (after head_text page) (sym c.begins.ensures ∙ c.if-not-begins.true))
+    let a = met head_text page _ c.strip_prefix.ensures.cases c.in_ok-bytes.bytes c.in_ok-bytes.was in
+    let s = sym c.read_number.ensures ∙ ap number_read c.in_ok-slots.was in
+    let k = missed blocks_key c.in_ok-slots.bytes.now _ c.strip_prefix-2.ensures.cases c.in_err-bytes-2.was in
+    rw (c.from_residual-in_err-bytes-2.ensures, head_read page, a, s, k)
 
-pub scan_number-requires : goal.scan_number-requires
-scan_number-requires c = (head c).0
-
-pub returns-in_default : goal.returns-in_default
-returns-in_default c =
+pub returns-in_err-blocks : goal.returns-in_err-blocks
+returns-in_err-blocks c =
     let page = c.args.page.now in
-    rw (head_read page, (head (goal.at.returns-in_default c).Else-not-begins).1, unread page (number (drop 27 page)) _ c.scan_number.ensures c.in_default.is)
-
-pub decode_blocks-requires : goal.decode_blocks-requires
-decode_blocks-requires c = (line c).0
+    let a = met head_text page _ c.strip_prefix.ensures.cases c.in_ok-bytes.bytes c.in_ok-bytes.was in
+    let s = sym c.read_number.ensures ∙ ap number_read c.in_ok-slots.was in
+    let k = met blocks_key c.in_ok-slots.bytes.now _ c.strip_prefix-2.ensures.cases c.in_ok-bytes-2.bytes c.in_ok-bytes-2.was in
+    let b = sym c.read_number-2.ensures ∙ ap number_read c.in_err-blocks.was in
+    rw (c.from_residual-in_err-blocks.ensures, head_read page, a, s, k, b)
 
 pub returns : goal.returns
 returns c =
     let page = c.args.page.now in
-    rw (head_read page, (head (goal.at.returns c).Else-not-begins).1, (line (goal.at.returns c).In-Number).1) c.decode_blocks.ensures
+    let a = met head_text page _ c.strip_prefix.ensures.cases c.in_ok-bytes.bytes c.in_ok-bytes.was in
+    let s = sym c.read_number.ensures ∙ ap number_read c.in_ok-slots.was in
+    let k = met blocks_key c.in_ok-slots.bytes.now _ c.strip_prefix-2.ensures.cases c.in_ok-bytes-2.bytes c.in_ok-bytes-2.was in
+    let b = sym c.read_number-2.ensures ∙ ap number_read c.in_ok-blocks.was in
+    rw (head_read page, a, s, k, b) c.legal.ensures

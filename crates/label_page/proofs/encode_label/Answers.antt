@@ -5,4 +5,4 @@ use Rattle.label_page.proofs.encode_label.Goals as goal
 
 pub fill_label-requires : goal.fill_label-requires
 unfolding padded
-fill_label-requires c = record { page_value = (refl, refl); l_value = search rules }
+fill_label-requires c = record { page_value = refl; l_value = search rules }

@@ -4,7 +4,7 @@ use mathlib.Core.Path.{◌≡◌, refl, ap, ◌∙◌}
 use mathlib.Core.Logic.{◌≢◌}
 use mathlib.Core.Bool.{Bool, true, false, ◌&&◌}
 use mathlib.Core.List.{List, [], ◌∷◌}
-use mathlib.Core.Option.{Option, some, none}
+use Rattle.std.specs.Prelude.{Option, Some, None}
 use native.Mathlib.Omega.{arith}
 use native.Mathlib.Nat.{zero-add}
 use lib.ListN.{length, get_or, set}
@@ -25,8 +25,8 @@ use Rattle.laws.proofs.model.Base.{eqb_same}
 -- what a search among rows from slot k on finds
 pub data Located (k : ℕ) (t : List ℕ) (b : ℕ) : Option Slot → Type 0 where
   at : (i : ℕ) → 2 * i + 1 < length t → valid (get_or t (2 * i + 1) 0) ≡ true → get_or t (2 * i) 0 ≡ b
-      → ((j : ℕ) → j < i → valid (get_or t (2 * j + 1) 0) ≡ true → get_or t (2 * j) 0 ≢ b) → Located k t b (some (record { 0 = k + i }))
-  nowhere : ((j : ℕ) → 2 * j + 1 < length t → valid (get_or t (2 * j + 1) 0) ≡ true → get_or t (2 * j) 0 ≢ b) → Located k t b none
+      → ((j : ℕ) → j < i → valid (get_or t (2 * j + 1) 0) ≡ true → get_or t (2 * j) 0 ≢ b) → Located k t b (Some (record { 0 = k + i }))
+  nowhere : ((j : ℕ) → 2 * j + 1 < length t → valid (get_or t (2 * j + 1) 0) ≡ true → get_or t (2 * j) 0 ≢ b) → Located k t b None
 
 pub located : (k : ℕ) (t : List ℕ) (b : Block) → Located k t b.0 (slot_from k t b)
 unfolding slot_from
@@ -52,10 +52,10 @@ located k (x ∷ f ∷ t) b = go (told (valid f && eqb x b.0)) (located (suc k) 
     before n e h (suc j) q = skip j (λ x f. valid f ≡ true → x ≢ b.0) (h j (omega arith))
 
     go : {o : Option Slot} → Told (valid f && eqb x b.0) → Located (suc k) t b.0 o
-        → Located k (x ∷ f ∷ t) b.0 (elim (valid f && eqb x b.0) [ true ↦ some (record { 0 = k }) | false ↦ o ])
+        → Located k (x ∷ f ∷ t) b.0 (elim (valid f && eqb x b.0) [ true ↦ Some (record { 0 = k }) | false ↦ o ])
     go (told_true e) L =
         let z : k + 0 ≡ k = omega arith in
-        let first : Located k (x ∷ f ∷ t) b.0 (some (record { 0 = k + 0 })) =
+        let first : Located k (x ∷ f ∷ t) b.0 (Some (record { 0 = k + 0 })) =
         at 0 (omega arith) (and_parts (valid f) (eqb x b.0) e).0 (eqb-true _ _ (and_parts (valid f) (eqb x b.0) e).1)
         (λ j q. absurd (omega arith))
         in
@@ -93,7 +93,7 @@ unfolding condition_of
 stands l t size b = go (located 0 t b)
   where
     by_flags : (s : ℕ) → Held l t b.0 s → Told (writing (get_or t (2 * s + 1) 0)) → Told (dirty (get_or t (2 * s + 1) 0))
-        → Stands l t b.0 (condition_at t (some (record { 0 = s })))
+        → Stands l t b.0 (condition_at t (Some (record { 0 = s })))
     by_flags s H (told_true w) (told_true d) = rw (condition_at, w, d) (is_writing_is s H w d)
     by_flags s H (told_true w) (told_false d) = rw (condition_at, w, d) (is_fetching s H w d)
     by_flags s H (told_false w) (told_true d) = rw (condition_at, w, d) (is_dirty s H w d)
@@ -112,11 +112,11 @@ slot_kept k [] s f b e = refl
 slot_kept k (x ∷ []) zero f b e = refl
 slot_kept k (x ∷ []) (suc s) f b e = let n : 2 * suc s + 1 ≡ suc (suc (2 * s + 1)) = omega arith in rw n refl
 slot_kept k (x ∷ g ∷ t) zero f b e =
-    ap (λ (v : Bool). elim (v && eqb x b.0) [ true ↦ some (record { 0 = k }) | false ↦ slot_from (suc k) t b ]) e
+    ap (λ (v : Bool). elim (v && eqb x b.0) [ true ↦ Some (record { 0 = k }) | false ↦ slot_from (suc k) t b ]) e
 slot_kept k (x ∷ g ∷ t) (suc s) f b e =
     let n : 2 * suc s + 1 ≡ suc (suc (2 * s + 1)) = omega arith in
     let r = slot_kept (suc k) t s f b (rw n at e) in
-    rw n (ap (λ (o : Option Slot). elim (valid g && eqb x b.0) [ true ↦ some (record { 0 = k }) | false ↦ o ]) r)
+    rw n (ap (λ (o : Option Slot). elim (valid g && eqb x b.0) [ true ↦ Some (record { 0 = k }) | false ↦ o ]) r)
 
 -- and the condition of every block but the row's own
 pub condition_kept : (t : List ℕ) (s f : ℕ) (b : Block) → valid f ≡ valid (get_or t (2 * s + 1) 0) → get_or t (2 * s) 0 ≢ b.0

@@ -3,7 +3,7 @@ use Prim.Native.Nat.{ℕ, zero, suc, ◌+◌, ◌*◌, ◌%◌, ◌<◌}
 use mathlib.Core.Path.{◌≡◌, refl, ◌∙◌}
 use mathlib.Core.Bool.{true, false}
 use mathlib.Core.List.{List}
-use mathlib.Core.Option.{Option, some, none}
+use Rattle.std.specs.Prelude.{Option, Some, None}
 use native.Mathlib.Omega.{arith}
 use native.Mathlib.Decide.{ℕ_discrete}
 use lib.ListN.{length, get_or, set, length-set}
@@ -53,8 +53,8 @@ next_low l s h = go (told (ltb (suc s.0) l.slots))
 
 pub data Swept (l : Label) (t : List ℕ) : Option Victim → Type 0 where
   took : (v : Victim) → v.slot.0 < l.slots → writing (row_flags v.table v.slot) ≡ false
-      → used (row_flags v.table v.slot) ≡ false → Alike l t v.table → Swept l t (some v)
-  stuck : Swept l t none
+      → used (row_flags v.table v.slot) ≡ false → Alike l t v.table → Swept l t (Some v)
+  stuck : Swept l t None
 
 pub swept : (n : ℕ) (l : Label) (t v : List ℕ) → Alike l t v → (s : Slot) → s.0 < l.slots → Swept l t (sweep_from n l v s)
 unfolding sweep_from
@@ -68,7 +68,7 @@ swept (suc n) l t v A s h = go (told (writing (row_flags v s))) (told (used (row
           | true ↦ sweep_from n l v (next_slot l s)
           | false ↦ elim (used (row_flags v s)) [
             | true ↦ sweep_from n l (set_flags v s (without_used (row_flags v s))) (next_slot l s)
-            | false ↦ some (record { slot = s; table = v })
+            | false ↦ Some (record { slot = s; table = v })
           ]
         ])
     go (told_true w) x ih = rw w (ih v A)

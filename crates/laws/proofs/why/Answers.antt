@@ -3,13 +3,13 @@ use Prim.Native.Nat.{ℕ, ◌-◌}
 use mathlib.Core.Path.{◌≡◌, refl, sym, ap, ◌∙◌}
 use mathlib.Core.Bool.{false}
 use mathlib.Core.List.{[], ◌∷◌}
-use mathlib.Core.Option.{none}
+use Rattle.std.specs.Prelude.{None}
 use lib.ListN.{get_or}
 use Rattle.layout.specs.declared.Slot.{Slot}
 use Rattle.record.specs.declared.Phase.{Phase}
 use Rattle.record.specs.declared.Phase.TheVariants.{Formatting, Recovering, Ready}
 use Rattle.protocol.specs.declared.Answer.{Answer}
-use Rattle.protocol.specs.declared.Answer.TheVariants.{Refused, Announced, Overwrite, CopiedOut, Looked, NothingToDo, Done, Dealt}
+use Rattle.protocol.specs.declared.Answer.TheVariants.{Announced, Overwrite, CopiedOut, Looked, NothingToDo, Done, Dealt}
 use Rattle.protocol.specs.declared.Condition.TheVariants.{NotCached, Clean, Dirty, Writing, Fetching}
 use Rattle.protocol.specs.Reply.{Reply, refusal, answer, dealt, reply_of, refused}
 use Rattle.protocol.specs.Box.{Box}
@@ -20,7 +20,7 @@ use Rattle.laws.proofs.Does.{does_said}
 use Rattle.laws.proofs.Sorted.{Sorted, is_format, is_reopen, is_step, is_service, sorted}
 
 -- what a call does that no reason refuses is no refusal
-pub plan_answers : (c : Call) (x : Box) → judged c x ≡ none → refused (perform (plan c x) x).said ≡ false
+pub plan_answers : (c : Call) (x : Box) → judged c x ≡ None → refused (perform (plan c x) x).said ≡ false
 plan_answers c x = go (sorted c)
   where
     step_answers : (p : Phase) → refused (perform (stepping x.state p) x).said ≡ false
@@ -28,7 +28,7 @@ plan_answers c x = go (sorted c)
     step_answers Recovering = unfold perform confirmed in refl
     step_answers Ready = unfold perform in refl
 
-    go : {c : Call} → Sorted c → judged c x ≡ none → refused (perform (plan c x) x).said ≡ false
+    go : {c : Call} → Sorted c → judged c x ≡ None → refused (perform (plan c x) x).said ≡ false
     go (is_format slots blocks) e = unfold plan perform in refl
     go is_reopen e = unfold plan perform in refl
     go is_step e = unfold plan in (step_answers x.state.phase)
@@ -40,13 +40,12 @@ answer_as n s = get_or (Done ∷ Announced s ∷ Overwrite ∷ CopiedOut ∷ Don
     ∷ Looked (Dirty s) ∷ Looked (Writing s) ∷ Looked (Fetching s) ∷ []) (n - 100) Done
 
 answer_of : Reply → Answer
-answer_of (refusal n) = Refused n
+answer_of (refusal n) = Done
 answer_of (answer n s) = answer_as n (get_or s 0 (record { 0 = 0 }))
 answer_of (dealt n) = Dealt n
 
 answer_back : (a : Answer) → answer_of (reply_of a) ≡ a
 unfolding answer_of answer_as
-answer_back (Refused n) = refl
 answer_back (Announced s) = refl
 answer_back Overwrite = refl
 answer_back CopiedOut = refl

@@ -10,8 +10,7 @@ use borrow.Author.Tests.{leb-true, eqb-true, le-leb, eq-eqb}
 use Rattle.pages.specs.Pages.{page_at}
 use Rattle.pages.proofs.PageLaws.{length-page}
 use Rattle.layout.specs.declared.Label.{Label}
-use Rattle.layout.specs.declared.LabelRead.{LabelRead}
-use Rattle.layout.specs.declared.LabelRead.TheVariants.{Legal, Illegal}
+use Rattle.std.specs.Prelude.{Option, Some, None}
 use Rattle.layout.specs.Places.{label_place, ssd_length, hdd_length}
 use Rattle.layout.specs.LabelPage.{decode_label}
 use Rattle.layout.proofs.PlaceLaws.{within}
@@ -34,11 +33,11 @@ label_same ssd = (
       ∙ ap is_label (label_back h.label ((within h.label).1 h.limits))),
 )
   where
-    to : 4096 ≤ length ssd → (r : LabelRead) → decode_label (page_at ssd label_place) ≡ r → is_label r ≡ true → HasLabel ssd
-    to w (Legal l) e h =
+    to : 4096 ≤ length ssd → (r : Option Label) → decode_label (page_at ssd label_place) ≡ r → is_label r ≡ true → HasLabel ssd
+    to w (Some l) e h =
         let q = label_only (page_at ssd label_place) l e (length-page ssd label_place (omega arith)) in
         record { label = l; limits = (within l).0 q.1; whole = w; page = q.0 }
-    to w Illegal e h = clash h refl
+    to w None e h = clash h refl
 
 tables_same : (l : Label) (x : Box) → length_test l x.images x.table ⇔ Lengths l x
 unfolding length_test lengths_test

@@ -24,7 +24,8 @@ use Rattle.protocol.specs.Condition.{condition_of, is_open, is_cached}
 use Rattle.protocol.specs.Plan.{Call, format, step, flush, reopen, offer, fetch, land_fetch, look_up, view, write_back, land, look_up_list, offer_list, first_block, ask, slot_map, cost, plan, stores_meta, import_open}
 use Rattle.protocol.specs.Recovery.{label_at, metas_of}
 use Rattle.protocol.specs.SlotMap.{map_lines, map_bytes}
-use Rattle.protocol.specs.Judge.{Reason, number_of, length_test, rows_test, is_ready, test, chain}
+use Rattle.protocol.specs.declared.Refusal.{Refusal}
+use Rattle.protocol.specs.Judge.{number_of, length_test, rows_test, is_ready, test, chain}
 use Rattle.protocol.specs.Why.{BadRecord, BadLengths, BadRows, NotReady, TooHigh, SlotOpen, ImportFull, UnknownCaller, AllOpen, Spent, Lines, ShortSheet, Why, turns, in_turn}
 use Rattle.laws.proofs.why.Basics.{none_same, and_same, is_same}
 use Rattle.laws.proofs.why.Records.{label_same, lengths_same, land_lengths_same, cost_lengths_same}
@@ -35,13 +36,13 @@ use Rattle.laws.proofs.why.Counted.{count_same, import_same}
 use Rattle.laws.proofs.why.Lists.{bad_list-same, listed_some, any_high_same, bad_scan-same}
 
 -- tests in their order say numbers and conditions in theirs; a later one may rest on those before it, which do not hold where it is asked
-pub data Says (t : Reason → Bool) : List Reason → List (ℕ × Type 0) → Type 1 where
+pub data Says (t : Refusal → Bool) : List Refusal → List (ℕ × Type 0) → Type 1 where
   end : Says t [] []
-  asks : {r : Reason} {P : Type 0} {rs : List Reason} {ws : List (ℕ × Type 0)} → t r ⇔ P → (t r ≡ false → Says t rs ws)
+  asks : {r : Refusal} {P : Type 0} {rs : List Refusal} {ws : List (ℕ × Type 0)} → t r ⇔ P → (t r ≡ false → Says t rs ws)
       → Says t (r ∷ rs) ((number_of r, P) ∷ ws)
 
 infixr 5 ◌▸◌
-abbrev ◌▸◌ : {t : Reason → Bool} {r : Reason} {P : Type 0} {rs : List Reason} {ws : List (ℕ × Type 0)} → t r ⇔ P → Says t rs ws
+abbrev ◌▸◌ : {t : Refusal → Bool} {r : Refusal} {P : Type 0} {rs : List Refusal} {ws : List (ℕ × Type 0)} → t r ⇔ P → Says t rs ws
     → Says t (r ∷ rs) ((number_of r, P) ∷ ws)
 e ▸ says = asks e (λ h. says)
 

@@ -4,7 +4,7 @@ use mathlib.Core.Path.{◌≡◌, refl, sym, ap, ◌∙◌}
 use mathlib.Core.Bool.{Bool, true, false, not, ◌&&◌, ◌||◌, or-true}
 use mathlib.Core.Logic.{◌⊎◌, inl, inr}
 use mathlib.Core.List.{List}
-use mathlib.Core.Option.{Option, some}
+use Rattle.std.specs.Prelude.{Option, Some}
 use native.Mathlib.Omega.{arith}
 use native.Mathlib.Nat.{zero-add}
 use native.Mathlib.Decide.{dec_lt}
@@ -44,11 +44,11 @@ unfolding condition_of
 found table b = go (located 0 table b)
   where
     by_flags : (s : SlotOf table b)
-        → condition_at table (some s.slot) ≡ cached_as (writing (row_flags table s.slot)) (dirty (row_flags table s.slot)) s.slot
+        → condition_at table (Some s.slot) ≡ cached_as (writing (row_flags table s.slot)) (dirty (row_flags table s.slot)) s.slot
     by_flags s = by (told (writing (row_flags table s.slot)))
       where
         by : Told (writing (row_flags table s.slot))
-            → condition_at table (some s.slot) ≡ cached_as (writing (row_flags table s.slot)) (dirty (row_flags table s.slot))
+            → condition_at table (Some s.slot) ≡ cached_as (writing (row_flags table s.slot)) (dirty (row_flags table s.slot))
             s.slot
         by (told_true w) = rw (condition_at, w)
         by (told_false w) = rw (condition_at, w)

@@ -2,7 +2,7 @@
 use Prim.Native.Nat.{ℕ, ◌+◌}
 use mathlib.Core.Bool.{Bool, true, false}
 use mathlib.Core.List.{List}
-use mathlib.Core.Option.{Option, some, none}
+use Rattle.std.specs.Prelude.{Option, Some, None}
 use Rattle.pages.specs.Pages.{page_at}
 use Rattle.layout.specs.declared.Slot.{Slot}
 use Rattle.layout.specs.Places.{data_place, block_place}
@@ -17,17 +17,17 @@ use Rattle.protocol.specs.Perform.{confirmed, mended_at, format_store, perform}
 -- a metadata page with the newest stamp plus 1; or nothing, a data page, a page of the disk, or a format's page
 pub data Stored (x : Box) : Bool → Option Store → Type 0 where
   metadata : (p : ℕ) (w : List Slot) (rows : List ℕ)
-      → Stored x true (some (record {
+      → Stored x true (Some (record {
         image = ssd_image;
         place = store_place (label_in x.state) x.images.ssd p;
         bytes =
             meta_bytes (label_in x.state) (x.state.newest + 1) w rows;
       }))
-  nothing : Stored x false none
+  nothing : Stored x false None
   slot_page : (s : Slot) (page : List ℕ) → Stored x false
-      (some (record { image = ssd_image; place = data_place (label_in x.state) s; bytes = page }))
-  disk_page : (place : ℕ) (page : List ℕ) → Stored x false (some (record { image = hdd_image; place = place; bytes = page }))
-  format_page : (d : ℕ) → Stored x false (some (format_store (label_in x.state) x.table (window_in x.state) d))
+      (Some (record { image = ssd_image; place = data_place (label_in x.state) s; bytes = page }))
+  disk_page : (place : ℕ) (page : List ℕ) → Stored x false (Some (record { image = hdd_image; place = place; bytes = page }))
+  format_page : (d : ℕ) → Stored x false (Some (format_store (label_in x.state) x.table (window_in x.state) d))
 
 pub stored : (v : Move) (x : Box) → Stored x (stores_meta v) (perform v x).store
 unfolding perform confirmed

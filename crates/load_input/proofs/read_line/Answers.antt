@@ -1,42 +1,26 @@
-use Prim.Native.Nat.{ℕ, ◌+◌, ◌-◌, ◌<◌}
 use mathlib.Core.Path.{sym, ap, ◌∙◌}
-use lib.ListN.{length, drop}
-use Rattle.layout.specs.LabelPage.{number_from}
-use Rattle.load_input.specs.LoadInput.{fitting}
+use Rattle.load_input.specs.LoadInput.{line}
 use Rattle.load_input.proofs.InputLaws.{line_none, line_zero, line_digit, line_low, line_high}
 use native.Mathlib.Omega.{arith}
 use Rattle.load_input.proofs.read_line.Goals as goal
+use Rattle.load_input.proofs.read_line.Goals.{in_default-via-then-first-lt48, in_default-via-else-first-lt48+else-first-lt58}
 
-pub returns-then-bytes-at : goal.returns-then-bytes-at
-returns-then-bytes-at c =
-    line_none _ _ c.if-bytes-at.true
+pub returns-in_err-first : goal.returns-in_err-first
+returns-in_err-first c = rw (c.from_residual.ensures, line_none c.args.bytes.now c.in_err-first.ensures.cases)
 
-pub returns-then-first-eq48 : goal.returns-then-first-eq48
-returns-then-first-eq48 c =
-    let a = c.args in
-    let h : a.at < length a.bytes.now = omega arith in
-    let e = c.wide-first.ensures.0 in
-    c.read_digits.ensures ∙ line_zero a.bytes.now a.at h (sym e ∙ c.if-first-eq48.true)
+pub returns-in-48 : goal.returns-in-48
+returns-in-48 c = c.read_digits.ensures ∙ sym (ap line c.in_ok-first.ensures.cases.0 ∙ line_zero _ _ (omega arith))
 
-pub returns-then-first-lt48 : goal.returns-then-first-lt48
-returns-then-first-lt48 c =
-    let a = c.args in
-    let h : a.at < length a.bytes.now = omega arith in
-    let e = c.wide-first.ensures.0 in
-    line_low a.bytes.now a.at h (omega arith)
+pub returns-in-49-to-57 : goal.returns-in-49-to-57
+returns-in-49-to-57 c =
+    rw c.from.ensures at c.read_digits-in-49-to-57.ensures
+    ∙ sym (ap line c.in_ok-first.ensures.cases.0 ∙ line_digit _ _ (omega arith) (omega arith))
 
-pub returns-then-first-gt57 : goal.returns-then-first-gt57
-returns-then-first-gt57 c =
-    let a = c.args in
-    let h : a.at < length a.bytes.now = omega arith in
-    let e = c.wide-first.ensures.0 in
-    line_high a.bytes.now a.at h (omega arith)
-
-pub returns : goal.returns
-returns c =
-    let a = c.args in
-    let h : a.at < length a.bytes.now = omega arith in
-    let e = c.wide-first.ensures.0 in
-    c.read_digits-2.ensures
-    ∙ ap (λ (x : ℕ). fitting (number_from 9 (x - 48) (drop (a.at + 1) a.bytes.now))) e
-    ∙ line_digit a.bytes.now a.at h (omega arith) (omega arith)
+pub returns-in_default : goal.returns-in_default
+returns-in_default c =
+    rw c.in_ok-first.ensures.cases.0 (
+    elim c.in_default.branch [
+      | in_default-via-then-first-lt48 w ↦ sym (line_low _ _ (omega arith))
+      | in_default-via-else-first-lt48+else-first-lt58 w ↦ sym (line_high _ _ (omega arith))
+    ]
+    )

@@ -1,7 +1,6 @@
 use Prim.Native.Nat.{ℕ, ◌-◌, ◌≤◌}
 use mathlib.Core.Path.{◌≡◌}
 use mathlib.Core.List.{List}
-use lib.ListN.{length}
 use Rattle.record.specs.declared.Record.{Record}
 use Rattle.protocol.specs.Calls.{box_of}
 use Rattle.load_run.specs.Runs.{Load, run_from}
@@ -12,9 +11,5 @@ abbrev pub load_of : List ℕ → List ℕ → List ℕ → Record → List ℕ 
 load_of ssd hdd table state plain n = record { box = box_of ssd hdd table state; plain = plain; refusals = n }
 
 abbrev pub invariant-loop-i : goal.invariant-loop-i
-invariant-loop-i l = (l.i ≤ l.draws) × (l.refusals ≤ l.i) × (length l.ssd ≡ length l.initial.ssd) × (length l.hdd ≡ length l.initial.hdd) × (length l.table ≡ length l.initial.table)
-    × (length l.plain ≡ length l.initial.plain)
-    × (run_from (l.draws - l.i) l.s (load_of l.ssd l.hdd l.table l.left l.plain l.refusals) ≡ run_from l.draws l.seed (load_of l.initial.ssd l.initial.hdd l.initial.table l.initial.left l.initial.plain 0))
-
-abbrev pub decreases-loop-i : goal.decreases-loop-i
-decreases-loop-i l = l.draws - l.i
+invariant-loop-i l = (l.refusals ≤ l.i)
+    × (run_from (l.draws - l.i) l.s (load_of l.ssd l.hdd l.table l.state l.plain l.refusals) ≡ run_from l.draws l.seed (load_of l.initial.ssd l.initial.hdd l.initial.table l.initial.state l.initial.plain 0))

@@ -1,22 +1,15 @@
-use Prim.Native.Nat.{◌/◌, ◌%◌}
-use mathlib.Core.Path.{◌≡◌, ap}
-use Rattle.layout.specs.declared.Block.{Block}
+use mathlib.Core.Path.{ap}
+use Rattle.std.specs.Prelude.{is_err}
+use Rattle.judging.proofs.JudgingLaws.{refused_on}
 use Rattle.load_turns.proofs.TurnLaws.{turn_refused, turn_landed}
-use native.Mathlib.Omega.{arith}
 use Rattle.load_turns.proofs.make.Goals as goal
 
-pub returns-then-is_refused : goal.returns-then-is_refused
-returns-then-is_refused c =
-    turn_refused _ _ _ _ _ c.kind_of-kind.ensures c.block_of-block.ensures _
-    c.begin_past-q.ensures _ c.is_refused.ensures c.if-is_refused.true
-
-pub land_opened-requires : goal.land_opened-requires
-land_opened-requires c =
-    let q : c.block_of-block.result.0 ≡ c.args.s / 4 % 8 = ap (λ (x : Block). x.0) c.block_of-block.ensures in
-    omega (arith, c.requires)
+pub returns-in_err-begin_past : goal.returns-in_err-begin_past
+returns-in_err-begin_past c =
+    rw (refused_on c.from_residual.ensures.1)
+    (turn_refused _ _ _ _ _ c.kind_of-kind.ensures c.block_of-block.ensures _ c.begin_past.ensures (ap is_err c.in_err-begin_past.was))
 
 pub returns : goal.returns
 returns c =
-    let b = c in
-    turn_landed _ _ _ _ _ b.kind_of-kind.ensures b.block_of-block.ensures _
-    c.begin_past-q.ensures _ c.is_refused.ensures _ c.if-is_refused.false c.land_opened.ensures
+    turn_landed _ _ _ _ _ c.kind_of-kind.ensures c.block_of-block.ensures _ c.begin_past.ensures _
+    (ap is_err c.in_ok-begin_past.was) c.land_opened.ensures

@@ -1,32 +1,33 @@
+use Prim.Native.Nat.{ℕ}
 use mathlib.Core.Path.{◌≡◌}
-use mathlib.Core.Bool.{true, false}
-use borrow.Author.Tests.{eq-eqb, ne_eqb}
+use mathlib.Core.Bool.{false}
+use mathlib.Core.Logic.{◌⊎◌, inl, inr}
+use lib.Dec.{ltb, eqb}
 use native.Mathlib.Omega.{arith}
+use Rattle.layout.specs.declared.Label.{Label}
 use Rattle.layout.specs.PageRule.{legal_flags, pair_test}
 use Rattle.layout.proofs.Booleans.{and_last}
-use Rattle.layout.proofs.RuleLaws.{flags_odd, flags_none}
+use Rattle.layout.proofs.RuleLaws.{flags_none}
 use Rattle.page_rule.proofs.legal_pair.Goals as goal
 
-pub returns-then-flags-eq0 : goal.returns-then-flags-eq0
+pub returns-in-0 : goal.returns-in-0
 unfolding pair_test legal_flags
-returns-then-flags-eq0 c = rw (eq-eqb c.args.flags 0 c.if-flags-eq0.true) (and_last _)
+returns-in-0 c = rw c.in-0.is (and_last (eqb c.args.block 0))
 
-pub returns-then-flags-gt7 : goal.returns-then-flags-gt7
+-- flags of a valid entry
+valid : (l : Label) (block f : ℕ) → (f ≡ 1) ⊎ ((f ≡ 3) ⊎ ((f ≡ 5) ⊎ (f ≡ 7))) → ltb block l.blocks ≡ pair_test l block f
+unfolding pair_test legal_flags
+valid l block f (inl e) = rw e
+valid l block f (inr (inl e)) = rw e
+valid l block f (inr (inr (inl e))) = rw e
+valid l block f (inr (inr (inr e))) = rw e
+
+pub returns-in-1 : goal.returns-in-1
+returns-in-1 c = valid c.args.l c.args.block c.args.flags c.in-1.is
+
+pub returns-in_default : goal.returns-in_default
 unfolding pair_test
-returns-then-flags-gt7 c =
+returns-in_default c =
     let f = c.args.flags in
-    let e : legal_flags f ≡ false = flags_none f c.if-flags-eq0.false (omega arith) (omega arith) (omega arith) (omega arith) in
+    let e : legal_flags f ≡ false = flags_none f (grind arith) (grind arith) (grind arith) (grind arith) (grind arith) in
     rw e
-
-pub returns-then-flags-eq0-2 : goal.returns-then-flags-eq0-2
-unfolding pair_test
-returns-then-flags-eq0-2 c =
-    let f = c.args.flags in
-    let e : legal_flags f ≡ false = flags_none f c.if-flags-eq0.false (omega arith) (omega arith) (omega arith) (omega arith) in
-    rw e
-
-pub returns : goal.returns
-unfolding pair_test
-returns c =
-    let f = c.args.flags in
-    rw (flags_odd f c.if-flags-gt7.false c.if-flags-eq0-2.false, ne_eqb f 0 c.if-flags-eq0.false)

@@ -1,35 +1,23 @@
-use Prim.Native.Nat.{ℕ, ◌-◌}
-use mathlib.Core.Path.{◌≡◌, sym, ap, ◌∙◌}
-use mathlib.Core.Bool.{true, false}
-use mathlib.Core.List.{List}
-use lib.Dec.{eqb}
-use borrow.Author.Tests.{eq-eqb, ne_eqb}
-use Rattle.layout.specs.MetaPage.{slot_at}
+use Rattle.std.proofs.Common.{rules, tests, ◌≡◌, refl, sym, ap, ◌∙◌, ℕ, zero, suc, ◌+◌, ◌-◌, List, arith}
+use Rattle.std.specs.List.{list_any, range_with_len}
+use Rattle.std.proofs.lemmas.Iterator.{YieldsList-from_range}
+use Rattle.std.proofs.lemmas.Iterator.Search.{any_from_yields_List}
+use Rattle.std.specs.Prelude.{eqb, drop}
+use Rattle.layout.specs.declared.Slot.{Slot}
+use Rattle.layout.specs.MetaPage.{count_of, slot_at, window_of}
 use Rattle.layout.specs.PageRule.{listed}
 use Rattle.layout.proofs.JudgeLaws.{listed-left, window_end}
-use native.Mathlib.Omega.{arith}
 use Rattle.page_rule.proofs.listed_from.Goals as goal
 
-pub returns-then-s-t : goal.returns-then-s-t
-returns-then-s-t c =
-    let l = c.loop-m in
-    let page : List ℕ = c.args.page.now in
-    let e : c.slot_at-t.result ≡ slot_at page l.m = c.slot_at-t.ensures in
-    let q : eqb c.args.s.0 (slot_at page l.m).0 ≡ true = eq-eqb _ _ (rw e at c.if-s-t.true) in
-    let x = listed-left c.args.s page l.m (omega arith) in
-    sym (rw q at x) ∙ l.invariant.1
-
-pub loop-m-preserved : goal.loop-m-preserved
-loop-m-preserved c =
-    let l = c.loop-m in
-    let page : List ℕ = c.args.page.now in
-    let e : c.slot_at-t.result ≡ slot_at page l.m = c.slot_at-t.ensures in
-    let q : eqb c.args.s.0 (slot_at page l.m).0 ≡ false = ne_eqb _ _ (rw e at c.if-s-t.false) in
-    let x = listed-left c.args.s page l.m (omega arith) in
-    (omega arith, sym (rw q at x) ∙ l.invariant.1)
+any_listed : (s : Slot) (page : List ℕ) (n k : ℕ) → k + n ≡ count_of page
+    → list_any (λ (m : ℕ). eqb s.0 (slot_at page m).0) (range_with_len k n) ≡ listed s (drop k (window_of page))
+unfolding listed
+any_listed s page zero k e = sym (ap (listed s) (window_end page k (omega arith)))
+any_listed s page (suc n) k e = rw (listed-left s page k (omega arith), any_listed s page n (k + 1) (omega arith))
 
 pub returns : goal.returns
-unfolding listed
 returns c =
-    let l = c.loop-m in
-    sym (ap (listed c.args.s) (window_end c.args.page.now l.m (omega arith))) ∙ l.invariant.1
+    let a = c.args in
+    any_from_yields_List (λ (m : ℕ). eqb a.s.0 (slot_at a.page.now m).0) _ _ _ c.any.ensures.ran
+    (YieldsList-from_range a.k a.count (a.count - a.k) refl refl) (λ x b q h. search (rules, tests))
+    ∙ any_listed a.s a.page.now (a.count - a.k) a.k (omega arith)

@@ -9,24 +9,6 @@ use Rattle.pages.proofs.WordLaws.{number_front}
 use native.Mathlib.Omega.{arith}
 use Rattle.pages.proofs.read_word.Goals as goal
 
-pub overflow_mul-result : goal.overflow_mul-result
-overflow_mul-result c = omega arith
-
-pub overflow_add-result : goal.overflow_add-result
-overflow_add-result c = omega arith
-
-pub overflow_mul-result-2 : goal.overflow_mul-result-2
-overflow_mul-result-2 c = omega arith
-
-pub overflow_add-result-2 : goal.overflow_add-result-2
-overflow_add-result-2 c = omega arith
-
-pub overflow_mul-result-3 : goal.overflow_mul-result-3
-overflow_mul-result-3 c = omega arith
-
-pub overflow_add-result-3 : goal.overflow_add-result-3
-overflow_add-result-3 c = omega arith
-
 -- four bytes, one after the other
 four : (l : List ℕ) → length l ≡ 4 → le_number l ≡ get_or l 0 0 + 256 * (get_or l 1 0 + 256 * (get_or l 2 0 + 256 * get_or l 3 0))
 unfolding le_number
@@ -39,6 +21,5 @@ four l h =
 
 pub returns : goal.returns
 returns c =
-    let l = c.args.part.now in
-    let e = four l c.requires in
+    let e = four c.args.part.now c.requires in
     omega arith

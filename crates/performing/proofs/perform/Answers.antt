@@ -3,6 +3,7 @@ use mathlib.Core.Path.{◌≡◌, refl, sym, ap, ◌∙◌}
 use native.Mathlib.Omega.{arith}
 use lib.ListN.{length}
 use borrow.Author.Tests.{leb-false}
+use Rattle.std.specs.Prelude.{Ok}
 use Rattle.record.specs.Record.{label_in}
 use Rattle.protocol.specs.Box.{Box, Effect, left}
 use Rattle.protocol.specs.Perform.{confirmed, perform}
@@ -26,7 +27,7 @@ abbrev box : Start → Box
 box s = let a = s.args in box_of a.ssd.now a.hdd.now a.table.now a.state
 
 -- what the turn asks for
-doable : (s : Start) (T : Turn) → s.args.turn ≡ T → Performable T s.args.table.now s.args.state
+doable : (s : Start) (T : Turn) → s.args.turn ≡ T → Performable (Ok T) s.args.table.now s.args.state
 doable s T e = rw e at s.requires.performable
 
 -- the table once n slots were passed
@@ -48,7 +49,7 @@ fits s n = let F = s.requires.fits_record in record {
 pub returns-then-is_spent : goal.returns-then-is_spent
 returns-then-is_spent c =
     let x = box (entry (goal.at.returns-then-is_spent c).In-Opens) in
-    rw (c.refused-then-is_spent.ensures, c.in-Opens.is)
+    rw c.in-Opens.is
     (ap (λ (e : Effect). left e x.images) (turn_spent _ _ _ _ (entry (goal.at.returns-then-is_spent c).In-Opens).args.b (entry (goal.at.returns-then-is_spent c).In-Opens).args.caller x (sym c.is_spent.ensures ∙ c.if-is_spent.true)))
 
 pub clear_used-requires : goal.clear_used-requires
@@ -89,10 +90,6 @@ copy_out-stored-requires c =
       s_bound = dirty-block (label_in s.args.state) (table_after g.passed (box s)) P.legal g.s d.0 f;
       s_value = f;
     }
-
-pub returns-in-Refused : goal.returns-in-Refused
-returns-in-Refused c =
-    rw (c.refused.ensures, c.in-Refused.is) refl
 
 pub returns-in-Passes : goal.returns-in-Passes
 unfolding confirmed perform

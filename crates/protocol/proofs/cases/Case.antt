@@ -3,7 +3,7 @@ use Prim.Native.Nat.{ℕ, ◌*◌}
 use mathlib.Core.Path.{◌≡◌}
 use mathlib.Core.Bool.{Bool, true, false}
 use mathlib.Core.List.{List, [], ◌∷◌}
-use mathlib.Core.Option.{Option, some}
+use Rattle.std.specs.Prelude.{Option, Some}
 use lib.ListN.{length, replicate}
 use Rattle.layout.specs.declared.Slot.{Slot}
 use Rattle.layout.specs.declared.Block.{Block}
@@ -18,7 +18,8 @@ use Rattle.protocol.specs.Condition.{words_of}
 use Rattle.protocol.specs.Plan.{Call, plan}
 use Rattle.protocol.specs.Recovery.{spent_in, Recovered, recover_from}
 use Rattle.protocol.specs.Perform.{perform}
-use Rattle.protocol.specs.Judge.{Reason, test}
+use Rattle.protocol.specs.declared.Refusal.{Refusal}
+use Rattle.protocol.specs.Judge.{test}
 use Rattle.protocol.specs.Calls.{effect_of}
 use Rattle.protocol.specs.Cost.{CostLeft, not_started, cost_from}
 use Rattle.protocol.specs.Events.{World, Event, run}
@@ -45,10 +46,10 @@ pub data Case : Type 0 where
   bytes : World → List Event → ℕ → Case
   recovery : Label → List (List ℕ) → Option Recovered → Case
   effect move : Call → Box → Effect → Case
-  names : Call → Box → Stored → Case
+  names : Call → Box → Option Stored → Case
   closed : Call → Box → Option Slot → Case
   words : List ℕ → Box → List ℕ → Case
-  condition : Reason → Call → Box → Bool → Case
+  condition : Refusal → Call → Box → Bool → Case
   written : List ℕ → List ℕ → Case
   costs : List ℕ → ℕ → Box → CostLeft → Case
 
@@ -125,4 +126,4 @@ abbrev pub leaving : Reply → Option Store → Box → Effect
 leaving said store x = record { said = said; state = x.state; table = x.table; store = store }
 
 abbrev pub stores : Image → ℕ → List ℕ → Option Store
-stores image place page = some (record { image = image; place = place; bytes = page })
+stores image place page = Some (record { image = image; place = place; bytes = page })

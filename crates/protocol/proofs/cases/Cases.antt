@@ -3,7 +3,7 @@ use Prim.Native.Nat.{ℕ, ◌+◌}
 use mathlib.Core.Path.{◌≡◌, refl, ap, ◌∙◌}
 use mathlib.Core.Bool.{false}
 use mathlib.Core.List.{List, [], ◌∷◌}
-use mathlib.Core.Option.{some}
+use Rattle.std.specs.Prelude.{Some}
 use lib.ListN.{length, replicate}
 use Rattle.layout.specs.declared.Block.{Block}
 use Rattle.layout.specs.declared.Label.{Label}
@@ -232,7 +232,7 @@ page₁ = meta_page (2 ∷ 0 ∷ 0 ∷ 0 ∷ 1 ∷ 0 ∷ []) (240 ∷ 0 ∷ 0 �
 abbrev pub p10 : Case
 p10 =
     recovery many (page₀ ∷ page₁ ∷ [])
-    (some (record {
+    (Some (record {
       table = 5 ∷ 3 ∷ replicate 480 0;
       state = record_of many (record { 0 = 0 }) 2 Recovering false (record { 0 = 240 } ∷ []);
     }))

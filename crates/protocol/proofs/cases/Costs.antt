@@ -4,6 +4,7 @@ use mathlib.Core.Path.{refl}
 use mathlib.Core.Bool.{true, false}
 use mathlib.Core.List.{List, [], ◌∷◌, ◌++◌}
 use lib.ListN.{replicate}
+use Rattle.std.specs.Prelude.{Ok}
 use Rattle.layout.specs.declared.Label.{Label}
 use Rattle.layout.specs.Places.{ssd_length, hdd_length}
 use Rattle.record.specs.declared.Phase.TheVariants.{Ready}
@@ -28,7 +29,7 @@ ready l table hand newest = record {
 }
 
 abbrev pub leaves : Cost → List ℕ → CostLeft
-leaves said table = record { answer = said; scratch = table }
+leaves said table = record { answer = Ok said; scratch = table }
 
 abbrev pub counts : ℕ → ℕ → ℕ → Counts
 counts c m d = record { copies = c; metadata = m; landings = d }

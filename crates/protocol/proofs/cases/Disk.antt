@@ -5,7 +5,7 @@ use mathlib.Core.Path.{◌≡◌, refl, ap, ◌∙◌}
 use mathlib.Core.Logic.{◌⊎◌, inl, inr}
 use mathlib.Core.Bool.{Bool, true, false, not, ◌&&◌}
 use mathlib.Core.List.{List, [], ◌∷◌}
-use mathlib.Core.Option.{some, none}
+use Rattle.std.specs.Prelude.{Some, None}
 use native.Mathlib.Omega.{arith}
 use lib.Dec.{eqb}
 use borrow.Author.Tests.{eqb-true}
@@ -39,7 +39,7 @@ Only d b page = (d.page b ≡ page) × (d.contents b ≡ page ∷ [])
 abbrev pub twice_landed : Disk
 twice_landed =
     let d = durable (λ b. b.0 ∷ []) in
-    fed (land (record { 0 = 1 }) (8 ∷ [])) false none (fed (land (record { 0 = 1 }) (7 ∷ [])) false none d)
+    fed (land (record { 0 = 1 }) (8 ∷ [])) false None (fed (land (record { 0 = 1 }) (7 ∷ [])) false None d)
 
 pub lands : (twice_landed.page (record { 0 = 1 }) ≡ 8 ∷ [])
     × (twice_landed.contents (record { 0 = 1 }) ≡ (8 ∷ []) ∷ (7 ∷ []) ∷ (1 ∷ []) ∷ [])
@@ -117,11 +117,11 @@ module _ (w : World) where
   unfolding crashed
   cut_old c = refl
 
-  pub cut_new : (c : Call) (s : Store) → (effect_of c w.box).store ≡ some s → crashed c new w ≡ called c w
+  pub cut_new : (c : Call) (s : Store) → (effect_of c w.box).store ≡ Some s → crashed c new w ≡ called c w
   unfolding crashed called
   cut_new c s h = rw h
 
-  pub cut_idle : (c : Call) → (effect_of c w.box).store ≡ none → crashed c new w ≡ w
+  pub cut_idle : (c : Call) → (effect_of c w.box).store ≡ None → crashed c new w ≡ w
   unfolding crashed
   cut_idle c h = rw h
 
@@ -208,8 +208,8 @@ abbrev pub mending_by : Record → Box
 mending_by r = record { images = mending.images; table = mending.table; state = r }
 
 pub places : (r : Record) → is_ready r.phase ≡ false
-    → (place (mending_by r) (record { 0 = 0 }) ≡ record { slot = none; page = filled 64 })
-    × (place (mending_by r) (record { 0 = 1 }) ≡ record { slot = some (record { 0 = 0 }); page = filled 9 })
-    × (place (mending_by r) (record { 0 = 2 }) ≡ record { slot = none; page = filled 66 })
+    → (place (mending_by r) (record { 0 = 0 }) ≡ record { slot = None; page = filled 64 })
+    × (place (mending_by r) (record { 0 = 1 }) ≡ record { slot = Some (record { 0 = 0 }); page = filled 9 })
+    × (place (mending_by r) (record { 0 = 2 }) ≡ record { slot = None; page = filled 66 })
 unfolding known text_of place in_window
 places r h = rw h (refl, refl, refl)

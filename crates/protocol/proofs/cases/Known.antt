@@ -4,7 +4,7 @@ use Prim.Native.Nat.{ℕ, suc, ◌+◌, ◌*◌, ◌≤◌}
 use mathlib.Core.Path.{◌≡◌, refl, ap, ◌∙◌}
 use mathlib.Core.Bool.{Bool, true, false, not, ◌&&◌}
 use mathlib.Core.List.{List, [], ◌∷◌}
-use mathlib.Core.Option.{Option, some, none}
+use Rattle.std.specs.Prelude.{Option, Some, None}
 use native.Mathlib.Omega.{arith}
 use lib.ListN.{length}
 use lib.Dec.{eqb, leb}
@@ -25,7 +25,9 @@ use Rattle.record.specs.Callers.{open_by, caller_array}
 use Rattle.layout.specs.Window.{array_of}
 use Rattle.record.specs.Window.{without, beside, each_place, zero_slots}
 use Rattle.protocol.specs.Rows.{each_row, open_rows}
-use Rattle.protocol.specs.Judge.{names, names_once, Reason, no_label, wrong_length, number_of, is_label, label_for, lengths_test, length_test, lent_test, test, chain, first_of, judged, label_test, row_test, rows_test}
+use Rattle.protocol.specs.declared.Refusal.{Refusal}
+use Rattle.protocol.specs.declared.Refusal.TheVariants.{NoLabel, WrongLength}
+use Rattle.protocol.specs.Judge.{names, names_once, number_of, is_label, label_for, lengths_test, length_test, lent_test, test, chain, first_of, judged, label_test, row_test, rows_test}
 use Rattle.record.specs.Rule.{record_test}
 use Rattle.protocol.specs.Calls.{decided, effect_of, viewed, view_of}
 use Rattle.protocol.specs.Events.{World, Memory, Arrival, old, new, Event, call, reopens, cut, lent, read_of, with_memory, survived, made}
@@ -54,14 +56,14 @@ within l ssd_image p bytes = leb (4096 * p + 4096) (ssd_length l) && eqb (length
 within l hdd_image p bytes = leb (4096 * p + 4096) (hdd_length l) && eqb (length bytes) 4096
 
 unfoldable pub store_within : Label → Option Store → Bool
-store_within l none = true
-store_within l (some s) = within l s.image s.place s.bytes
+store_within l None = true
+store_within l (Some s) = within l s.image s.place s.bytes
 
 holds : (image : List ℕ) (n p : ℕ) → length image ≡ n → 4096 * p + 4096 ≤ n → Holds image p
 holds image n p e h = omega (arith, e)
 
 stored-size : (l : Label) (i : Image) (p : ℕ) (bytes : List ℕ) (im : Images) → Sized l im → within l i p bytes ≡ true
-    → Sized l (applied (some (record { image = i; place = p; bytes = bytes })) im)
+    → Sized l (applied (Some (record { image = i; place = p; bytes = bytes })) im)
 unfolding within
 stored-size l ssd_image p bytes im z h =
     let n : ℕ = ssd_length l in
@@ -76,11 +78,11 @@ stored-size l hdd_image p bytes im z h =
 
 applied-size : (l : Label) (store : Option Store) (im : Images) → Sized l im → store_within l store ≡ true → Sized l (applied store im)
 unfolding store_within
-applied-size l none im z h = z
-applied-size l (some s) im z h = stored-size l s.image s.place s.bytes im z h
+applied-size l None im z h = z
+applied-size l (Some s) im z h = stored-size l s.image s.place s.bytes im z h
 
 -- judging with the lengths known: of 4 only table and data page are left, of 2 the label
-unfoldable pub test_known : Label → Call → Box → Reason → Bool
+unfoldable pub test_known : Label → Call → Box → Refusal → Bool
 test_known l c x r =
     elim (eqb (number_of r) 2) [
       | true ↦ not (leb 4096 (ssd_length l) && is_label (decode_label (page_at x.images.ssd label_place)))
@@ -98,36 +100,36 @@ length-known l im table z =
     (eq-eqb (length im.ssd) (ssd_length l) z.ssd-size)
     ∙ ap (λ (b : Bool). b && eqb (length table) (table_length l)) (eq-eqb (length im.hdd) (hdd_length l) z.hdd-size)
 
-test_known_lem : (l : Label) (c : Call) (x : Box) → Sized l x.images → label_for (kind c) x ≡ l → (r : Reason)
+test_known_lem : (l : Label) (c : Call) (x : Box) → Sized l x.images → label_for (kind c) x ≡ l → (r : Refusal)
     → test r c x ≡ test_known l c x r
 unfolding test_known
 test_known_lem l c x z e r = go (told (eqb (number_of r) 2)) (told (eqb (number_of r) 4))
   where
-    label-known : test no_label c x ≡ not (leb 4096 (ssd_length l) && is_label (decode_label (page_at x.images.ssd label_place)))
+    label-known : test NoLabel c x ≡ not (leb 4096 (ssd_length l) && is_label (decode_label (page_at x.images.ssd label_place)))
     label-known = unfold test label_test in
         (ap (λ (n : ℕ). not (leb 4096 n && is_label (decode_label (page_at x.images.ssd label_place)))) z.ssd-size)
 
-    sizes-known : test wrong_length c x ≡ not (eqb (length x.table) (table_length l) && lent_test (aim c).purpose (length x.table))
+    sizes-known : test WrongLength c x ≡ not (eqb (length x.table) (table_length l) && lent_test (aim c).purpose (length x.table))
     sizes-known = unfold test in
         (ap (λ (k : Label). not (length_test k x.images x.table && lent_test (aim c).purpose (length x.table))) e
         ∙ ap (λ (b : Bool). not (b && lent_test (aim c).purpose (length x.table))) (length-known l x.images x.table z))
 
-    at : (s : Reason) → eqb (number_of r) (number_of s) ≡ true → test r c x ≡ test s c x
-    at s p = ap (λ (q : Reason). test q c x) (number_is r s (eqb-true _ _ p))
+    at : (s : Refusal) → eqb (number_of r) (number_of s) ≡ true → test r c x ≡ test s c x
+    at s p = ap (λ (q : Refusal). test q c x) (number_is r s (eqb-true _ _ p))
 
     go : Told (eqb (number_of r) 2) → Told (eqb (number_of r) 4) → test r c x ≡ test_known l c x r
-    go (told_true p) q = rw (test_known, p) (at no_label p ∙ label-known)
-    go (told_false p) (told_true q) = rw (test_known, p, q) (at wrong_length q ∙ sizes-known)
+    go (told_true p) q = rw (test_known, p) (at NoLabel p ∙ label-known)
+    go (told_false p) (told_true q) = rw (test_known, p, q) (at WrongLength q ∙ sizes-known)
     go (told_false p) (told_false q) = rw (test_known, p, q)
 
-first-same : (rs : List Reason) (f g : Reason → Bool) → ((r : Reason) → f r ≡ g r) → first_of rs f ≡ first_of rs g
+first-same : (rs : List Refusal) (f g : Refusal → Bool) → ((r : Refusal) → f r ≡ g r) → first_of rs f ≡ first_of rs g
 unfolding first_of
 first-same [] f g h = refl
 first-same (r ∷ rs) f g h =
-    ap (λ (b : Bool). elim b [ true ↦ some r | false ↦ first_of rs f ]) (h r)
-    ∙ ap (λ (o : Option Reason). elim (g r) [ true ↦ some r | false ↦ o ]) (first-same rs f g h)
+    ap (λ (b : Bool). elim b [ true ↦ Some r | false ↦ first_of rs f ]) (h r)
+    ∙ ap (λ (o : Option Refusal). elim (g r) [ true ↦ Some r | false ↦ o ]) (first-same rs f g h)
 
-unfoldable pub judged_known : Label → Call → Box → Option Reason
+unfoldable pub judged_known : Label → Call → Box → Option Refusal
 judged_known l c x = first_of (chain c) (test_known l c x)
 
 judged-known : (l : Label) (c : Call) (x : Box) → Sized l x.images → same_label (label_for (kind c) x) l ≡ true
@@ -142,7 +144,7 @@ effect_known l c x = decided (judged_known l c x) c x
 pub effect_known_lem : (l : Label) (c : Call) (x : Box) → Sized l x.images → same_label (label_for (kind c) x) l ≡ true
     → effect_of c x ≡ effect_known l c x
 unfolding effect_of effect_known
-effect_known_lem l c x z h = ap (λ (o : Option Reason). decided o c x) (judged-known l c x z h)
+effect_known_lem l c x z h = ap (λ (o : Option Refusal). decided o c x) (judged-known l c x z h)
 
 -- the box that an effect leaves, its images computed once: without the `let`s each reading would store anew
 abbrev pub left_by : Effect → Box → Box
@@ -211,7 +213,7 @@ shown_known l (e ∷ es) x =
     record { lines = m.line ∷ r.lines; box = r.box; fine = m.fine && r.fine }
 
 -- the bytes that a view hands back, judged so
-abbrev pub bytes_of : Option Reason → Block → Box → List ℕ
+abbrev pub bytes_of : Option Refusal → Block → Box → List ℕ
 bytes_of o b x = (viewed o (lent x.images.ssd) (lent x.images.hdd) (label_in x.state) b (condition_of x.table b)).handed.bytes
 
 unfoldable pub reads_known : Label → List Block → Box → List (List ℕ)
@@ -335,7 +337,7 @@ reads_known_lem : (l : Label) (bs : List Block) (x : Box) → Sized l x.images �
 unfolding reads_known reads_of read_of view_of
 reads_known_lem l [] x z h = refl
 reads_known_lem l (b ∷ bs) x z h =
-    ap (λ (o : Option Reason). bytes_of o b x ∷ reads_of bs x) (judged-known l (view b) x z h)
+    ap (λ (o : Option Refusal). bytes_of o b x ∷ reads_of bs x) (judged-known l (view b) x z h)
     ∙ ap (λ (rest : List (List ℕ)). bytes_of (judged_known l (view b) x) b x ∷ rest) (reads_known_lem l bs x z h)
 
 quick_known : (l : Label) (es : List Event) (bs : List Block) (x : Box) → Sized l x.images → (known l es bs x).fine ≡ true

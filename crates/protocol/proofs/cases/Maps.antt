@@ -3,7 +3,7 @@ use Prim.Native.Nat.{ℕ, zero, suc, ◌*◌}
 use mathlib.Core.Path.{refl}
 use mathlib.Core.Bool.{true, false}
 use mathlib.Core.List.{List, [], ◌∷◌, ◌++◌}
-use mathlib.Core.Option.{some, none}
+use Rattle.std.specs.Prelude.{Some, None}
 use lib.ListN.{replicate}
 use Rattle.layout.specs.Places.{label_of}
 use Rattle.record.specs.declared.Phase.TheVariants.{Ready}
@@ -12,7 +12,7 @@ use Rattle.protocol.specs.Reply.{done}
 use Rattle.protocol.specs.Box.{Box}
 use Rattle.protocol.specs.Plan.{ask, slot_map}
 use Rattle.protocol.specs.SlotMap.{letter_of, letter_at, aligned, map_line, lines_of, map_text}
-use Rattle.protocol.specs.Judge.{sheet_short}
+use Rattle.protocol.specs.declared.Refusal.TheVariants.{SheetShort}
 use Rattle.protocol.specs.Calls.{mapped}
 use Rattle.protocol.proofs.cases.Known.{known}
 use Rattle.protocol.proofs.cases.Case.{Case, AllHold, ◌first◌, imageless, leaving, move, condition, written}
@@ -35,9 +35,9 @@ texts =
     -- the last line of the largest cache
     ∷ written (map_line (label_of 57600 8) [] 959) (53 ∷ 55 ∷ 53 ∷ 52 ∷ 48 ∷ 32 ∷ (replicate 60 46 ++ (10 ∷ [])))
     -- two bytes more than a line stay; a buffer that is too short stays whole
-    ∷ written (mapped none (label_of 1 2) (0 ∷ 0 ∷ []) (replicate 69 7)).sheet
+    ∷ written (mapped None (label_of 1 2) (0 ∷ 0 ∷ []) (replicate 69 7)).sheet
     (32 ∷ 32 ∷ 32 ∷ 32 ∷ 48 ∷ 32 ∷ 46 ∷ (replicate 59 32 ++ (10 ∷ 7 ∷ 7 ∷ [])))
-    ∷ written (mapped (some sheet_short) (label_of 1 2) (0 ∷ 0 ∷ []) (replicate 66 7)).sheet (replicate 66 7)
+    ∷ written (mapped (Some SheetShort) (label_of 1 2) (0 ∷ 0 ∷ []) (replicate 66 7)).sheet (replicate 66 7)
     ∷ []
 
 -- so many free slots
@@ -48,14 +48,14 @@ freed slots =
 -- one byte short, and enough: one line up to 60 slots, two of 61
 abbrev pub rooms : List Case
 rooms =
-    condition sheet_short (ask (slot_map 66)) (freed 1) true
-    ∷ condition sheet_short (ask (slot_map 67)) (freed 1) false
-    ∷ condition sheet_short (ask (slot_map 66)) (freed 60) true
-    ∷ condition sheet_short (ask (slot_map 67)) (freed 60) false
-    ∷ condition sheet_short (ask (slot_map 133)) (freed 61) true
-    ∷ condition sheet_short (ask (slot_map 134)) (freed 61) false
-    ∷ condition sheet_short (ask (slot_map 200)) (freed 61) false
-    ∷ move (ask (slot_map 67)) (freed 1) (leaving done none (freed 1))
+    condition SheetShort (ask (slot_map 66)) (freed 1) true
+    ∷ condition SheetShort (ask (slot_map 67)) (freed 1) false
+    ∷ condition SheetShort (ask (slot_map 66)) (freed 60) true
+    ∷ condition SheetShort (ask (slot_map 67)) (freed 60) false
+    ∷ condition SheetShort (ask (slot_map 133)) (freed 61) true
+    ∷ condition SheetShort (ask (slot_map 134)) (freed 61) false
+    ∷ condition SheetShort (ask (slot_map 200)) (freed 61) false
+    ∷ move (ask (slot_map 67)) (freed 1) (leaving done None (freed 1))
     ∷ []
 
 Texts : AllHold texts

@@ -4,13 +4,13 @@ use Prim.Native.Nat.{ℕ, ◌+◌}
 use mathlib.Core.Path.{◌≡◌, refl}
 use mathlib.Core.Bool.{Bool, true, false}
 use mathlib.Core.List.{List, [], ◌∷◌}
-use mathlib.Core.Option.{some, none}
+use Rattle.std.specs.Prelude.{Some, None}
 use lib.ListN.{replicate}
 use Rattle.record.specs.declared.Phase.TheVariants.{Formatting, Ready}
 use Rattle.protocol.specs.Reply.{answer, announced, copied_out, looked, done, nothing_to_do}
 use Rattle.protocol.specs.declared.Condition.TheVariants.{NotCached, Clean, Dirty}
 use Rattle.record.specs.Record.{record_of, with_callers}
-use Rattle.protocol.specs.declared.Stored.TheVariants.{Nothing, Ssd, Hdd}
+use Rattle.protocol.specs.declared.Stored.TheVariants.{Ssd, Hdd}
 use Rattle.protocol.specs.Box.{Box, ssd_image, hdd_image}
 use Rattle.protocol.specs.Plan.{step, flush, offer, land, fetch, land_fetch, look_up, write_back, look_up_list}
 use Rattle.protocol.proofs.cases.Report.{disk_of, filled, meta_page, label_page, pages}
@@ -35,8 +35,8 @@ held table newest unconfirmed window = record {
 abbrev pub moves : List Case
 moves =
     move (look_up (record { 0 = 1 })) (held (1 ∷ 1 ∷ 0 ∷ 0 ∷ []) 1 true [])
-    (leaving (looked (Clean (record { 0 = 0 }))) none (held (1 ∷ 9 ∷ 0 ∷ 0 ∷ []) 1 true []))
-    ∷ move (look_up (record { 0 = 0 })) (held (1 ∷ 1 ∷ 0 ∷ 0 ∷ []) 1 true []) (leaving (looked NotCached) none (held (1 ∷ 1 ∷ 0 ∷ 0 ∷ []) 1 true []))
+    (leaving (looked (Clean (record { 0 = 0 }))) None (held (1 ∷ 9 ∷ 0 ∷ 0 ∷ []) 1 true []))
+    ∷ move (look_up (record { 0 = 0 })) (held (1 ∷ 1 ∷ 0 ∷ 0 ∷ []) 1 true []) (leaving (looked NotCached) None (held (1 ∷ 1 ∷ 0 ∷ 0 ∷ []) 1 true []))
     ∷ move (offer (record { 0 = 1 }) 0) (held (1 ∷ 9 ∷ 0 ∷ 0 ∷ []) 1 true [])
     (leaving (announced (record { 0 = 0 }))
     (stores ssd_image 1 (meta_page (2 ∷ 0 ∷ 0 ∷ 0 ∷ 1 ∷ 0 ∷ []) (0 ∷ 0 ∷ 0 ∷ 0 ∷ []) (1 ∷ 0 ∷ 0 ∷ 0 ∷ 7 ∷ 0 ∷ 0 ∷ 0 ∷ [])))
@@ -48,10 +48,10 @@ moves =
     ∷ move (write_back (record { 0 = 1 })) (held (1 ∷ 11 ∷ 0 ∷ 0 ∷ []) 2 true [])
     (leaving done (stores hdd_image 1 (filled 3)) (held (1 ∷ 9 ∷ 0 ∷ 0 ∷ []) 2 true []))
     ∷ move (write_back (record { 0 = 1 })) (held (1 ∷ 9 ∷ 0 ∷ 0 ∷ []) 2 true [])
-    (leaving nothing_to_do none (held (1 ∷ 9 ∷ 0 ∷ 0 ∷ []) 2 true []))
+    (leaving nothing_to_do None (held (1 ∷ 9 ∷ 0 ∷ 0 ∷ []) 2 true []))
     ∷ move (write_back (record { 0 = 0 })) (held (1 ∷ 11 ∷ 0 ∷ 0 ∷ []) 2 true [])
-    (leaving nothing_to_do none (held (1 ∷ 11 ∷ 0 ∷ 0 ∷ []) 2 true []))
-    ∷ move flush (held (1 ∷ 11 ∷ 0 ∷ 0 ∷ []) 2 false []) (leaving nothing_to_do none (held (1 ∷ 11 ∷ 0 ∷ 0 ∷ []) 2 false []))
+    (leaving nothing_to_do None (held (1 ∷ 11 ∷ 0 ∷ 0 ∷ []) 2 true []))
+    ∷ move flush (held (1 ∷ 11 ∷ 0 ∷ 0 ∷ []) 2 false []) (leaving nothing_to_do None (held (1 ∷ 11 ∷ 0 ∷ 0 ∷ []) 2 false []))
     -- a sweep of two used slots clears both flags, and takes the one under the hand; being dirty, it is copied out
     ∷ move (fetch (record { 0 = 2 }) 0) (held (1 ∷ 9 ∷ 0 ∷ 11 ∷ []) 2 false [])
     (leaving copied_out (stores hdd_image 0 (filled 4)) (held (1 ∷ 1 ∷ 0 ∷ 1 ∷ []) 2 false []))
@@ -105,9 +105,9 @@ wide =
 abbrev pub narrow : List Case
 narrow =
     move (look_up (record { 0 = 1 })) (held (1 ∷ 9 ∷ 0 ∷ 0 ∷ []) 1 true [])
-    (leaving (looked (Clean (record { 0 = 0 }))) none (held (1 ∷ 9 ∷ 0 ∷ 0 ∷ []) 1 true []))
+    (leaving (looked (Clean (record { 0 = 0 }))) None (held (1 ∷ 9 ∷ 0 ∷ 0 ∷ []) 1 true []))
     ∷ move (look_up (record { 0 = 1 })) (held (1 ∷ 3 ∷ 0 ∷ 0 ∷ []) 1 true [])
-    (leaving (looked (Dirty (record { 0 = 0 }))) none (held (1 ∷ 11 ∷ 0 ∷ 0 ∷ []) 1 true []))
+    (leaving (looked (Dirty (record { 0 = 0 }))) None (held (1 ∷ 11 ∷ 0 ∷ 0 ∷ []) 1 true []))
     ∷ move (land_fetch (record { 0 = 1 })) (held (1 ∷ 5 ∷ 0 ∷ 0 ∷ []) 2 false (record { 0 = 0 } ∷ []))
     (leaving done (stores ssd_image 2 (filled 65)) (held (1 ∷ 1 ∷ 0 ∷ 0 ∷ []) 2 true []))
     ∷ move (land_fetch (record { 0 = 1 })) (held (1 ∷ 13 ∷ 0 ∷ 0 ∷ []) 2 false (record { 0 = 0 } ∷ []))
@@ -129,20 +129,20 @@ doubled f₀ f₁ window = four (0 ∷ 0 ∷ 6 ∷ f₀ ∷ 6 ∷ f₁ ∷ 0 ∷
 
 abbrev pub conditions : List Case
 conditions =
-    move (look_up (record { 0 = 0 })) (rowed 1 3 7 5) (leaving (answer 107 []) none (rowed 1 3 7 5))
-    ∷ move (look_up (record { 0 = 1 })) (rowed 1 3 7 5) (leaving (answer 108 (record { 0 = 0 } ∷ [])) none (rowed 9 3 7 5))
-    ∷ move (look_up (record { 0 = 2 })) (rowed 1 3 7 5) (leaving (answer 109 (record { 0 = 1 } ∷ [])) none (rowed 1 11 7 5))
-    ∷ move (look_up (record { 0 = 3 })) (rowed 1 3 7 5) (leaving (answer 110 (record { 0 = 2 } ∷ [])) none (rowed 1 3 7 5))
-    ∷ move (look_up (record { 0 = 4 })) (rowed 1 3 7 5) (leaving (answer 111 (record { 0 = 3 } ∷ [])) none (rowed 1 3 7 5))
+    move (look_up (record { 0 = 0 })) (rowed 1 3 7 5) (leaving (answer 107 []) None (rowed 1 3 7 5))
+    ∷ move (look_up (record { 0 = 1 })) (rowed 1 3 7 5) (leaving (answer 108 (record { 0 = 0 } ∷ [])) None (rowed 9 3 7 5))
+    ∷ move (look_up (record { 0 = 2 })) (rowed 1 3 7 5) (leaving (answer 109 (record { 0 = 1 } ∷ [])) None (rowed 1 11 7 5))
+    ∷ move (look_up (record { 0 = 3 })) (rowed 1 3 7 5) (leaving (answer 110 (record { 0 = 2 } ∷ [])) None (rowed 1 3 7 5))
+    ∷ move (look_up (record { 0 = 4 })) (rowed 1 3 7 5) (leaving (answer 111 (record { 0 = 3 } ∷ [])) None (rowed 1 3 7 5))
     ∷ move (look_up (record { 0 = 6 })) (doubled 7 3 (record { 0 = 1 } ∷ []))
-    (leaving (answer 110 (record { 0 = 1 } ∷ [])) none (doubled 7 3 (record { 0 = 1 } ∷ [])))
+    (leaving (answer 110 (record { 0 = 1 } ∷ [])) None (doubled 7 3 (record { 0 = 1 } ∷ [])))
     ∷ move (look_up (record { 0 = 6 })) (doubled 1 7 (record { 0 = 2 } ∷ []))
-    (leaving (answer 108 (record { 0 = 1 } ∷ [])) none (doubled 9 7 (record { 0 = 2 } ∷ [])))
-    ∷ closed (look_up (record { 0 = 0 })) (rowed 1 3 7 5) none
-    ∷ closed (look_up (record { 0 = 1 })) (rowed 1 3 7 5) (some (record { 0 = 0 }))
-    ∷ closed (look_up (record { 0 = 2 })) (rowed 1 3 7 5) (some (record { 0 = 1 }))
-    ∷ closed (look_up (record { 0 = 3 })) (rowed 1 3 7 5) none
-    ∷ closed (look_up (record { 0 = 4 })) (rowed 1 3 7 5) none
+    (leaving (answer 108 (record { 0 = 1 } ∷ [])) None (doubled 9 7 (record { 0 = 2 } ∷ [])))
+    ∷ closed (look_up (record { 0 = 0 })) (rowed 1 3 7 5) None
+    ∷ closed (look_up (record { 0 = 1 })) (rowed 1 3 7 5) (Some (record { 0 = 0 }))
+    ∷ closed (look_up (record { 0 = 2 })) (rowed 1 3 7 5) (Some (record { 0 = 1 }))
+    ∷ closed (look_up (record { 0 = 3 })) (rowed 1 3 7 5) None
+    ∷ closed (look_up (record { 0 = 4 })) (rowed 1 3 7 5) None
     ∷ []
 
 -- document 02, N6, on the same boxes: a word for each place of the list, a block listed twice in two; the used flags of clean and
@@ -150,19 +150,19 @@ conditions =
 abbrev pub listed : List Case
 listed =
     words (4 ∷ 2 ∷ 1 ∷ 2 ∷ 0 ∷ 3 ∷ []) (rowed 1 3 7 5) (0 ∷ 2 ∷ 1 ∷ 2 ∷ 0 ∷ 0 ∷ [])
-    ∷ move (look_up_list (4 ∷ 2 ∷ 1 ∷ 2 ∷ 0 ∷ 3 ∷ []) 6) (rowed 1 3 7 5) (leaving done none (rowed 9 11 7 5))
+    ∷ move (look_up_list (4 ∷ 2 ∷ 1 ∷ 2 ∷ 0 ∷ 3 ∷ []) 6) (rowed 1 3 7 5) (leaving done None (rowed 9 11 7 5))
     ∷ words (6 ∷ []) (doubled 7 3 (record { 0 = 1 } ∷ [])) (0 ∷ [])
-    ∷ move (look_up_list (6 ∷ []) 1) (doubled 7 3 (record { 0 = 1 } ∷ [])) (leaving done none (doubled 7 3 (record { 0 = 1 } ∷ [])))
+    ∷ move (look_up_list (6 ∷ []) 1) (doubled 7 3 (record { 0 = 1 } ∷ [])) (leaving done None (doubled 7 3 (record { 0 = 1 } ∷ [])))
     ∷ words (6 ∷ []) (doubled 1 3 []) (2 ∷ [])
-    ∷ move (look_up_list (6 ∷ []) 1) (doubled 1 3 []) (leaving done none (doubled 9 3 []))
+    ∷ move (look_up_list (6 ∷ []) 1) (doubled 1 3 []) (leaving done None (doubled 9 3 []))
     ∷ []
 
 -- the page that a call names is the one that it stores
 abbrev pub named : List Case
 named =
-    names (land (record { 0 = 1 }) (filled 9)) (held (1 ∷ 7 ∷ 0 ∷ 0 ∷ []) 2 false (record { 0 = 0 } ∷ [])) (Ssd 2)
-    ∷ names (write_back (record { 0 = 1 })) (held (1 ∷ 3 ∷ 0 ∷ 0 ∷ []) 2 true []) (Hdd 1)
-    ∷ names (look_up (record { 0 = 1 })) (held (1 ∷ 3 ∷ 0 ∷ 0 ∷ []) 2 true []) Nothing
+    names (land (record { 0 = 1 }) (filled 9)) (held (1 ∷ 7 ∷ 0 ∷ 0 ∷ []) 2 false (record { 0 = 0 } ∷ [])) (Some (Ssd 2))
+    ∷ names (write_back (record { 0 = 1 })) (held (1 ∷ 3 ∷ 0 ∷ 0 ∷ []) 2 true []) (Some (Hdd 1))
+    ∷ names (look_up (record { 0 = 1 })) (held (1 ∷ 3 ∷ 0 ∷ 0 ∷ []) 2 true []) None
     ∷ []
 
 -- document 02, N7: a slot joins the window with its caller, swept for or not, and leaves it with its caller; a copy-out and a store

@@ -5,7 +5,7 @@ use native.Mathlib.Omega.{arith}
 use mathlib.Core.Path.{◌≡◌, refl, sym, ap, ◌∙◌}
 use mathlib.Core.Bool.{Bool, true, false, ◌&&◌}
 use mathlib.Core.List.{List, [], ◌∷◌, ◌++◌}
-use mathlib.Core.Option.{Option, some, none}
+use Rattle.std.specs.Prelude.{Option, Some, None}
 use lib.ListN.{take, drop, get_or}
 use lib.Seq.{drop-drop}
 use Rattle.layout.specs.declared.Slot.{Slot}
@@ -94,8 +94,8 @@ quick_test l page₀ page₁ =
 
 -- (the table and the record are computed even of pages that break a rule)
 abbrev pick : Bool → Recovered → Option Recovered
-pick true r = some r
-pick false r = none
+pick true r = Some r
+pick false r = None
 
 unfoldable pub quick_recover : Label → List ℕ → List ℕ → Option Recovered
 quick_recover l page₀ page₁ =

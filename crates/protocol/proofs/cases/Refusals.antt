@@ -3,7 +3,7 @@ use Prim.Native.Nat.{ℕ, zero, suc}
 use mathlib.Core.Path.{◌≡◌, refl, ◌∙◌}
 use mathlib.Core.Bool.{true, false, ◌||◌}
 use mathlib.Core.List.{List, [], ◌∷◌, ◌++◌}
-use mathlib.Core.Option.{Option, some, none}
+use Rattle.std.specs.Prelude.{Option, Some, None}
 use lib.Dec.{eqb}
 use lib.ListN.{replicate}
 use Rattle.record.specs.declared.Record.{Record}
@@ -12,7 +12,9 @@ use Rattle.record.specs.Record.{record_of, with_callers}
 use Rattle.protocol.specs.Reply.{done}
 use Rattle.protocol.specs.Box.{Box, Effect, refusing}
 use Rattle.protocol.specs.Plan.{Call, format, step, flush, offer, land, fetch, land_fetch, look_up, view, reopen, write_back, look_up_list, offer_list, ask, slot_map, cost}
-use Rattle.protocol.specs.Judge.{Reason, number_of, chain, first_of, window_full, all_open, label_for, lengths_test, length_test, judged, stamps_spent, import_full, unknown_caller, bad_list}
+use Rattle.protocol.specs.declared.Refusal.{Refusal}
+use Rattle.protocol.specs.declared.Refusal.TheVariants.{WindowFull, AllOpen, StampsSpent, ImportFull, UnknownCaller, BadList}
+use Rattle.protocol.specs.Judge.{number_of, chain, first_of, label_for, lengths_test, length_test, judged}
 use Rattle.protocol.specs.Calls.{effect_of}
 use Rattle.protocol.proofs.cases.Report.{disk_of, filled, meta_page, label_page}
 use Rattle.protocol.proofs.cases.Known.{Sized, known, effect_known, effect_known_lem}
@@ -37,10 +39,10 @@ unsettled_at newest = record_of one (record { 0 = 0 }) newest Ready true []
 -- the last stamps, of an offer and of a fetch
 abbrev pub stamps : List Case
 stamps =
-    condition stamps_spent (offer (record { 0 = 0 }) 0) (boxed (0 ∷ 0 ∷ []) (settled_at 4294967231)) false
-    ∷ condition stamps_spent (offer (record { 0 = 0 }) 0) (boxed (0 ∷ 0 ∷ []) (settled_at 4294967232)) true
-    ∷ condition stamps_spent (fetch (record { 0 = 0 }) 0) (boxed (0 ∷ 0 ∷ []) (settled_at 4294967231)) false
-    ∷ condition stamps_spent (fetch (record { 0 = 0 }) 0) (boxed (0 ∷ 0 ∷ []) (settled_at 4294967232)) true
+    condition StampsSpent (offer (record { 0 = 0 }) 0) (boxed (0 ∷ 0 ∷ []) (settled_at 4294967231)) false
+    ∷ condition StampsSpent (offer (record { 0 = 0 }) 0) (boxed (0 ∷ 0 ∷ []) (settled_at 4294967232)) true
+    ∷ condition StampsSpent (fetch (record { 0 = 0 }) 0) (boxed (0 ∷ 0 ∷ []) (settled_at 4294967231)) false
+    ∷ condition StampsSpent (fetch (record { 0 = 0 }) 0) (boxed (0 ∷ 0 ∷ []) (settled_at 4294967232)) true
     ∷ []
 
 -- 62 open of 63 are not refused by 11, 63 are: a fetch, a clean and an uncached block; a dirty one is not
@@ -53,30 +55,30 @@ of_rows table = imageless (record { table = table; state = settled_at 0 })
 
 abbrev pub windows : List Case
 windows =
-    condition window_full (offer (record { 0 = 99 }) 0) (of_rows (open_rows_from 0 62 ++ (0 ∷ 0 ∷ []))) false
-    ∷ condition window_full (offer (record { 0 = 99 }) 0) (of_rows (open_rows_from 0 63)) true
-    ∷ condition window_full (fetch (record { 0 = 99 }) 0) (of_rows (open_rows_from 0 62 ++ (0 ∷ 0 ∷ []))) false
-    ∷ condition window_full (fetch (record { 0 = 99 }) 0) (of_rows (open_rows_from 0 63)) true
-    ∷ condition window_full (offer (record { 0 = 99 }) 0) (of_rows (open_rows_from 0 63 ++ (99 ∷ 1 ∷ []))) true
-    ∷ condition window_full (offer (record { 0 = 99 }) 0) (of_rows (open_rows_from 0 63 ++ (99 ∷ 3 ∷ []))) false
-    ∷ condition all_open (offer (record { 0 = 99 }) 0) (of_rows (open_rows_from 0 62 ++ (0 ∷ 0 ∷ []))) false
-    ∷ condition all_open (offer (record { 0 = 99 }) 0) (of_rows (open_rows_from 0 63)) true
+    condition WindowFull (offer (record { 0 = 99 }) 0) (of_rows (open_rows_from 0 62 ++ (0 ∷ 0 ∷ []))) false
+    ∷ condition WindowFull (offer (record { 0 = 99 }) 0) (of_rows (open_rows_from 0 63)) true
+    ∷ condition WindowFull (fetch (record { 0 = 99 }) 0) (of_rows (open_rows_from 0 62 ++ (0 ∷ 0 ∷ []))) false
+    ∷ condition WindowFull (fetch (record { 0 = 99 }) 0) (of_rows (open_rows_from 0 63)) true
+    ∷ condition WindowFull (offer (record { 0 = 99 }) 0) (of_rows (open_rows_from 0 63 ++ (99 ∷ 1 ∷ []))) true
+    ∷ condition WindowFull (offer (record { 0 = 99 }) 0) (of_rows (open_rows_from 0 63 ++ (99 ∷ 3 ∷ []))) false
+    ∷ condition AllOpen (offer (record { 0 = 99 }) 0) (of_rows (open_rows_from 0 62 ++ (0 ∷ 0 ∷ []))) false
+    ∷ condition AllOpen (offer (record { 0 = 99 }) 0) (of_rows (open_rows_from 0 63)) true
     ∷ []
 
 -- document 02, N6: lists of 0, 1, 64 and 65 blocks, and answer lists that are shorter and longer by one
 abbrev pub lengths : List Case
 lengths =
-    condition bad_list (look_up_list [] 0) (of_rows []) true
-    ∷ condition bad_list (look_up_list (0 ∷ []) 1) (of_rows []) false
-    ∷ condition bad_list (look_up_list (replicate 64 0) 64) (of_rows []) false
-    ∷ condition bad_list (look_up_list (replicate 65 0) 65) (of_rows []) true
-    ∷ condition bad_list (look_up_list (replicate 64 0) 63) (of_rows []) true
-    ∷ condition bad_list (look_up_list (replicate 64 0) 65) (of_rows []) true
+    condition BadList (look_up_list [] 0) (of_rows []) true
+    ∷ condition BadList (look_up_list (0 ∷ []) 1) (of_rows []) false
+    ∷ condition BadList (look_up_list (replicate 64 0) 64) (of_rows []) false
+    ∷ condition BadList (look_up_list (replicate 65 0) 65) (of_rows []) true
+    ∷ condition BadList (look_up_list (replicate 64 0) 63) (of_rows []) true
+    ∷ condition BadList (look_up_list (replicate 64 0) 65) (of_rows []) true
     ∷ []
 
 -- 5 of a reopening: pages that break a rule, each but for one thing a legal page of two slots and three blocks
 abbrev pub broken : List ℕ → List ℕ → List ℕ → Case
-broken head window entries = recovery two (meta_page head window entries ∷ []) none
+broken head window entries = recovery two (meta_page head window entries ∷ []) None
 
 abbrev pub page-refusals : List Case
 page-refusals =
@@ -100,7 +102,7 @@ page-refusals =
     ∷ broken (1 ∷ 0 ∷ 0 ∷ 0 ∷ 1 ∷ 0 ∷ []) [] (1 ∷ 0 ∷ 0 ∷ 0 ∷ 3 ∷ [])
     -- but a writing entry outside the newest window is kept
     ∷ recovery two (meta_page (1 ∷ 0 ∷ 0 ∷ 0 ∷ 0 ∷ 0 ∷ []) [] (1 ∷ 0 ∷ 0 ∷ 0 ∷ 5 ∷ 0 ∷ 0 ∷ 0 ∷ 2 ∷ 0 ∷ 0 ∷ 0 ∷ 7 ∷ []) ∷ [])
-    (some (record { table = 1 ∷ 1 ∷ 2 ∷ 3 ∷ []; state = record_of two (record { 0 = 0 }) 1 Ready false [] }))
+    (Some (record { table = 1 ∷ 1 ∷ 2 ∷ 3 ∷ []; state = record_of two (record { 0 = 0 }) 1 Ready false [] }))
     ∷ []
 
 abbrev pub refuses_by : ℕ → Call → Box → Case
@@ -217,7 +219,7 @@ cost-refusals =
     ∷ refuses_by 6 (ask (cost [] 2 2)) (boxed (0 ∷ 0 ∷ []) (record_of one (record { 0 = 0 }) 1 Recovering false (record { 0 = 0 } ∷ [])))
     ∷ refuses_by 15 (ask (cost (9 ∷ 9 ∷ []) 2 2)) (boxed (0 ∷ 1 ∷ []) (settled_at 1))
     ∷ refuses_by 18 (ask (cost (9 ∷ []) 2 2)) (boxed (0 ∷ 1 ∷ []) (settled_at 1))
-    ∷ effect (ask (cost (9 ∷ []) 1 2)) (boxed (0 ∷ 1 ∷ []) (settled_at 1)) (leaving done none (boxed (0 ∷ 1 ∷ []) (settled_at 1)))
+    ∷ effect (ask (cost (9 ∷ []) 1 2)) (boxed (0 ∷ 1 ∷ []) (settled_at 1)) (leaving done None (boxed (0 ∷ 1 ∷ []) (settled_at 1)))
     ∷ []
 
 -- document 02, N7: the import with 7, 8 and 9 open, and people with 8 of the import's; of a clean and a dirty block; a caller past the
@@ -228,20 +230,20 @@ open_both count callers table =
 
 abbrev pub imports : List Case
 imports =
-    condition import_full (fetch (record { 0 = 99 }) 1) (open_both 7 (replicate 7 1) []) false
-    ∷ condition import_full (fetch (record { 0 = 99 }) 1) (open_both 8 (replicate 8 1) []) true
-    ∷ condition import_full (fetch (record { 0 = 99 }) 1) (open_both 9 (replicate 9 1) []) true
-    ∷ condition import_full (fetch (record { 0 = 99 }) 1) (open_both 9 (0 ∷ replicate 8 1) []) true
-    ∷ condition import_full (fetch (record { 0 = 99 }) 1) (open_both 8 (0 ∷ replicate 7 1) []) false
-    ∷ condition import_full (fetch (record { 0 = 99 }) 0) (open_both 8 (replicate 8 1) []) false
-    ∷ condition import_full (offer (record { 0 = 99 }) 1) (open_both 8 (replicate 8 1) []) true
-    ∷ condition import_full (offer (record { 0 = 99 }) 1) (open_both 8 (replicate 8 1) (99 ∷ 1 ∷ [])) true
-    ∷ condition import_full (offer (record { 0 = 99 }) 1) (open_both 8 (replicate 8 1) (99 ∷ 3 ∷ [])) false
-    ∷ condition import_full (fetch (record { 0 = 99 }) 1) (open_both 7 (replicate 8 1) []) false
-    ∷ condition unknown_caller (offer (record { 0 = 0 }) 0) (of_rows []) false
-    ∷ condition unknown_caller (offer (record { 0 = 0 }) 1) (of_rows []) false
-    ∷ condition unknown_caller (offer (record { 0 = 0 }) 2) (of_rows []) true
-    ∷ condition unknown_caller (fetch (record { 0 = 0 }) 2) (of_rows []) true
+    condition ImportFull (fetch (record { 0 = 99 }) 1) (open_both 7 (replicate 7 1) []) false
+    ∷ condition ImportFull (fetch (record { 0 = 99 }) 1) (open_both 8 (replicate 8 1) []) true
+    ∷ condition ImportFull (fetch (record { 0 = 99 }) 1) (open_both 9 (replicate 9 1) []) true
+    ∷ condition ImportFull (fetch (record { 0 = 99 }) 1) (open_both 9 (0 ∷ replicate 8 1) []) true
+    ∷ condition ImportFull (fetch (record { 0 = 99 }) 1) (open_both 8 (0 ∷ replicate 7 1) []) false
+    ∷ condition ImportFull (fetch (record { 0 = 99 }) 0) (open_both 8 (replicate 8 1) []) false
+    ∷ condition ImportFull (offer (record { 0 = 99 }) 1) (open_both 8 (replicate 8 1) []) true
+    ∷ condition ImportFull (offer (record { 0 = 99 }) 1) (open_both 8 (replicate 8 1) (99 ∷ 1 ∷ [])) true
+    ∷ condition ImportFull (offer (record { 0 = 99 }) 1) (open_both 8 (replicate 8 1) (99 ∷ 3 ∷ [])) false
+    ∷ condition ImportFull (fetch (record { 0 = 99 }) 1) (open_both 7 (replicate 8 1) []) false
+    ∷ condition UnknownCaller (offer (record { 0 = 0 }) 0) (of_rows []) false
+    ∷ condition UnknownCaller (offer (record { 0 = 0 }) 1) (of_rows []) false
+    ∷ condition UnknownCaller (offer (record { 0 = 0 }) 2) (of_rows []) true
+    ∷ condition UnknownCaller (fetch (record { 0 = 0 }) 2) (of_rows []) true
     ∷ []
 
 Stamps : AllHold stamps
@@ -263,10 +265,10 @@ Imports =
     (refl, (refl, (refl, (refl, (refl, (refl, (refl, (refl, (refl, (refl, (refl, (refl, (refl, (refl, tt))))))))))))))
 
 -- 17 "before 11" (document 02, N7): of an offer, a fetch and a list, where both conditions hold
-abbrev crowded : Call → Option Reason
+abbrev crowded : Call → Option Refusal
 crowded c = first_of (chain c) (λ r. eqb (number_of r) 11 || eqb (number_of r) 17)
 
-Crowded : (crowded (offer (record { 0 = 0 }) 1) ≡ some import_full) × ((crowded (fetch (record { 0 = 0 }) 1) ≡ some import_full) × (crowded (offer_list (0 ∷ []) 1) ≡ some import_full))
+Crowded : (crowded (offer (record { 0 = 0 }) 1) ≡ Some ImportFull) × ((crowded (fetch (record { 0 = 0 }) 1) ≡ Some ImportFull) × (crowded (offer_list (0 ∷ []) 1) ≡ Some ImportFull))
 unfolding first_of
 Crowded = Imports first (refl, (refl, refl))
 

@@ -5,7 +5,8 @@ use mathlib.Core.Logic.{◌≢◌}
 use mathlib.Core.Bool.{Bool, true, false, not, ◌&&◌}
 use mathlib.Core.List.Memᴰ
 use mathlib.Core.List.{List, [], ◌∷◌}
-use mathlib.Core.Option.{some, none, some-ne-none}
+use Rattle.std.specs.Prelude.{Some, None}
+use Rattle.std.proofs.lemmas.Option.{none-some}
 use native.Mathlib.Omega.{arith}
 use lib.ListN.{get_or}
 use Rattle.pages.specs.Pages.{page_at}
@@ -49,7 +50,7 @@ announced_then_cut = (run (call (offer five 0) ∷ lost usual ∷ []) (start usu
 unfoldable pub loses_flushed : World
 loses_flushed = record {
   box = landed_then_cut;
-  disk = fed flush false none (fed (land five (filled 9)) false none (start usual).disk);
+  disk = fed flush false None (fed (land five (filled 9)) false None (start usual).disk);
 }
 
 -- A box whose finished mending reads another page than the only one that the plain disk has of the block.
@@ -213,7 +214,7 @@ place-slot : (x : Box) (b : Block) → is_ready x.state.phase ≡ true → (plac
 unfolding place
 place-slot x b h = rw h
 
-was_there : (place unstored (record { 0 = 1 })).slot ≡ some (record { 0 = 0 })
+was_there : (place unstored (record { 0 = 1 })).slot ≡ Some (record { 0 = 0 })
 was_there = place-slot unstored (record { 0 = 1 }) refl ∙ ap slot_said slot_said_lem
 
 must_keep : Safe one (start_of one unstored) → Kept (call reopen) [] (record { 0 = 1 }) (start_of one unstored)
@@ -225,9 +226,9 @@ pub loses_slot : Safe one (start_of one unstored) → ⊥
 unfolding run
 loses_slot S =
     let b : Block = record { 0 = 1 } in
-    let gone : (place (called reopen (start_of one unstored)).box b).slot ≡ none =
+    let gone : (place (called reopen (start_of one unstored)).box b).slot ≡ None =
     ap (λ (x : Box). (place x b).slot) reopened_is ∙ place-slot (fresh one (text_of 49 50)) b refl ∙ ap slot_said none_said in
-    some-ne-none _ (sym was_there ∙ sym (ap (λ (p : Place). p.slot) (must_keep S).place_kept) ∙ gone)
+    none-some _ (sym (sym was_there ∙ sym (ap (λ (p : Place). p.slot) (must_keep S).place_kept) ∙ gone))
 
 pub loses_row : Safe one (start_of one unstored) → ⊥
 loses_row S =

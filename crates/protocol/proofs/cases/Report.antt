@@ -3,7 +3,7 @@
 use Prim.Native.Nat.{ℕ, zero, suc, ◌-◌}
 use mathlib.Core.Bool.{true, false}
 use mathlib.Core.List.{List, [], ◌∷◌, ◌++◌}
-use mathlib.Core.Option.{Option, some, none}
+use Rattle.std.specs.Prelude.{Option, Some, None}
 use lib.ListN.{replicate}
 use lib.Dec.{eqb, leb}
 use Rattle.pages.specs.Pages.{padded}
@@ -31,8 +31,8 @@ stored_at l ssd_image p =
     elim (eqb p 0) [ true ↦ label | false ↦ elim (leb p (meta_pages l)) [ true ↦ meta (p - 1) | false ↦ slot (p - 1 - meta_pages l) ] ]
 
 abbrev pub stored_of : Label → Option Store → Stored
-stored_of l none = nothing
-stored_of l (some s) = stored_at l s.image s.place
+stored_of l None = nothing
+stored_of l (Some s) = stored_at l s.image s.place
 
 -- what an event shows: its answer (of a cut, the reopening's), its store, and the phase after it
 pub record Line : Type 0 where

@@ -3,7 +3,7 @@ use Prim.Native.Nat.{ℕ, zero, suc}
 use mathlib.Core.Path.{refl}
 use mathlib.Core.Bool.{true, false}
 use mathlib.Core.List.{List, [], ◌∷◌, ◌++◌}
-use mathlib.Core.Option.{none}
+use Rattle.std.specs.Prelude.{None}
 use lib.ListN.{replicate}
 use Rattle.layout.specs.declared.Slot.{Slot}
 use Rattle.layout.specs.declared.Label.{Label}
@@ -13,7 +13,7 @@ use Rattle.record.specs.Record.{record_of, with_callers}
 use Rattle.protocol.specs.Reply.{dealt, copied_out}
 use Rattle.protocol.specs.Box.{Box, ssd_image, hdd_image}
 use Rattle.protocol.specs.Plan.{offer_list}
-use Rattle.protocol.specs.Judge.{bad_scan, stamps_spent}
+use Rattle.protocol.specs.declared.Refusal.TheVariants.{BadScan, StampsSpent}
 use Rattle.protocol.proofs.cases.Report.{filled, meta_page, pages}
 use Rattle.protocol.proofs.cases.Known.{known}
 use Rattle.protocol.proofs.cases.Case.{Case, AllHold, ◌first◌, one, two, many, imageless, leaving, stores, move, condition}
@@ -71,12 +71,12 @@ scans =
     (four (5 ∷ 11 ∷ 6 ∷ 7 ∷ 0 ∷ 0 ∷ 0 ∷ 0 ∷ []) 2 3 Ready false (slots_from 1 1)))
     -- after P5's cut: 6 would copy out slot 0, so the list ends before it, with no store
     ∷ move (offer_list (5 ∷ 6 ∷ []) 0) (four (5 ∷ 3 ∷ 0 ∷ 0 ∷ 0 ∷ 0 ∷ 0 ∷ 0 ∷ []) 0 2 Ready true [])
-    (leaving (dealt 1) none (four (5 ∷ 3 ∷ 0 ∷ 0 ∷ 0 ∷ 0 ∷ 0 ∷ 0 ∷ []) 0 2 Ready true []))
+    (leaving (dealt 1) None (four (5 ∷ 3 ∷ 0 ∷ 0 ∷ 0 ∷ 0 ∷ 0 ∷ 0 ∷ []) 0 2 Ready true []))
     -- a block that is open, and one that is too high, end it
     ∷ move (offer_list (5 ∷ 6 ∷ []) 0) (four (5 ∷ 3 ∷ 6 ∷ 5 ∷ 0 ∷ 0 ∷ 0 ∷ 0 ∷ []) 2 2 Ready false (slots_from 1 1))
-    (leaving (dealt 1) none (four (5 ∷ 3 ∷ 6 ∷ 5 ∷ 0 ∷ 0 ∷ 0 ∷ 0 ∷ []) 2 2 Ready false (slots_from 1 1)))
+    (leaving (dealt 1) None (four (5 ∷ 3 ∷ 6 ∷ 5 ∷ 0 ∷ 0 ∷ 0 ∷ 0 ∷ []) 2 2 Ready false (slots_from 1 1)))
     ∷ move (offer_list (5 ∷ 8 ∷ 6 ∷ []) 0) (four (5 ∷ 3 ∷ 0 ∷ 0 ∷ 0 ∷ 0 ∷ 0 ∷ 0 ∷ []) 1 2 Ready false [])
-    (leaving (dealt 1) none (four (5 ∷ 3 ∷ 0 ∷ 0 ∷ 0 ∷ 0 ∷ 0 ∷ 0 ∷ []) 1 2 Ready false []))
+    (leaving (dealt 1) None (four (5 ∷ 3 ∷ 0 ∷ 0 ∷ 0 ∷ 0 ∷ 0 ∷ 0 ∷ []) 1 2 Ready false []))
     -- a clean block whose slot an earlier place takes is swept for; one that is listed first keeps its slot, and used flags
     ∷ move (offer_list (5 ∷ 3 ∷ []) 0) (four (3 ∷ 1 ∷ 4 ∷ 1 ∷ 6 ∷ 1 ∷ 7 ∷ 1 ∷ []) 0 2 Ready false [])
     (leaving (dealt 2)
@@ -142,17 +142,17 @@ crowded =
 -- overwrites alone, nor where the first place copies out
 abbrev pub bad_scans : List Case
 bad_scans =
-    condition bad_scan (offer_list [] 0) (boxed one [] 0 2 []) true
-    ∷ condition bad_scan (offer_list (9 ∷ []) 0) (boxed one [] 0 2 []) false
-    ∷ condition bad_scan (offer_list (9 ∷ 9 ∷ []) 0) (boxed one [] 0 2 []) true
-    ∷ condition bad_scan (offer_list (9 ∷ 8 ∷ 7 ∷ 9 ∷ []) 0) (boxed one [] 0 2 []) true
-    ∷ condition bad_scan (offer_list (7 ∷ 8 ∷ 9 ∷ 8 ∷ []) 0) (boxed one [] 0 2 []) true
-    ∷ condition bad_scan (offer_list (blocks_from 0 63) 0) (boxed one [] 0 2 []) false
-    ∷ condition bad_scan (offer_list (blocks_from 0 64) 0) (boxed one [] 0 2 []) true
-    ∷ condition stamps_spent (offer_list (5 ∷ []) 0) (four (5 ∷ 3 ∷ 0 ∷ 0 ∷ 0 ∷ 0 ∷ 0 ∷ 0 ∷ []) 1 4294967232 Ready false []) false
-    ∷ condition stamps_spent (offer_list (5 ∷ 6 ∷ []) 0) (four (5 ∷ 3 ∷ 0 ∷ 0 ∷ 0 ∷ 0 ∷ 0 ∷ 0 ∷ []) 1 4294967232 Ready false []) true
-    ∷ condition stamps_spent (offer_list (5 ∷ 6 ∷ []) 0) (four (5 ∷ 3 ∷ 0 ∷ 0 ∷ 0 ∷ 0 ∷ 0 ∷ 0 ∷ []) 1 4294967231 Ready false []) false
-    ∷ condition stamps_spent (offer_list (1 ∷ []) 0) (boxed one (0 ∷ 3 ∷ []) 0 4294967232 []) false
+    condition BadScan (offer_list [] 0) (boxed one [] 0 2 []) true
+    ∷ condition BadScan (offer_list (9 ∷ []) 0) (boxed one [] 0 2 []) false
+    ∷ condition BadScan (offer_list (9 ∷ 9 ∷ []) 0) (boxed one [] 0 2 []) true
+    ∷ condition BadScan (offer_list (9 ∷ 8 ∷ 7 ∷ 9 ∷ []) 0) (boxed one [] 0 2 []) true
+    ∷ condition BadScan (offer_list (7 ∷ 8 ∷ 9 ∷ 8 ∷ []) 0) (boxed one [] 0 2 []) true
+    ∷ condition BadScan (offer_list (blocks_from 0 63) 0) (boxed one [] 0 2 []) false
+    ∷ condition BadScan (offer_list (blocks_from 0 64) 0) (boxed one [] 0 2 []) true
+    ∷ condition StampsSpent (offer_list (5 ∷ []) 0) (four (5 ∷ 3 ∷ 0 ∷ 0 ∷ 0 ∷ 0 ∷ 0 ∷ 0 ∷ []) 1 4294967232 Ready false []) false
+    ∷ condition StampsSpent (offer_list (5 ∷ 6 ∷ []) 0) (four (5 ∷ 3 ∷ 0 ∷ 0 ∷ 0 ∷ 0 ∷ 0 ∷ 0 ∷ []) 1 4294967232 Ready false []) true
+    ∷ condition StampsSpent (offer_list (5 ∷ 6 ∷ []) 0) (four (5 ∷ 3 ∷ 0 ∷ 0 ∷ 0 ∷ 0 ∷ 0 ∷ 0 ∷ []) 1 4294967231 Ready false []) false
+    ∷ condition StampsSpent (offer_list (1 ∷ []) 0) (boxed one (0 ∷ 3 ∷ []) 0 4294967232 []) false
     ∷ []
 
 Scans : AllHold scans

@@ -3,7 +3,7 @@ use Prim.Native.Nat.{ℕ, suc}
 use mathlib.Core.Path.{refl, ◌∙◌}
 use mathlib.Core.Bool.{true, false}
 use mathlib.Core.List.{List, [], ◌∷◌}
-use mathlib.Core.Option.{some, none}
+use Rattle.std.specs.Prelude.{Some, None}
 use lib.ListN.{replicate}
 use Rattle.record.specs.declared.Phase.TheVariants.{Recovering, Ready}
 use Rattle.protocol.specs.Reply.{done}
@@ -34,7 +34,7 @@ storing p page r = record {
   said = done;
   state = r.state;
   table = r.table;
-  store = some (record { image = ssd_image; place = suc p; bytes = page });
+  store = Some (record { image = ssd_image; place = suc p; bytes = page });
 }
 
 -- "store metadata page 0": of two metadata pages
@@ -62,7 +62,7 @@ mended₁ = meta_page (4 ∷ 0 ∷ 0 ∷ 0 ∷ 0 ∷ 0 ∷ []) [] []
 
 -- the reopening
 abbrev pub opened : Case
-opened = recovery many (older ∷ newer ∷ []) (some (pending 2 Recovering (record { 0 = 0 } ∷ record { 0 = 240 } ∷ [])))
+opened = recovery many (older ∷ newer ∷ []) (Some (pending 2 Recovering (record { 0 = 0 } ∷ record { 0 = 240 } ∷ [])))
 
 -- its first step
 abbrev pub first_step : Case
@@ -72,7 +72,7 @@ first_step =
 
 -- a cut after that store: 6 is dropped again
 abbrev pub cut_between : Case
-cut_between = recovery many (mended₀ ∷ newer ∷ []) (some (pending 3 Recovering (record { 0 = 240 } ∷ [])))
+cut_between = recovery many (mended₀ ∷ newer ∷ []) (Some (pending 3 Recovering (record { 0 = 240 } ∷ [])))
 
 -- the second step, then ready
 abbrev pub second_step : Case
@@ -80,11 +80,11 @@ second_step = move step (imageless (pending 3 Recovering (record { 0 = 240 } ∷
 
 -- a cut after that store: nothing is pending
 abbrev pub cut-after : Case
-cut-after = recovery many (mended₀ ∷ mended₁ ∷ []) (some (pending 4 Ready []))
+cut-after = recovery many (mended₀ ∷ mended₁ ∷ []) (Some (pending 4 Ready []))
 
 -- two pages with one stamp, which is not 0
 abbrev pub same-stamps : Case
-same-stamps = recovery many (meta_page (1 ∷ []) [] [] ∷ meta_page (1 ∷ []) [] [] ∷ []) none
+same-stamps = recovery many (meta_page (1 ∷ []) [] [] ∷ meta_page (1 ∷ []) [] [] ∷ []) None
 
 Flushed : Holds flushed
 unfolding known kept_rows

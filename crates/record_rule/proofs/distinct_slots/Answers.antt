@@ -1,37 +1,33 @@
-use borrow.Author.Rules.{rules}
-use mathlib.Core.Path.{◌≡◌, sym, ◌∙◌}
-use lib.ListN.{length}
-use Rattle.layout.proofs.Loops.{length-mapped}
-use Rattle.record_rule.proofs.DistinctLaws.{unmarked, marks_begin, marks_back, listed_twice}
+use mathlib.Core.Path.{◌≡◌, sym, ap, ◌∙◌}
+use mathlib.Core.Bool.{false}
 use native.Mathlib.Omega.{arith}
+use lib.ListN.{take, get_or}
+use lib.Seq.{take_all}
+use Rattle.layout.specs.PageRule.{listed, distinct}
+use Rattle.record.proofs.WindowLaws.{listed-any}
+use Rattle.record_rule.proofs.DistinctLaws.{marks_begin, twice, unmarked, mark_more}
 use Rattle.record_rule.proofs.distinct_slots.Goals as goal
+use Rattle.record_rule.proofs.distinct_slots.Goals.{else-marks-m-via-then-marks-m+else-contains, else-marks-m-via-else-marks-m}
 
 pub loop-i-init : goal.loop-i-init
-loop-i-init c = let w = c.args.w in (search rules, marks_begin w.slots w.count _ (search rules))
-
-pub listed_again-requires : goal.listed_again-requires
-listed_again-requires c =
-    let l = c.loop-i in
-    record { count_le_window_most = c.requires; k_le_count = l.invariant.0; w_value = unmarked _ l.marks _ l.invariant.1 }
-
-pub returns-then-listed_again : goal.returns-then-listed_again
-returns-then-listed_again c =
-    let l = c.loop-i in
-    let all : length c.args.w.slots ≡ 63 = search (rules, length-mapped) in
-    sym (listed_twice c.args.w.slots c.args.w.count l.i _ (omega arith) l.invariant.0 (omega (arith, c.requires))
-    (sym c.listed_again.ensures ∙ c.if-listed_again.true))
+loop-i-init c = marks_begin c.args.slots.now
 
 pub loop-i-preserved : goal.loop-i-preserved
 loop-i-preserved c =
     let l = c.loop-i in
-    let all : length c.args.w.slots ≡ 63 = search (rules, length-mapped) in (
-      omega (arith, l.invariant.0),
-      marks_back c.args.w.slots c.args.w.count l.i _ (omega arith) l.invariant.0 (omega (arith, c.requires)) l.marks
-          l.invariant.1 (sym c.listed_again.ensures ∙ c.if-listed_again.false),
-    )
+    let ss = c.args.slots.now in
+    let e : listed (get_or ss l.i (record { 0 = 0 })) (take l.i ss) ≡ false = elim c.else-marks-m.branch [
+      | else-marks-m-via-then-marks-m+else-contains w ↦ sym (w.contains.ensures.value ∙ listed-any _ _) ∙ w.if-contains.false
+      | else-marks-m-via-else-marks-m w ↦ unmarked ss l.i (record { 0 = 0 }) c.loop-i-test.true l.marks l.invariant w.if-marks-m.false
+    ] in
+    mark_more ss l.i (record { 0 = 0 }) c.loop-i-test.true l.marks l.invariant e
+
+pub returns-then-contains : goal.returns-then-contains
+returns-then-contains c =
+    twice c.args.slots.now c.loop-i.i (record { 0 = 0 }) c.loop-i-test.true
+    (sym (c.contains.ensures.value ∙ listed-any _ _) ∙ c.if-contains.true)
 
 pub returns : goal.returns
 returns c =
     let l = c.loop-i in
-    let e : l.i ≡ 0 = omega arith in
-    sym (rw e at l.invariant.1.apart)
+    sym (ap distinct (sym (take_all l.i c.args.slots.now (omega arith))) ∙ l.invariant.apart)

@@ -27,7 +27,7 @@ returns-then-not-within_limits c = rw (sym c.within_limits.ensures ∙ c.if-not-
 -- what the first two tests leave
 first_two : (c : Else-l-hand) (rest : Bool) → let r = c.args.r in
     (within_limits r.label && (ltb r.hand.0 r.label.slots && rest)) ≡ rest
-first_two c rest = rw (limits (goal.at.Else-l-hand c).Else-not-within_limits, lt-ltb _ _ c.if-l-hand.false)
+first_two c rest = rw (limits (goal.at.Else-l-hand c).Else-not-within_limits, lt-ltb c.args.r.hand.0 c.args.r.label.slots (omega arith))
 
 pub returns-then-l-hand : goal.returns-then-l-hand
 unfolding record_test

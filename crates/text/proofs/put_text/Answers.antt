@@ -4,4 +4,4 @@ use Rattle.text.proofs.put_text.Goals as goal
 pub returns : goal.returns
 returns c =
     let a = c.args in
-    simp (c.copy.ensures, add-sub_cancel_left)
+    simp (c.copy_from_slice.ensures.after, add-sub_cancel_left)

@@ -3,7 +3,7 @@ use Prim.Native.Nat.{ℕ, zero, suc}
 use mathlib.Core.Path.{◌≡◌, refl, sym, ap, ◌∙◌}
 use mathlib.Core.Logic.{◌≢◌}
 use mathlib.Core.Bool.{Bool, true, false, cond}
-use mathlib.Core.Option.{Option, some, none}
+use Rattle.std.specs.Prelude.{Option, Some, None}
 use Rattle.layout.proofs.Booleans.{Told, told, told_true, told_false, clash}
 use Rattle.laws.proofs.model.Base.{has}
 use Rattle.laws.proofs.model.Model.{Row, valid, open_row, block_of, shut, revived, Model, Plain, Linked, Stored, Revived, reopened, mended}
@@ -12,8 +12,8 @@ use Rattle.theorem.proofs.model.View.{holds, holds_is, find, Found, found, at, n
 
 -- the slot that a look-up names: of a block that is cached and not open
 abbrev pub shut_at : Model → Option ℕ → Option ℕ
-shut_at x none = none
-shut_at x (some s) = cond (open_row (x.row s)) none (some s)
+shut_at x None = None
+shut_at x (Some s) = cond (open_row (x.row s)) None (Some s)
 
 unfoldable pub slot_of : Model → ℕ → Option ℕ
 slot_of x b = shut_at x (find x.row x.slots b)
@@ -125,11 +125,11 @@ module _ (x : Model) (p : Plain) (S : Stored x p) (rows : Revived x) (b : ℕ) w
               no_entry (told_false t) = t
           by (told_false h) = rw (rows s, h, shut_valid (x.entry s), shut_block (x.entry s))
 
-  pub down_inside : (t : ℕ) → has x.stored_window t ≡ true → block_of (x.entry t) ≡ b → (slot_of x b ≡ none) × (view x b ≡ x.hdd b)
+  pub down_inside : (t : ℕ) → has x.stored_window t ≡ true → block_of (x.entry t) ≡ b → (slot_of x b ≡ None) × (view x b ≡ x.hdd b)
   unfolding slot_of view
   down_inside t h e = go (found x.row x.slots b)
     where
-      go : {o : Option ℕ} → Found x.row x.slots b o → (shut_at x o ≡ none) × (view_at x b o ≡ x.hdd b)
+      go : {o : Option ℕ} → Found x.row x.slots b o → (shut_at x o ≡ None) × (view_at x b o ≡ x.hdd b)
       go (nowhere k) = (refl, refl)
       go (at s l v f) =
           let k = row_kept s v in

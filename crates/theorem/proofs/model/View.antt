@@ -3,7 +3,7 @@ use Prim.Native.Nat.{ℕ, zero, suc, ◌<◌}
 use mathlib.Core.Path.{◌≡◌, sym, ◌∙◌}
 use mathlib.Core.Logic.{◌≢◌}
 use mathlib.Core.Bool.{Bool, true, false, cond, ◌&&◌}
-use mathlib.Core.Option.{Option, some, none}
+use Rattle.std.specs.Prelude.{Option, Some, None}
 use native.Mathlib.Omega.{arith}
 use native.Mathlib.Decide.{ℕ_discrete}
 use lib.Dec.{eqb}
@@ -17,13 +17,13 @@ abbrev pub holds : Row → ℕ → Bool
 holds r b = valid r && eqb (block_of r) b
 
 abbrev pub or_else : Option ℕ → Bool → ℕ → Option ℕ
-or_else (some s) c n = some s
-or_else none true n = some n
-or_else none false n = none
+or_else (Some s) c n = Some s
+or_else None true n = Some n
+or_else None false n = None
 
 -- the lowest of the first n slots that holds the block b
 unfoldable pub find : (ℕ → Row) → ℕ → ℕ → Option ℕ
-find r zero b = none
+find r zero b = None
 find r (suc n) b = or_else (find r n b) (holds (r n) b) n
 
 pub holds_is : (r : Row) (b : ℕ) → holds r b ≡ true → (valid r ≡ true) × (block_of r ≡ b)
@@ -38,8 +38,8 @@ holds_of r b v e = rw (v, e) (eqb_same b)
 
 -- what a search says
 pub data Found (r : ℕ → Row) (n b : ℕ) : Option ℕ → Type 0 where
-  at : (s : ℕ) → s < n → valid (r s) ≡ true → block_of (r s) ≡ b → Found r n b (some s)
-  nowhere : ((s : ℕ) → s < n → valid (r s) ≡ true → block_of (r s) ≢ b) → Found r n b none
+  at : (s : ℕ) → s < n → valid (r s) ≡ true → block_of (r s) ≡ b → Found r n b (Some s)
+  nowhere : ((s : ℕ) → s < n → valid (r s) ≡ true → block_of (r s) ≢ b) → Found r n b None
 
 pub found : (r : ℕ → Row) (n b : ℕ) → Found r n b (find r n b)
 unfolding find
@@ -56,8 +56,8 @@ found r (suc n) b = go (found r n b) (told (holds (r n) b))
         each s l v e (no m) = h s (omega arith) v e
 
 abbrev pub view_at : Model → ℕ → Option ℕ → Page
-view_at x b none = x.hdd b
-view_at x b (some s) = cond (open_row (x.row s)) (x.hdd b) (x.slot_page s)
+view_at x b None = x.hdd b
+view_at x b (Some s) = cond (open_row (x.row s)) (x.hdd b) (x.slot_page s)
 
 -- what the block b of a ready box reads as
 unfoldable pub view : Model → ℕ → Page

@@ -4,7 +4,7 @@ use mathlib.Core.Path.{◌≡◌, refl, sym, ap, ◌∙◌}
 use mathlib.Core.Logic.{◌≢◌}
 use mathlib.Core.Bool.{Bool, true, false, ◌&&◌}
 use mathlib.Core.List.{List, []}
-use mathlib.Core.Option.{Option, some, none}
+use Rattle.std.specs.Prelude.{Option, Some, None}
 use native.Mathlib.Omega.{arith}
 use native.Mathlib.Decide.{dec_lt, ℕ_discrete}
 use native.Mathlib.Numerals.{add-one}
@@ -32,7 +32,9 @@ use Rattle.protocol.specs.Rows.{each_row}
 use Rattle.protocol.specs.Box.{Box, ssd_image, Store, Effect, left, box_after}
 use Rattle.protocol.specs.Plan.{format, step, plan}
 use Rattle.protocol.specs.Perform.{begun, format_store, format_state, perform}
-use Rattle.protocol.specs.Judge.{Reason, bad_limits, wrong_length, lengths_test, length_test, row_test, rows_test, test, judged}
+use Rattle.protocol.specs.declared.Refusal.{Refusal}
+use Rattle.protocol.specs.declared.Refusal.TheVariants.{BadLimits, WrongLength}
+use Rattle.protocol.specs.Judge.{lengths_test, length_test, row_test, rows_test, test, judged}
 use Rattle.record.specs.Rule.{record_test}
 use Rattle.protocol.specs.Calls.{decided, effect_of, result_of}
 use Rattle.protocol.specs.Events.{steps, formatted}
@@ -125,7 +127,7 @@ module _ (l : Label) (ssd hdd : List ℕ) (d : ℕ) (L : Limits l) (hs : length 
       rw (free-each (λ s block flags. row_test l block flags) (table_length l) (λ s. free-row l), no_window l (Formatting d))
       (free-each (λ s block flags. eqb block 0 && eqb flags 0) (table_length l) (λ s. refl))
 
-  step_judged : judged step (format_box l ssd hdd (Formatting d)) ≡ none
+  step_judged : judged step (format_box l ssd hdd (Formatting d)) ≡ None
   unfolding test plan
   step_judged = accepted step (format_box l ssd hdd (Formatting d)) (rw record_pass, (rw length_pass, (rw rows_pass, (refl, tt)))) (refl, tt)
 
@@ -143,7 +145,7 @@ module _ (l : Label) (ssd hdd : List ℕ) (d : ℕ) (L : Limits l) (hs : length 
     said = done;
     state = record_of l (record { 0 = 0 }) 0 (phase_after l (suc d)) false [];
     table = free_table l;
-    store = some (store_at l d);
+    store = Some (store_at l d);
   }
   unfolding effect_of plan perform
   step_effect = rw (step_judged, state-after, no_window l (Formatting d))
@@ -212,7 +214,7 @@ module _ (l : Label) (ssd hdd : List ℕ) (L : Limits l) (hs : length ssd ≡ ss
       ∙ step_box l (format_ssd l ssd d) hdd d L (length-format d) hh (omega arith)
 
   -- each of its steps makes one store
-  pub stores_at : (k : ℕ) → k < meta_span l + 2 → (effect_of step (steps k (format_box l ssd hdd (Formatting 0)))).store ≡ some (store_at l k)
+  pub stores_at : (k : ℕ) → k < meta_span l + 2 → (effect_of step (steps k (format_box l ssd hdd (Formatting 0)))).store ≡ Some (store_at l k)
   stores_at k h =
       let y : Box = format_box l (format_ssd l ssd k) hdd (Formatting k) in
       let e : steps k (format_box l ssd hdd (Formatting 0)) ≡ y = after-steps k (omega arith)
@@ -277,16 +279,16 @@ format-begun slots blocks x = go (judged (format slots blocks) x) refl
     l : Label
     l = label_of slots blocks
 
-    go : (o : Option Reason) → judged (format slots blocks) x ≡ o → refused (decided o (format slots blocks) x).said ≡ false
+    go : (o : Option Refusal) → judged (format slots blocks) x ≡ o → refused (decided o (format slots blocks) x).said ≡ false
         → Begun l x (decided o (format slots blocks) x)
-    go (some r) e h = clash {b = true} refl h
-    go none e h =
+    go (Some r) e h = clash {b = true} refl h
+    go None e h =
         let q = passed (format slots blocks) x e in
-        let t = and_parts _ _ (not-false _ (q wrong_length refl)) in
+        let t = and_parts _ _ (not-false _ (q WrongLength refl)) in
         let a = and_parts (eqb (length x.images.ssd) (ssd_length l)) _ t.0 in
         let b = and_parts (eqb (length x.images.hdd) (hdd_length l)) _ a.1 in
         record {
-          limits = (within l).0 (not-false _ (q bad_limits refl));
+          limits = (within l).0 (not-false _ (q BadLimits refl));
           ssd-size = eqb-true _ _ a.0;
           hdd-size = eqb-true _ _ b.0;
           effect = refl;
@@ -304,7 +306,7 @@ pub record Formatted (l : Label) (x y : Box) : Type 0 where
 
 -- the k-th step from a box stores this
 abbrev pub StoresAt : ℕ → Box → Store → Type 0
-StoresAt k x s = (effect_of step (steps k x)).store ≡ some s
+StoresAt k x s = (effect_of step (steps k x)).store ≡ Some s
 
 module _ (slots blocks : ℕ) (x : Box) (taken : refused (result_of (format slots blocks) x).said ≡ false) where
   abbrev l : Label
@@ -340,7 +342,7 @@ module _ (slots blocks : ℕ) (x : Box) (taken : refused (result_of (format slot
       }
 
   -- a whole format stores M + 2 pages: its call none, each of its M + 2 steps one
-  pub format_stores : ((effect_of (format slots blocks) x).store ≡ none)
+  pub format_stores : ((effect_of (format slots blocks) x).store ≡ None)
       × ((k : ℕ) → k < format_steps (label_of slots blocks)
       → StoresAt k (box_after (result_of (format slots blocks) x)) (store_at (label_of slots blocks) k))
   format_stores = (

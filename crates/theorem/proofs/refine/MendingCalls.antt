@@ -3,7 +3,7 @@ use Prim.Native.Nat.{ℕ, ◌<◌}
 use mathlib.Core.Path.{◌≡◌, refl, sym, ap, subst, ◌∙◌}
 use mathlib.Core.Bool.{Bool, true, false, not, or-true}
 use mathlib.Core.List.{List, [], ◌∷◌, Memᴰ}
-use mathlib.Core.Option.{Option}
+use Rattle.std.specs.Prelude.{Option}
 use native.Mathlib.Omega.{arith}
 use lib.ListN.{length}
 use lib.Dec.{eqb, ltb}
@@ -16,7 +16,8 @@ use Rattle.protocol.specs.Box.{Box, left, box_after}
 use Rattle.protocol.specs.Recovery.{spent_stamp, off_page}
 use Rattle.protocol.specs.Plan.{step, reopen, Move, mends, recovers, lowest_from, lowest_page, plan}
 use Rattle.protocol.specs.Perform.{confirmed, perform}
-use Rattle.protocol.specs.Judge.{Reason, is_empty, is_ready}
+use Rattle.protocol.specs.declared.Refusal.{Refusal}
+use Rattle.protocol.specs.Judge.{is_empty, is_ready}
 use Rattle.protocol.specs.Calls.{decided}
 use Rattle.protocol.specs.ReferenceDisk.{Disk, durable, fed}
 use Rattle.protocol.specs.Events.{World, reads_if, read_of, called}
@@ -186,7 +187,7 @@ module _ (l : Label) (k : Core) (S : Shape l k) (p : Plain) (M : Mending (abs l 
   pub step_world : (d : Disk) → called step (world_of l k d) ≡ finished_world (box_of_core l (mended_core l k)) d
   step_world d =
       called_as_lem step (world_of l k d)
-      ∙ ap (λ (o : Option Reason). called_as step (decided o step (box_of_core l k)) (world_of l k d)) (step_judged l k S p M on)
+      ∙ ap (λ (o : Option Refusal). called_as step (decided o step (box_of_core l k)) (world_of l k d)) (step_judged l k S p M on)
       ∙ ap (λ (v : Move). called_as step (perform v (box_of_core l k)) (world_of l k d)) step_plan
       ∙ mends_as d (lowest_page k.window)
       ∙ ap (λ (x : Box). finished_world x d) (mends-box l k (lowest_page k.window))
@@ -214,7 +215,7 @@ module _ (l : Label) (k : Core) (p : Plain) (K : ImagesKept l k.ssd k.hdd) (St :
   unfolding plan
   reopen_world d =
       called_as_lem reopen (record { box = x; disk = d })
-      ∙ ap (λ (o : Option Reason). called_as reopen (decided o reopen x) (record { box = x; disk = d })) (reopen_judged l k p K St x im h)
+      ∙ ap (λ (o : Option Refusal). called_as reopen (decided o reopen x) (record { box = x; disk = d })) (reopen_judged l k p K St x im h)
       ∙ recovers_as d
       ∙ ap (λ (y : Box). finished_world y d) (reopen_box l k p K St x im)
 

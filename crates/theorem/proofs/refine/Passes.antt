@@ -3,7 +3,7 @@ use Prim.Native.Nat.{ℕ, ◌+◌, ◌*◌, ◌%◌, ◌≤◌, ◌<◌}
 use mathlib.Core.Path.{◌≡◌, refl, sym, ap, ◌∙◌}
 use mathlib.Core.Bool.{Bool, true, false, not, ◌&&◌}
 use mathlib.Core.List.{List}
-use mathlib.Core.Option.{none}
+use Rattle.std.specs.Prelude.{None}
 use native.Mathlib.Omega.{arith}
 use lib.ListN.{length, get_or}
 use lib.Dec.{eqb, leb}
@@ -93,10 +93,10 @@ module _ (l : Label) (k : Core) (S : Shape l k) (T : Sound l k.table k.window) (
       → NoneHold (asked_first (kind c)) (λ r. test r c (box_of_core l k))
   ready-first c q m = legal-first (box_of_core l k) (core_legal l k S T.rule agree-ready) (ap phase_for on) c q m
 
-  pub view_judged : (b : Block) → b.0 < l.blocks → judged (view b) (box_of_core l k) ≡ none
+  pub view_judged : (b : Block) → b.0 < l.blocks → judged (view b) (box_of_core l k) ≡ None
   view_judged b h = accepted (view b) (box_of_core l k) (ready-first (view b) refl refl) (unfold test in (lt-leb _ _ h, tt))
 
-  pub look_judged : (b : Block) → b.0 < l.blocks → judged (look_up b) (box_of_core l k) ≡ none
+  pub look_judged : (b : Block) → b.0 < l.blocks → judged (look_up b) (box_of_core l k) ≡ None
   look_judged b h = accepted (look_up b) (box_of_core l k) (ready-first (look_up b) refl refl) (unfold test in (lt-leb _ _ h, tt))
 
 -- and its stamps
@@ -106,7 +106,7 @@ module _ (l : Label) (k : Core) (S : Shape l k) (p : Plain) (R : model.Ready (ab
   unfolding abs
   flush_left u = omega (arith, R.budget, rw u at R.short)
 
-  pub flush_judged : judged flush (box_of_core l k) ≡ none
+  pub flush_judged : judged flush (box_of_core l k) ≡ None
   unfolding test plan
   flush_judged = accepted flush (box_of_core l k)
       (ready-first l k S (ready_sound l k S p R) (unfold abs in R.phase) flush refl refl) (go (told k.unconfirmed), tt)
@@ -172,7 +172,7 @@ module _ (l : Label) (k : Core) (S : Shape l k) (p : Plain) (M : Mending (abs l 
     length_nums k.window,
   )
 
-  pub step_judged : judged step (box_of_core l k) ≡ none
+  pub step_judged : judged step (box_of_core l k) ≡ None
   unfolding test plan
   step_judged =
       let L = core_legal l k S pending_rule agree_mending in

@@ -3,7 +3,7 @@ use Prim.Native.Nat.{ℕ, ◌+◌, ◌*◌, ◌<◌}
 use mathlib.Core.Path.{◌≡◌, refl, sym, ap, ◌∙◌}
 use mathlib.Core.Bool.{Bool, true, false, cond, not, ◌&&◌}
 use mathlib.Core.List.{List, [], ◌∷◌, ◌++◌}
-use mathlib.Core.Option.{Option, some}
+use Rattle.std.specs.Prelude.{Option, Some}
 use native.Mathlib.Omega.{arith}
 use lib.ListN.{length, get_or}
 use lib.Dec.{eqb}
@@ -23,7 +23,8 @@ use Rattle.protocol.specs.Recovery.{spent_stamp}
 use Rattle.protocol.specs.Plan.{Call, Move, stay, uses, uses_all, announces, lands, copies, confirms}
 use Rattle.protocol.specs.Kinds.{Aim, a_service, kind}
 use Rattle.protocol.specs.Perform.{confirmed, used_all, perform}
-use Rattle.protocol.specs.Judge.{Reason, judged, is_ready}
+use Rattle.protocol.specs.declared.Refusal.{Refusal}
+use Rattle.protocol.specs.Judge.{judged, is_ready}
 use Rattle.protocol.specs.Calls.{decided, effect_of}
 use Rattle.protocol.specs.ReferenceDisk.{Disk, durable, written, fed_call, fed}
 use Rattle.protocol.specs.Events.{World, may_finish, reads_if, called}
@@ -62,9 +63,9 @@ unfolding called called_as effect_of
 called_as_lem c w = refl
 
 -- a refused call changes nothing
-pub refused-same : (c : Call) (w : World) (r : Reason) → judged c w.box ≡ some r → called c w ≡ w
+pub refused-same : (c : Call) (w : World) (r : Refusal) → judged c w.box ≡ Some r → called c w ≡ w
 unfolding called_as
-refused-same c w r e = called_as_lem c w ∙ ap (λ (o : Option Reason). called_as c (decided o c w.box) w) e
+refused-same c w r e = called_as_lem c w ∙ ap (λ (o : Option Refusal). called_as c (decided o c w.box) w) e
 
 -- the world of a reachable box
 abbrev pub world_of : Label → Core → Disk → World

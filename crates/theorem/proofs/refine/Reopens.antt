@@ -4,7 +4,7 @@ use mathlib.Core.Path.{◌≡◌, refl, sym, ap, ◌∙◌}
 use mathlib.Core.Logic.{◌≢◌}
 use mathlib.Core.Bool.{Bool, true, false, not}
 use mathlib.Core.List.{List}
-use mathlib.Core.Option.{none}
+use Rattle.std.specs.Prelude.{Some, None}
 use native.Mathlib.Omega.{arith}
 use native.Mathlib.Decide.{dec_lt}
 use lib.ListN.{length, get_or, replicate}
@@ -13,7 +13,6 @@ use Rattle.pages.specs.Pages.{page_at}
 use Rattle.layout.specs.declared.Slot.{Slot}
 use Rattle.layout.specs.declared.Label.{Label}
 use Rattle.layout.specs.declared.Entry.{Entry}
-use Rattle.layout.specs.declared.LabelRead.TheVariants.{Legal}
 use Rattle.layout.specs.Places.{table_length}
 use Rattle.layout.specs.LabelPage.{decode_label}
 use Rattle.layout.specs.MetaPage.{rows_from}
@@ -178,7 +177,7 @@ module _ (l : Label) (k : Core) (p : Plain) (K : ImagesKept l k.ssd k.hdd) (St :
   label_pass : label_test k.ssd ≡ true
   unfolding label_test
   label_pass =
-      let d : decode_label (page_at k.ssd 0) ≡ Legal l = ap decode_label K.label-page ∙ label_back l ((within l).1 K.limits) in
+      let d : decode_label (page_at k.ssd 0) ≡ Some l = ap decode_label K.label-page ∙ label_back l ((within l).1 K.limits) in
       rw (d, le-leb 4096 (length k.ssd) (rw K.ssd-size (label_within l)))
 
   length_pass : (table : List ℕ) → length table ≡ table_length l → length_test l (record { ssd = k.ssd; hdd = k.hdd }) table ≡ true
@@ -186,7 +185,7 @@ module _ (l : Label) (k : Core) (p : Plain) (K : ImagesKept l k.ssd k.hdd) (St :
   length_pass table h = rw (eq-eqb _ _ K.ssd-size, eq-eqb _ _ K.hdd-size, eq-eqb _ _ h)
 
   pub reopen_judged : (x : Box) → x.images ≡ record { ssd = k.ssd; hdd = k.hdd } → length x.table ≡ table_length l
-      → judged reopen x ≡ none
+      → judged reopen x ≡ None
   unfolding test
   reopen_judged x e h =
       ap (λ (im : Images). judged reopen (record { images = im; table = x.table; state = x.state })) e

@@ -3,7 +3,8 @@ use Prim.Native.Nat.{ℕ, ◌+◌, ◌*◌, ◌<◌}
 use mathlib.Core.Path.{◌≡◌, refl, sym, ap, ◌∙◌}
 use mathlib.Core.Logic.{◌≢◌}
 use mathlib.Core.Bool.{true, false, cond}
-use mathlib.Core.Option.{Option, some, none, none-ne-some}
+use Rattle.std.specs.Prelude.{Option, Some, None}
+use Rattle.std.proofs.lemmas.Option.{none-some}
 use lib.ListN.{get_or}
 use Rattle.pages.specs.Pages.{page_at}
 use Rattle.pages.specs.Parts.{page_part}
@@ -17,7 +18,7 @@ use Rattle.protocol.specs.Rows.{valid, writing}
 use Rattle.protocol.specs.Condition.{condition_of}
 use Rattle.protocol.specs.Plan.{look_up, view, looking_up, plan}
 use Rattle.protocol.specs.Perform.{perform}
-use Rattle.protocol.specs.Judge.{Reason}
+use Rattle.protocol.specs.declared.Refusal.{Refusal}
 use Rattle.protocol.specs.Calls.{effect_of, result_of, view_part, viewed, view_of}
 use Rattle.protocol.specs.Events.{lent, read_of}
 use Rattle.protocol.specs.Demand3.{slot_said}
@@ -37,15 +38,15 @@ use Rattle.laws.proofs.refine.Abstract.{Core, box_of_core, abs, Shape, ready_sou
 
 -- the closed slot of a condition, and the page
 abbrev pub closed_slot : Condition → Option Slot
-closed_slot NotCached = none
-closed_slot (Clean s) = some s
-closed_slot (Dirty s) = some s
-closed_slot (Writing s) = none
-closed_slot (Fetching s) = none
+closed_slot NotCached = None
+closed_slot (Clean s) = Some s
+closed_slot (Dirty s) = Some s
+closed_slot (Writing s) = None
+closed_slot (Fetching s) = None
 
 abbrev pub as_slot : Option ℕ → Option Slot
-as_slot none = none
-as_slot (some s) = some (record { 0 = s })
+as_slot None = None
+as_slot (Some s) = Some (record { 0 = s })
 
 -- a ready box whose blocks can be found: table and window are sound, and no block is in two rows
 pub record Legible (l : Label) (k : Core) : Type 0 where
@@ -90,24 +91,24 @@ module _ (l : Label) (k : Core) (S : Shape l k) (R : Legible l k) (b : ℕ) (b-l
   pub model_at : (s : ℕ) → Held l k.table b s
       → (view_at (abs l k) b (seen.find (row_at k.table) l.slots b) ≡ cond (writing (get_or k.table (2 * s + 1) 0))
       (page_at k.hdd b) (page_at k.ssd (data_place l (record { 0 = s }))))
-      × (shut_at (abs l k) (seen.find (row_at k.table) l.slots b) ≡ cond (writing (get_or k.table (2 * s + 1) 0)) none (some s))
+      × (shut_at (abs l k) (seen.find (row_at k.table) l.slots b) ≡ cond (writing (get_or k.table (2 * s + 1) 0)) None (Some s))
   unfolding abs
   model_at s H = go (found (row_at k.table) l.slots b)
     where
       go : {o : Option ℕ} → Found (row_at k.table) l.slots b o
           → (view_at (abs l k) b o ≡ cond (writing (get_or k.table (2 * s + 1) 0)) (page_at k.hdd b)
           (page_at k.ssd (data_place l (record { 0 = s })))) × (shut_at (abs l k) o
-          ≡ cond (writing (get_or k.table (2 * s + 1) 0)) none (some s))
+          ≡ cond (writing (get_or k.table (2 * s + 1) 0)) None (Some s))
       go (Found.nowhere h) = absurd (h s H.low (both s H).held (both s H).blocked)
       go (Found.at t i v e) =
           let q : t ≡ s = one s t (both s H) v e in
           rw (q, at_open l k.table S.rows s H.low) (refl, refl)
 
   model_none : ((s : ℕ) → s < l.slots → valid (get_or k.table (2 * s + 1) 0) ≡ true → get_or k.table (2 * s) 0 ≢ b)
-      → seen.find (row_at k.table) l.slots b ≡ none
+      → seen.find (row_at k.table) l.slots b ≡ None
   model_none h = go (found (row_at k.table) l.slots b)
     where
-      go : {o : Option ℕ} → Found (row_at k.table) l.slots b o → o ≡ none
+      go : {o : Option ℕ} → Found (row_at k.table) l.slots b o → o ≡ None
       go (Found.nowhere n) = refl
       go (Found.at t i v e) =
           let q = sym (at_valid l k.table S.rows t i) ∙ v in
@@ -136,7 +137,7 @@ module _ (l : Label) (k : Core) (S : Shape l k) (R : Legible l k) (b : ℕ) (b-l
   pub read_view : read_of (box_of_core l k) (record { 0 = b }) ≡ seen.view (abs l k) b
   unfolding read_of view_of seen.view block abs
   read_view =
-      ap (λ (o : Option Reason). (viewed o (lent k.ssd) (lent k.hdd) l (record { 0 = b })
+      ap (λ (o : Option Refusal). (viewed o (lent k.ssd) (lent k.hdd) l (record { 0 = b })
       (condition_of k.table (record { 0 = b }))).handed.bytes) (view_judged l k S R.sound R.on (record { 0 = b }) b-low)
       ∙ (by_condition here).0
 
@@ -155,24 +156,24 @@ module _ (l : Label) (k : Core) (S : Shape l k) (R : Legible l k) (b : ℕ) (b-l
       (said-slot (condition_of k.table (record { 0 = b })) ∙ (by_condition here).1)
 
   -- the slot that a look-up names holds the page
-  named : (o : Option ℕ) (s : Slot) → as_slot (shut_at (abs l k) o) ≡ some s → view_at (abs l k) b o ≡ page_at k.ssd (data_place l s)
+  named : (o : Option ℕ) (s : Slot) → as_slot (shut_at (abs l k) o) ≡ Some s → view_at (abs l k) b o ≡ page_at k.ssd (data_place l s)
   unfolding abs
-  named none s e = absurd (none-ne-some s e)
-  named (some t) s e = go (told (open_row (row_at k.table t)))
+  named None s e = absurd (none-some s e)
+  named (Some t) s e = go (told (open_row (row_at k.table t)))
     where
       number_of : Option Slot → ℕ
-      number_of none = 0
-      number_of (some u) = u.0
+      number_of None = 0
+      number_of (Some u) = u.0
 
       go : Told (open_row (row_at k.table t)) → cond (open_row (row_at k.table t)) (page_at k.hdd b)
           (page_at k.ssd (data_place l (record { 0 = t }))) ≡ page_at k.ssd (data_place l s)
-      go (told_true o) = absurd (none-ne-some s (rw o at e))
+      go (told_true o) = absurd (none-some s (rw o at e))
       go (told_false o) =
-          let f : as_slot (some t) ≡ some s = rw o at e in
+          let f : as_slot (Some t) ≡ Some s = rw o at e in
           let q : t ≡ s.0 = ap number_of f in
           rw o (ap (λ (n : ℕ). page_at k.ssd (data_place l (record { 0 = n }))) q)
 
-  pub look_page : (s : Slot) → slot_said (result_of (look_up (record { 0 = b })) (box_of_core l k)).said ≡ some s
+  pub look_page : (s : Slot) → slot_said (result_of (look_up (record { 0 = b })) (box_of_core l k)).said ≡ Some s
       → seen.view (abs l k) b ≡ page_at k.ssd (data_place l s)
   unfolding seen.view places.slot_of abs
   look_page s e = named (seen.find (row_at k.table) l.slots b) s (sym look_slot ∙ e)

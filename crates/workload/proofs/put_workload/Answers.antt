@@ -12,4 +12,4 @@ returns-in_default c =
 pub returns : goal.returns
 returns c =
     written_as c.put_load.ensures
-    (load_text_is _ _ c.read_input.ensures _ _ _ c.in-Load.is c.run_load-counts.ensures) (omega arith)
+    (load_text_is _ _ c.read_input.ensures _ _ _ c.in-Some.is c.run_load-counts.ensures) (omega arith)

@@ -1,4 +1,3 @@
-use Prim.Native.Nat.{◌-◌}
 use mathlib.Core.Path.{refl}
 use Rattle.c_record.proofs.WordLaws.{filled_more, filled-all, window-length, window_at}
 use native.Mathlib.Omega.{arith}

@@ -1,4 +1,3 @@
-use Prim.Native.Nat.{◌-◌}
 use lib.ListN.{take, drop}
 use Rattle.c_record.specs.Words.{slots_of}
 use Rattle.c_record.proofs.WordLaws.{Filled}
@@ -6,6 +5,3 @@ use Rattle.c_record.proofs.words.window_in.Given as goal
 
 abbrev pub invariant-loop-i : goal.invariant-loop-i
 invariant-loop-i l = Filled (slots_of (take 63 (drop 8 l.words))) l.window l.i
-
-abbrev pub decreases-loop-i : goal.decreases-loop-i
-decreases-loop-i l = 63 - l.i

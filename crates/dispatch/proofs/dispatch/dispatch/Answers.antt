@@ -23,7 +23,7 @@ as_call s e f = let a = s.args in made a.request _ a.page.now a.blocks.now (leng
 
 pub returns-in-Format : goal.returns-in-Format
 returns-in-Format c =
-    as_call (goal.at.returns-in-Format c).Start c.in-Format.is c.format.ensures
+    as_call (goal.at.returns-in-Format c).Start c.in-Format.is (c.format.ensures c.args.state)
 
 pub returns-in-Step : goal.returns-in-Step
 returns-in-Step c =
@@ -67,4 +67,4 @@ returns-in-Flush c =
 
 pub returns-in-Reopen : goal.returns-in-Reopen
 returns-in-Reopen c =
-    as_call (goal.at.returns-in-Reopen c).Start c.in-Reopen.is c.reopen.ensures
+    as_call (goal.at.returns-in-Reopen c).Start c.in-Reopen.is (c.reopen.ensures c.args.state)

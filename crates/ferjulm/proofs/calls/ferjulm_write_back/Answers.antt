@@ -2,32 +2,29 @@ use mathlib.Core.Path.{◌≡◌, sym, ◌∙◌}
 use mathlib.Core.Bool.{true}
 use Rattle.protocol.specs.Plan.{write_back}
 use Rattle.c_record.specs.Words.{is_record}
-use Rattle.c_closing.proofs.ClosedLaws.{record_length}
+use Rattle.c_closing.proofs.ClosedLaws.{record_length, held, held_none}
 use Rattle.ferjulm.proofs.CodeLaws.{barred, past}
 use Rattle.ferjulm.proofs.calls.ferjulm_write_back.Goals as goal
-use Rattle.ferjulm.proofs.calls.ferjulm_write_back.Goals.{Else-not-is_record}
+use Rattle.ferjulm.proofs.calls.ferjulm_write_back.Goals.{In-Some}
 
-pub returns-then-not-is_record : goal.returns-then-not-is_record
-returns-then-not-is_record c =
+pub returns-in_default : goal.returns-in_default
+returns-in_default c =
     let a = c.args in
-    let b = barred (write_back (record { 0 = a.block })) a.ssd.now a.hdd.now a.table.now a.words.now (sym c.is_record.ensures ∙ c.if-not-is_record.true) in
-    (b.left, b.place (record { image = a.image.now; offset = a.offset.now }))
+    let b = barred (write_back (record { 0 = a.block })) a.ssd.now a.hdd.now a.table.now a.words.now (held_none _ (sym c.in_default.is ∙ c.unpack.ensures)) in
+    rw c.number.ensures (b.left, b.place (record { image = a.image.now; offset = a.offset.now }))
 
 -- past the first test the words are a record
-legal : (c : Else-not-is_record) → is_record c.args.words.now ≡ true
-legal c = sym c.is_record.ensures ∙ c.if-not-is_record.false
-
-pub unpack-state-requires : goal.unpack-state-requires
-unpack-state-requires c = record_length _ (legal c)
+legal : (c : In-Some) → is_record c.args.words.now ≡ true
+legal c = (held _ _ (sym c.in-Some.is ∙ c.unpack.ensures)).0
 
 pub ended-requires : goal.ended-requires
 ended-requires c =
-    record_length _ (legal (goal.at.ended-requires c).Else-not-is_record)
+    record_length _ (legal (goal.at.ended-requires c).In-Some)
 
 pub returns : goal.returns
 returns c =
-    let o = c.write_back-outcome in
+    let o = c.write_back-made in
     let a = c.args in
     let k = past (write_back (record { 0 = a.block })) a.ssd.now a.hdd.now a.table.now a.words.now
-    c.unpack-state.result o.result c.unpack-state.ensures o.ensures (legal (goal.at.returns c).Else-not-is_record) in
-    (k.left c.ended.ensures.0, k.place _ c.ended.ensures.1)
+    c.in-Some.state o.result (held _ _ (sym c.in-Some.is ∙ c.unpack.ensures)).1 o.ensures (legal (goal.at.returns c).In-Some) in
+    (k.left (c.ended.ensures.0 c.in-Some.state), k.place _ c.ended.ensures.1)

@@ -1,11 +1,11 @@
 use mathlib.Core.Path.{◌≡◌, sym, ◌∙◌}
 use mathlib.Core.Bool.{true}
 use Rattle.c_record.specs.Words.{is_record}
-use Rattle.c_closing.proofs.ClosedLaws.{record_length}
+use Rattle.c_closing.proofs.ClosedLaws.{record_length, held, held_none}
 use Rattle.c_closing.specs.Counts.{CostNumbers}
 use Rattle.ferjulm.proofs.CostLaws.{no_cost, on_cost}
 use Rattle.ferjulm.proofs.cost.ferjulm_cost.Goals as goal
-use Rattle.ferjulm.proofs.cost.ferjulm_cost.Goals.{Else-not-is_record, Start}
+use Rattle.ferjulm.proofs.cost.ferjulm_cost.Goals.{In-Some, Start}
 
 -- the lent numbers
 abbrev lent : Start → CostNumbers
@@ -18,18 +18,16 @@ lent s = let a = s.args in record {
 }
 
 -- past the first test the words are a record
-legal : (c : Else-not-is_record) → is_record c.args.words.now ≡ true
-legal c = sym c.is_record.ensures ∙ c.if-not-is_record.false
+legal : (c : In-Some) → is_record c.args.words.now ≡ true
+legal c = (held _ _ (sym c.in-Some.is ∙ c.unpack.ensures)).0
 
-pub returns-then-not-is_record : goal.returns-then-not-is_record
-returns-then-not-is_record c =
+pub returns-in_default : goal.returns-in_default
+returns-in_default c =
     let a = c.args in
-    no_cost a.ssd.now a.hdd.now a.table.now a.words.now a.blocks.now a.caller a.scratch.now (lent (goal.at.returns-then-not-is_record c).Start) (sym c.is_record.ensures ∙ c.if-not-is_record.true)
-
-pub unpack-state-requires : goal.unpack-state-requires
-unpack-state-requires c = record_length _ (legal c)
+    rw c.number.ensures
+    (no_cost a.ssd.now a.hdd.now a.table.now a.words.now a.blocks.now a.caller a.scratch.now (lent (goal.at.returns-in_default c).Start) (held_none _ (sym c.in_default.is ∙ c.unpack.ensures)))
 
 pub returns : goal.returns
 returns c =
     let a = c.args in
-    on_cost a.ssd.now a.hdd.now a.table.now a.words.now a.blocks.now a.caller a.scratch.now (lent (goal.at.returns c).Start) c.unpack-state.result c.cost-answer.result _ _ (legal (goal.at.returns c).Else-not-is_record) c.unpack-state.ensures c.cost-answer.ensures c.hand_out.ensures
+    on_cost a.ssd.now a.hdd.now a.table.now a.words.now a.blocks.now a.caller a.scratch.now (lent (goal.at.returns c).Start) c.in-Some.state c.cost-answer.result _ _ (legal (goal.at.returns c).In-Some) (held _ _ (sym c.in-Some.is ∙ c.unpack.ensures)).1 c.cost-answer.ensures c.hand_out.ensures

@@ -1,26 +1,31 @@
 use mathlib.Core.Path.{◌≡◌, sym, ◌∙◌}
 use mathlib.Core.Bool.{true}
 use Rattle.c_record.specs.Words.{is_record}
-use Rattle.c_closing.proofs.ClosedLaws.{record_length}
+use Rattle.c_closing.proofs.ClosedLaws.{record_length, held, held_none}
 use Rattle.ferjulm.proofs.MapLaws.{no_map, on_map}
 use Rattle.ferjulm.proofs.map.ferjulm_map.Goals as goal
-use Rattle.ferjulm.proofs.map.ferjulm_map.Goals.{Else-not-is_record}
+use Rattle.ferjulm.proofs.map.ferjulm_map.Goals.{In-Some}
 
-pub returns-then-not-is_record : goal.returns-then-not-is_record
-returns-then-not-is_record c =
+pub returns-in_default : goal.returns-in_default
+returns-in_default c =
     let a = c.args in
-    no_map a.ssd.now a.hdd.now a.table.now a.words.now a.sheet.now
-    (sym c.is_record.ensures ∙ c.if-not-is_record.true)
+    rw c.number.ensures
+    (no_map a.ssd.now a.hdd.now a.table.now a.words.now a.sheet.now
+    (held_none _ (sym c.in_default.is ∙ c.unpack.ensures)))
 
 -- past the first test the words are a record
-legal : (c : Else-not-is_record) → is_record c.args.words.now ≡ true
-legal c = sym c.is_record.ensures ∙ c.if-not-is_record.false
+legal : (c : In-Some) → is_record c.args.words.now ≡ true
+legal c = (held _ _ (sym c.in-Some.is ∙ c.unpack.ensures)).0
 
-pub unpack-state-requires : goal.unpack-state-requires
-unpack-state-requires c = record_length _ (legal c)
-
-pub returns : goal.returns
-returns c =
+pub returns-in-Ok : goal.returns-in-Ok
+returns-in-Ok c =
     let a = c.args in
-    on_map a.ssd.now a.hdd.now a.table.now a.words.now a.sheet.now c.unpack-state.result _ (legal (goal.at.returns c).Else-not-is_record)
-    c.unpack-state.ensures c.map.ensures
+    on_map a.ssd.now a.hdd.now a.table.now a.words.now a.sheet.now c.in-Some.state _ (legal (goal.at.returns-in-Ok c).In-Some)
+    (held _ _ (sym c.in-Some.is ∙ c.unpack.ensures)).1 c.in-Ok.ensures
+
+pub returns-in-Err : goal.returns-in-Err
+returns-in-Err c =
+    let a = c.args in
+    rw c.number-in-Err.ensures
+    (on_map a.ssd.now a.hdd.now a.table.now a.words.now a.sheet.now c.in-Some.state _ (legal (goal.at.returns-in-Err c).In-Some)
+    (held _ _ (sym c.in-Some.is ∙ c.unpack.ensures)).1 c.in-Err.ensures)

@@ -3,40 +3,37 @@ use mathlib.Core.Bool.{true}
 use Rattle.layout.specs.declared.Block.{Block}
 use Rattle.c_answers.specs.declared.Place.{Place}
 use Rattle.c_record.specs.Words.{is_record}
-use Rattle.c_closing.proofs.ClosedLaws.{record_length}
+use Rattle.c_closing.proofs.ClosedLaws.{record_length, held, held_none}
 use Rattle.ferjulm.proofs.ViewLaws.{view_stops, view_passes, no_view, on_view}
 use Rattle.ferjulm.proofs.view.ferjulm_view.Goals as goal
-use Rattle.ferjulm.proofs.view.ferjulm_view.Goals.{Else-not-is_record}
+use Rattle.ferjulm.proofs.view.ferjulm_view.Goals.{In-Some}
 
-pub returns-then-not-is_record : goal.returns-then-not-is_record
-returns-then-not-is_record c =
+pub returns-in_default : goal.returns-in_default
+returns-in_default c =
     let a = c.args in
-    no_view a.ssd.now a.hdd.now a.table.now a.words.now (record { 0 = a.block })
+    rw c.number.ensures
+    (no_view a.ssd.now a.hdd.now a.table.now a.words.now (record { 0 = a.block })
     (record { image = a.image.now; offset = a.offset.now })
-    (sym c.is_record.ensures ∙ c.if-not-is_record.true)
+    (held_none _ (sym c.in_default.is ∙ c.unpack.ensures)))
 
 -- past the first test the words are a record
-legal : (c : Else-not-is_record) → is_record c.args.words.now ≡ true
-legal c = sym c.is_record.ensures ∙ c.if-not-is_record.false
+legal : (c : In-Some) → is_record c.args.words.now ≡ true
+legal c = (held _ _ (sym c.in-Some.is ∙ c.unpack.ensures)).0
 
-pub unpack-state-requires : goal.unpack-state-requires
-unpack-state-requires c = record_length _ (legal c)
-
-pub returns-then-number-ne0 : goal.returns-then-number-ne0
-returns-then-number-ne0 c =
-    let j = c.judge_block-judged in
+pub returns-in-Err : goal.returns-in-Err
+returns-in-Err c =
     let a = c.args in
     let b : Block = record { 0 = a.block } in
     let p : Place = record { image = a.image.now; offset = a.offset.now } in
-    on_view a.ssd.now a.hdd.now a.table.now a.words.now b p c.unpack-state.result _ (legal (goal.at.returns-then-number-ne0 c).Else-not-is_record) c.unpack-state.ensures
-    (view_stops a.ssd.now a.hdd.now a.table.now c.unpack-state.result b p j.result j.ensures c.if-number-ne0.true)
+    rw c.number-in-Err.ensures
+    (on_view a.ssd.now a.hdd.now a.table.now a.words.now b p c.in-Some.state _ (legal (goal.at.returns-in-Err c).In-Some) (held _ _ (sym c.in-Some.is ∙ c.unpack.ensures)).1
+    (view_stops a.ssd.now a.hdd.now a.table.now c.in-Some.state b p _ (sym c.in-Err.is ∙ c.judge_block.ensures)))
 
-pub returns : goal.returns
-returns c =
-    let j = c.judge_block-judged in
+pub returns-in-Ok : goal.returns-in-Ok
+returns-in-Ok c =
     let a = c.args in
     let b : Block = record { 0 = a.block } in
     let p : Place = record { image = a.image.now; offset = a.offset.now } in
-    on_view a.ssd.now a.hdd.now a.table.now a.words.now b p c.unpack-state.result _ (legal (goal.at.returns c).Else-not-is_record) c.unpack-state.ensures
-    (view_passes a.ssd.now a.hdd.now a.table.now c.unpack-state.result b p j.result c.place_for-place.result j.ensures c.if-number-ne0.false
+    on_view a.ssd.now a.hdd.now a.table.now a.words.now b p c.in-Some.state _ (legal (goal.at.returns-in-Ok c).In-Some) (held _ _ (sym c.in-Some.is ∙ c.unpack.ensures)).1
+    (view_passes a.ssd.now a.hdd.now a.table.now c.in-Some.state b p _ c.place_for-place.result (sym c.in-Ok.is ∙ c.judge_block.ensures)
     c.place_for-place.ensures)

@@ -1,27 +1,23 @@
-use lib.Dec.{eqb}
 use Prim.Native.Nat.{◌-◌}
-use mathlib.Core.Path.{sym, ◌∙◌}
-use lib.ListN.{get_or}
-use borrow.Author.Tests.{eq-eqb, ne_eqb}
-use Rattle.layout.proofs.Loops.{go_on, stop}
-use Rattle.layout.proofs.ZeroLaws.{zero_left, zero_done}
-use native.Mathlib.Omega.{arith}
+use Rattle.std.proofs.Common.{◌∙◌, rules, tests}
+use Rattle.std.proofs.lemmas.Iterator.{YieldsList-from_slice}
+use Rattle.std.proofs.lemmas.Iterator.Search.{all_from_yields_List}
+use lib.Dec.{eqb}
+use lib.ListN.{take, drop}
+use Rattle.layout.proofs.ZeroLaws.{zeros_in}
 use Rattle.layout.proofs.zeros.all_zero.Goals as goal
-
-pub returns-then-bytes-i-ne0 : goal.returns-then-bytes-i-ne0
-returns-then-bytes-i-ne0 c =
-    let l = c.loop-i in
-    let a = c.args in
-    stop (eqb (get_or a.bytes.now l.i 0) 0) _ l.invariant (zero_left a.bytes.now l.i a.to (omega arith) (omega arith)) (ne_eqb _ 0 c.if-bytes-i-ne0.true)
-
-pub loop-i-preserved : goal.loop-i-preserved
-loop-i-preserved c =
-    let l = c.loop-i in
-    let a = c.args in
-    go_on (eqb (get_or a.bytes.now l.i 0) 0) _ l.invariant (zero_left a.bytes.now l.i a.to (omega arith) (omega arith)) (eq-eqb _ 0 c.if-bytes-i-ne0.false)
 
 pub returns : goal.returns
 returns c =
-    let l = c.loop-i in
     let a = c.args in
-    sym (zero_done a.bytes.now l.i a.to (omega arith)) ∙ l.invariant
+    let m = c.min.result in
+    all_from_yields_List
+    {all = take (a.to - m) (drop m a.bytes.now)}
+    (λ b. eqb b 0)
+    _
+    _
+    c.all.result
+    c.all.ensures.ran
+    (YieldsList-from_slice _ cc)
+    (λ x b q k. search (rules, tests))
+    ∙ zeros_in a.bytes.now a.from a.to m c.min.ensures

@@ -24,9 +24,8 @@ put_lines-requires c =
     let z = pending_bounded c.args.l _ _ c.pending-pending.ensures w in
     let f = few_slots c.args.l _ c.requires.ssd_len.0 c.requires.ssd_len.1 in
     record {
-      slots_in_bounds = omega (arith, c.put_head-at.ensures.end_is, c.put_head-at.ensures.short, c.requires.page_len);
+      slots_in_bounds = omega (arith, c.put_head-at.ensures.end_is, c.put_head-at.ensures.short, c.told-page);
       ssd_len = c.requires.ssd_len.0;
-      count_le_window_most = z.0;
     }
 
 pub returns : goal.returns
@@ -36,6 +35,6 @@ returns c =
     let g = found pages n.result n.ensures in
     let p = c.pending-pending in
     let f = few_slots c.args.l _ c.requires.ssd_len.0 c.requires.ssd_len.1 in
-    written_as (written_more c.put_head-at.ensures c.put_lines.ensures (omega (arith, c.requires.page_len)))
+    written_as (written_more c.put_head-at.ensures (rw c.slots.ensures at c.put_lines.ensures) (omega (arith, c.told-page)))
     (image_is c.args.l pages (newest_at pages n.result.at) _ p.result g.newest_is g.stamp_is p.ensures)
     (omega arith)

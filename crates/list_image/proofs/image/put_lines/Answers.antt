@@ -1,6 +1,5 @@
 use Prim.Native.Nat.{◌-◌}
 use mathlib.Core.Path.{◌≡◌, refl, ap, ◌∙◌}
-use Rattle.layout.specs.Window.{slots_in}
 use Rattle.protocol.specs.Recovery.{metas_of}
 use Rattle.list_image.specs.Listing.{line_of, lines_of}
 use Rattle.fields.proofs.WrittenLaws.{written_none, written_more, written_as, written-length}
@@ -15,15 +14,12 @@ loop-s-init c = (omega arith, refl, written_none _ _ _)
 pub put_line-end-requires : goal.put_line-end-requires
 put_line-end-requires c =
     let l = c.loop-s in
-    record {
-      at_in_bounds = omega (arith, l.invariant.2.end_is, l.invariant.2.short, c.requires.slots_in_bounds);
-      count_le_window_most = c.requires.count_le_window_most;
-    }
+    omega (arith, l.invariant.2.end_is, l.invariant.2.short, c.requires.slots_in_bounds)
 
 pub loop-s-preserved : goal.loop-s-preserved
 loop-s-preserved c =
     let l = c.loop-s in
-    let w = slots_in c.args.w in
+    let w = c.args.pending.now in
     let v = written_as {n = 63} c.put_line-end.ensures (ap (line_of w (record { 0 = l.s })) c.entry_of-entry.ensures) (omega arith) in (
       omega arith,
       written-length v (omega (arith, l.invariant.2.end_is, l.invariant.2.short, c.requires.slots_in_bounds)) ∙ l.invariant.1,
@@ -37,4 +33,4 @@ pub returns : goal.returns
 returns c =
     let l = c.loop-s in
     let q : l.s ≡ c.args.l.slots = omega arith in
-    written_as l.invariant.2 (ap (lines_of (slots_in c.args.w) (metas_of c.args.l c.args.ssd.now)) q) (omega arith)
+    written_as l.invariant.2 (ap (lines_of c.args.pending.now (metas_of c.args.l c.args.ssd.now)) q) (omega arith)

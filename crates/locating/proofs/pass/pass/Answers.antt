@@ -1,5 +1,5 @@
-use Prim.Native.Nat.{ℕ, ◌+◌, ◌-◌, ◌*◌, ◌%◌}
-use mathlib.Core.Path.{sym, ap, ◌∙◌}
+use Prim.Native.Nat.{ℕ, ◌+◌, ◌*◌}
+use mathlib.Core.Path.{ap, ◌∙◌}
 use lib.ListN.{get_or, drop}
 use Rattle.layout.specs.declared.Block.{Block}
 use Rattle.protocol.specs.Condition.{slot_from}
@@ -9,30 +9,16 @@ use Rattle.locating.proofs.PassLaws.{row_more, rows_end_is}
 use native.Mathlib.Omega.{arith}
 use Rattle.locating.proofs.pass.pass.Goals as goal
 
-pub loop-i-init : goal.loop-i-init
-loop-i-init c =
-    (c.requires.words_len, c.requires.table_len, omega arith, λ j h. rw (c.requires.by_index_2 j (omega (arith, h, c.requires.words_len))))
-
-pub meet-requires : goal.meet-requires
-meet-requires c =
-    let l = c.loop-i in
-    record {
-      words_len = l.invariant.0;
-      by_index = λ j h e. ap (λ (n : ℕ). get_or c.args.marks.now (n % 4096) 0) (sym e) ∙ c.requires.by_index j h;
-    }
-
 pub loop-i-preserved : goal.loop-i-preserved
 loop-i-preserved c =
     let l = c.loop-i in
     let a = c.args in (
       omega (arith, c.meet.auto, l.invariant.0),
-      l.invariant.1,
-      omega arith,
       λ j h.
           let b : Block = record { 0 = get_or a.blocks.now j 0 } in
           ap (λ (w : ℕ). or_found w (place_word (slot_from (l.i + 1) (drop (2 * (l.i + 1)) a.table.now) b))) (c.meet.ensures j h)
-          ∙ row_more a.table.now b l.i (get_or l.words j 0) (omega (arith, l.invariant.1))
-          ∙ l.invariant.3 j h,
+          ∙ row_more a.table.now b l.i (get_or l.words j 0) (omega (arith, c.requires.table_len))
+          ∙ l.invariant.1 j h,
     )
 
 pub returns : goal.returns
@@ -41,4 +27,4 @@ returns c =
     let a = c.args in
     as_map _ a.blocks.now l.words l.invariant.0 (λ j h.
     rows_end_is a.table.now (record { 0 = get_or a.blocks.now j 0 }) l.i (get_or l.words j 0)
-    (omega (arith, l.invariant.1, c.loop-i-test.false)) ∙ l.invariant.3 j h)
+    (omega (arith, c.requires.table_len)) ∙ l.invariant.1 j h)

@@ -7,7 +7,6 @@ pub fill_meta-requires : goal.fill_meta-requires
 unfolding padded
 fill_meta-requires c = record {
   page_value = refl;
-  page_len = refl;
   count_le_window_most = search rules;
   rows_len_bound = search rules;
   rows_len = search rules;

@@ -22,7 +22,7 @@ returns c =
     let lw : length w ≡ n = simp (length-take, all) (omega (arith, c.requires.count_le_window_most)) in
     let e1 = c.put_word.ensures ∙ (λ i. put_mid 0 4 (c.requires.page_value i) (le_bytes 4 t)) in
     let e2 = c.put_word-2.ensures ∙ (λ i. put_mid 4 4 (e1 i) (le_bytes 4 n)) in
-    let e3 = c.write_window.ensures ∙ (λ i. put_mid 16 (4 * n) (e2 i) (slots_bytes w)) in
+    let e3 = rw (c.slots.ensures, lw) at c.write_window.ensures ∙ (λ i. put_mid 16 (4 * n) (e2 i) (slots_bytes w)) in
     c.write_rows.ensures
     ∙ (λ i. put_mid 512 (4 * length rows) (e3 i) (rows_bytes rows))
     ∙ meta_built t n w rows lw c.requires.count_le_window_most c.requires.rows_len_bound c.requires.rows_len

@@ -3,4 +3,4 @@ use Rattle.metadata.proofs.page.read_entry.Goals as goal
 
 pub returns : goal.returns
 unfolding decode_entry
-returns c = λ i. record { block = record { 0 = c.word_at-block.ensures i }; flags = c.wide-flags.ensures.0 i }
+returns c = λ i. record { block = record { 0 = c.word_at.ensures i }; flags = c.from.ensures i }

@@ -1,7 +1,7 @@
 use borrow.Author.Rules.{rules}
 use Prim.Native.Nat.{◌-◌, ◌+◌, ◌≤◌, ◌<◌}
 use mathlib.Core.Path.{◌≡◌, sym, ap, ◌∙◌}
-use mathlib.Core.Bool.{true}
+use mathlib.Core.Bool.{Bool, true, ◌||◌}
 use lib.ListN.{length, take, length-take}
 use Rattle.layout.specs.PageRule.{listed}
 use Rattle.layout.specs.Window.{array_of}
@@ -10,10 +10,10 @@ use Rattle.record.specs.Callers.{caller_array}
 use Rattle.layout.proofs.Loops.{length-mapped}
 use Rattle.record.proofs.WindowLaws.{padded-slots}
 use Rattle.record.proofs.CallerLaws.{padded-callers}
-use Rattle.record.proofs.LeaveLaws.{leaving_begin, moved_begin, next_most, one_place, moved_on, some_slot, all_moved, without-beside}
+use Rattle.record.proofs.LeaveLaws.{leaving_begin, moved_begin, one_most, one_place, moved_on, some_slot, all_moved, without-beside}
 use native.Mathlib.Omega.{arith}
 use Rattle.record.proofs.window.leave.Goals as goal
-use Rattle.record.proofs.window.leave.Goals.{After-met-gone, Start}
+use Rattle.record.proofs.window.leave.Goals.{Start}
 
 -- the window's length is one more than its last place
 module _ (s : Start) where
@@ -49,43 +49,21 @@ loop-i-init c =
       moved_begin 0 c.args.s _ _ (same_size (goal.at.loop-i-init c).Start),
     )
 
--- the place that is read is at most one on
-one_on : (c : After-met-gone) → c.met-gone.result ≤ 1
-one_on c =
-    let l = c.loop-i in
-    next_most c.args.s c.args.w.slots (c.args.w.count - 1 + 1) l.gone l.i _ _ l.invariant.0 c.met-gone.ensures
-
-pub overflow_add-k : goal.overflow_add-k
-overflow_add-k c = omega (arith, one_on c)
-
-pub offset_bounds-slots-k : goal.offset_bounds-slots-k
-offset_bounds-slots-k c =
-    omega (arith, one_on c, some (goal.at.offset_bounds-slots-k c).Start, c.requires.count_le_window_most)
-
-pub bounds-slots-k : goal.bounds-slots-k
-bounds-slots-k c =
-    omega (arith, one_on c, some (goal.at.bounds-slots-k c).Start, c.requires.count_le_window_most)
-
-pub offset_bounds-callers-k : goal.offset_bounds-callers-k
-offset_bounds-callers-k c =
-    omega (arith, one_on (goal.at.offset_bounds-callers-k c).After-met-gone, some (goal.at.offset_bounds-callers-k c).Start, c.requires.count_le_window_most)
-
-pub bounds-callers-k : goal.bounds-callers-k
-bounds-callers-k c =
-    omega (arith, one_on (goal.at.bounds-callers-k c).After-met-gone, some (goal.at.bounds-callers-k c).Start, c.requires.count_le_window_most)
+pub bounds-w-k : goal.bounds-w-k
+bounds-w-k c = omega (arith, c.from.ensures, one_most (c.loop-i.gone || c.eq-gone.result), c.requires.count_le_window_most)
 
 pub loop-i-preserved : goal.loop-i-preserved
 loop-i-preserved c =
     let l = c.loop-i in
     let n = c.args.w.count - 1 + 1 in
-    let g = c.met-gone.result in
-    let e = c.met-gone.ensures in
+    let e = ap (λ (b : Bool). l.gone || b) c.eq-gone.ensures in
     let h : l.i + 1 < n = omega arith in
     let m : n ≤ length c.args.w.slots = omega (arith, size (goal.at.loop-i-preserved c).Start, last_place (goal.at.loop-i-preserved c).Start, c.requires.count_le_window_most) in
-    let k : n ≤ length c.args.callers = omega (arith, callers-size (goal.at.loop-i-preserved c).Start, last_place (goal.at.loop-i-preserved c).Start, c.requires.count_le_window_most) in (
-      one_place c.args.s c.args.w.slots n l.gone l.i g _ l.invariant.0 e h m,
-      moved_on c.args.s c.args.w.slots n l.gone l.i g _ l.invariant.0 e h m _ c.args.w.slots l.left (here (goal.at.loop-i-preserved c).Start) m l.invariant.1,
-      moved_on c.args.s c.args.w.slots n l.gone l.i g _ l.invariant.0 e h m 0 c.args.callers l.named (here (goal.at.loop-i-preserved c).Start) k l.invariant.2,
+    let k : n ≤ length c.args.callers = omega (arith, callers-size (goal.at.loop-i-preserved c).Start, last_place (goal.at.loop-i-preserved c).Start, c.requires.count_le_window_most) in
+    rw c.from.ensures (
+      one_place c.args.s c.args.w.slots n l.gone l.i _ _ l.invariant.0 e h m,
+      moved_on c.args.s c.args.w.slots n l.gone l.i _ _ l.invariant.0 e h m _ c.args.w.slots l.slots (here (goal.at.loop-i-preserved c).Start) m l.invariant.1,
+      moved_on c.args.s c.args.w.slots n l.gone l.i _ _ l.invariant.0 e h m 0 c.args.callers l.named (here (goal.at.loop-i-preserved c).Start) k l.invariant.2,
     )
 
 pub returns : goal.returns
@@ -94,8 +72,8 @@ returns c =
     let n = c.args.w.count - 1 + 1 in
     let w = take n c.args.w.slots in
     let z = length-take n c.args.w.slots in
-    let a : l.left ≡ array_of (without c.args.s w) =
-    all_moved _ c.args.s w w l.left l.i l.invariant.1 (omega arith) (here (goal.at.returns c).Start) ∙ padded-slots _
+    let a : l.slots ≡ array_of (without c.args.s w) =
+    all_moved _ c.args.s w w l.slots l.i l.invariant.1 (omega arith) (here (goal.at.returns c).Start) ∙ padded-slots _
     ∙ ap array_of (sym (without-beside c.args.s w))
     in
     let b : l.named ≡ caller_array (beside c.args.s w (take n c.args.callers)) =

@@ -1,7 +1,6 @@
 use borrow.Author.Rules.{rules}
 use lib.ListN.{length-set}
 use Rattle.recovery.proofs.FillLaws.{rows_none, row-filled, rows-filled}
-use Prim.Native.Nat.{◌-◌}
 use mathlib.Core.Path.{ap, ◌∙◌}
 use Rattle.protocol.specs.Recovery.{metas_of, entry_in}
 use Rattle.recovery.specs.Fill.{kept_entry}

@@ -1,5 +1,5 @@
 use lib.ListN.{length, take}
-use Prim.Native.Nat.{◌*◌, ◌-◌, ◌≤◌}
+use Prim.Native.Nat.{◌*◌, ◌≤◌}
 use mathlib.Core.Path.{◌≡◌}
 use Rattle.layout.specs.Places.{table_length}
 use Rattle.layout.specs.MetaPage.{rows_from}
@@ -10,6 +10,3 @@ use Rattle.recovery.proofs.fill.fill.Given as goal
 abbrev pub invariant-loop-s : goal.invariant-loop-s
 invariant-loop-s l = (l.slots ≡ l.l.slots) × (l.s ≤ l.slots) × (length l.table ≡ table_length l.l) ×
     (take (2 * l.s) l.table ≡ rows_from l.s (λ k. kept_entry (entry_in (metas_of l.l l.ssd) (record { 0 = k }))))
-
-abbrev pub decreases-loop-s : goal.decreases-loop-s
-decreases-loop-s l = l.slots - l.s

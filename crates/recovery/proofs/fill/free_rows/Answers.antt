@@ -1,38 +1,42 @@
-use borrow.Author.Rules.{rules}
+use Prim.Native.Nat.{◌+◌, ◌*◌, ◌<◌}
+use mathlib.Core.Path.{◌≡◌, refl, sym, ap, ◌∙◌}
+use mathlib.Core.Bool.{true}
+use mathlib.Core.List.{List}
+use lib.ListN.{length, get_or, length-set}
+use Rattle.layout.specs.declared.Slot.{Slot}
+use Rattle.layout.specs.PageRule.{in_range}
+use Rattle.recovery.specs.Fill.{freed}
 use Rattle.recovery.proofs.FillLaws.{freed-left, freed_end}
-use Prim.Native.Nat.{◌-◌}
-use mathlib.Core.Path.{◌≡◌, sym, ◌∙◌}
-use lib.ListN.{length, length-set}
-use Rattle.record.proofs.WindowLaws.{row_in, block_in_lem}
-use Rattle.layout.proofs.Loops.{length-mapped}
+use Rattle.record.proofs.WindowLaws.{range_at}
 use native.Mathlib.Omega.{arith}
 use Rattle.recovery.proofs.fill.free_rows.Goals as goal
+use Rattle.recovery.proofs.fill.free_rows.Goals.{In-loop-s}
+
+-- the slot at hand is in the table
+row : (c : In-loop-s) → 2 * (get_or c.slots-slots.result.now c.loop-s.s-index (record { 0 = 0 })).0 + 1 < length c.loop-s.table
+row c =
+    let e : in_range c.args.l c.slots-slots.result.now ≡ true = ap (in_range c.args.l) c.slots-slots.ensures ∙ c.requires.w_value in
+    let low = range_at c.args.l c.slots-slots.result.now c.loop-s.s-index (record { 0 = 0 }) e c.loop-s-test.true in
+    omega (arith, low, c.loop-s.invariant.0, c.requires.table_len)
+
+pub loop-s-init : goal.loop-s-init
+loop-s-init c = (refl, refl)
 
 pub bounds-table-k : goal.bounds-table-k
-bounds-table-k c =
-    let l = c.loop-i in
-    let all : length c.args.w.slots ≡ 63 = search (rules, length-mapped) in
-    block_in_lem c.args.l l.table c.args.w.slots c.args.w.count l.i _ (l.invariant.1 ∙ c.requires.table_len) c.requires.w_value (omega arith)
-    (omega (arith, c.requires))
+bounds-table-k c = omega (arith, row (goal.at.bounds-table-k c).In-loop-s)
 
-pub bounds-table-k-in-loop-i : goal.bounds-table-k-in-loop-i
-bounds-table-k-in-loop-i c =
-    let l = c.loop-i in
-    let all : length c.args.w.slots ≡ 63 = search (rules, length-mapped) in
-    simp length-set (row_in c.args.l l.table c.args.w.slots c.args.w.count l.i _ (l.invariant.1 ∙ c.requires.table_len) c.requires.w_value
-    (omega arith) (omega (arith, c.requires)))
+pub bounds-table-k-in-loop-s : goal.bounds-table-k-in-loop-s
+bounds-table-k-in-loop-s c = simp length-set (row (goal.at.bounds-table-k-in-loop-s c).In-loop-s)
 
-pub loop-i-preserved : goal.loop-i-preserved
-loop-i-preserved c =
-    let l = c.loop-i in
-    let all : length c.args.w.slots ≡ 63 = search (rules, length-mapped) in (
-      omega arith,
-      simp length-set l.invariant.1,
-      sym
-          (freed-left c.args.w.slots c.args.w.count l.i _ l.table (omega arith) (omega (arith, c.requires))) ∙ l.invariant.2,
+pub loop-s-preserved : goal.loop-s-preserved
+loop-s-preserved c =
+    let l = c.loop-s in (
+      simp length-set l.invariant.0,
+      sym (freed-left c.slots-slots.result.now l.s-index _ l.table c.loop-s-test.true) ∙ l.invariant.1,
     )
 
 pub returns : goal.returns
 returns c =
-    let l = c.loop-i in
-    sym (freed_end c.args.w.slots c.args.w.count l.i l.table (omega arith)) ∙ l.invariant.2
+    let l = c.loop-s in
+    sym (freed_end c.slots-slots.result.now l.s-index l.table c.loop-s-test.false) ∙ l.invariant.1
+    ∙ ap (λ (w : List Slot). freed w c.args.table.now) c.slots-slots.ensures

@@ -25,7 +25,7 @@ free_rows-requires c =
     let w = newest_bounded c.args.l (metas_of c.args.l c.args.ssd.now) _ k.legal
     (found _ _ c.newest-found.ensures).on_page_is in
     let z = pending_bounded c.args.l _ _ c.pending-pending.ensures w in
-    record { table_len = ap length c.fill.ensures ∙ length-rows _ _; count_le_window_most = z.0; w_value = z.1 }
+    record { table_len = ap length c.fill.ensures ∙ length-rows _ _; w_value = z.1 }
 
 pub returns : goal.returns
 returns c =

@@ -6,23 +6,21 @@ use Rattle.recovery.proofs.reopen.reopen.Goals as goal
 pub returns-in_default : goal.returns-in_default
 returns-in_default c =
     let a = c.args in
-    rw c.refused.ensures
-    (unlabelled a.ssd.now a.hdd.now a.table.now a.state
-    (sym c.label_of.ensures ∙ c.in_default.is))
+    λ r. unlabelled a.ssd.now a.hdd.now a.table.now r
+    (sym c.label_of.ensures ∙ c.in_default.is)
 
 pub returns-then-not-lengths_ok : goal.returns-then-not-lengths_ok
 returns-then-not-lengths_ok c =
     let a = c.args in
-    rw c.refused-then-not-lengths_ok.ensures
-    (wrong_length_is a.ssd.now a.hdd.now a.table.now a.state _
-    (sym c.label_of.ensures ∙ c.in-Legal.is)
-    (sym c.lengths_ok.ensures ∙ c.if-not-lengths_ok.true))
+    λ r. wrong_length_is a.ssd.now a.hdd.now a.table.now r _
+    (sym c.label_of.ensures ∙ c.in-Some.is)
+    (sym c.lengths_ok.ensures ∙ c.if-not-lengths_ok.true)
 
 pub pages_ok-requires : goal.pages_ok-requires
 pages_ok-requires c =
     let a = c.args in
-    let e = (sym c.label_of.ensures ∙ c.in-Legal.is) in record {
-      ssd_len = (sizes a.ssd.now a.hdd.now a.table.now a.state _ e
+    let e = (sym c.label_of.ensures ∙ c.in-Some.is) in record {
+      ssd_len = (sizes _ _ _ _
           (sym c.lengths_ok.ensures ∙ c.if-not-lengths_ok.false)).0;
       limits = limits a.ssd.now _ e;
     }
@@ -30,19 +28,18 @@ pages_ok-requires c =
 pub returns-then-not-pages_ok : goal.returns-then-not-pages_ok
 returns-then-not-pages_ok c =
     let a = c.args in
-    rw c.refused-then-not-pages_ok.ensures
-    (bad_pages a.ssd.now a.hdd.now a.table.now a.state _
+    λ r. bad_pages a.ssd.now a.hdd.now a.table.now r _
     (sym c.label_of.ensures
-    ∙ c.in-Legal.is)
+    ∙ c.in-Some.is)
     (sym c.lengths_ok.ensures ∙ c.if-not-lengths_ok.false)
-    (sym c.pages_ok.ensures ∙ c.if-not-pages_ok.true))
+    (sym c.pages_ok.ensures ∙ c.if-not-pages_ok.true)
 
-pub recover-next-requires : goal.recover-next-requires
-recover-next-requires c =
+pub recover-requires : goal.recover-requires
+recover-requires c =
     let a = c.args in
     let e = (sym c.label_of.ensures
-    ∙ c.in-Legal.is) in
-    let z = sizes a.ssd.now a.hdd.now a.table.now a.state _ e
+    ∙ c.in-Some.is) in
+    let z = sizes _ _ _ _
     (sym c.lengths_ok.ensures ∙ c.if-not-lengths_ok.false) in record {
       ssd_len = z.0;
       table_len = z.1;
@@ -54,9 +51,9 @@ recover-next-requires c =
 pub returns : goal.returns
 returns c =
     let a = c.args in
-    rw c.answered.ensures
-    (taken a.ssd.now a.hdd.now a.table.now a.state _
+    λ r. rw c.answered.ensures
+    (taken a.ssd.now a.hdd.now a.table.now r _
     (sym c.label_of.ensures
-    ∙ c.in-Legal.is)
+    ∙ c.in-Some.is)
     (sym c.lengths_ok.ensures ∙ c.if-not-lengths_ok.false) _
-    (sym c.pages_ok.ensures ∙ c.if-not-pages_ok.false) c.recover-next.ensures)
+    (sym c.pages_ok.ensures ∙ c.if-not-pages_ok.false) c.recover.ensures)

@@ -16,7 +16,7 @@ page_is c =
 
 pub lowest_page-p-requires : goal.lowest_page-p-requires
 lowest_page-p-requires c =
-    rw c.window_of.ensures (c.requires.le_count, c.requires.fits_record.window_most_is)
+    rw c.window_of.ensures c.requires.le_count
 
 pub confirm-requires : goal.confirm-requires
 confirm-requires c =

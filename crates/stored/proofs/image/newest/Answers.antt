@@ -10,10 +10,6 @@ use Rattle.stored.proofs.image.newest.Goals as goal
 pub loop-p-init : goal.loop-p-init
 loop-p-init c = (c.meta_pages-m.ensures, omega arith, refl)
 
-pub newer-n-requires : goal.newer-n-requires
-newer-n-requires c =
-    omega (arith, pages-most c.args.l c.requires.limits, c.loop-p.invariant.0)
-
 pub loop-p-preserved : goal.loop-p-preserved
 loop-p-preserved c =
     let l = c.loop-p in

@@ -1,24 +1,30 @@
+use mathlib.Core.Path.{sym, ap, ◌∙◌}
+use native.Mathlib.Omega.{arith}
+use Prim.Native.Nat.{◌<◌}
+use Rattle.std.specs.Prelude.{Option}
 use Rattle.protocol.specs.Recovery.{metas_of}
 use Rattle.laws.proofs.refine.Metas.{length_metas}
+use Rattle.layout.specs.Places.{meta_pages}
 use Rattle.layout.specs.Window.{window_from}
-use Rattle.stored.proofs.StoredLaws.{page-read, legal_at, count_low, no_window, some_window}
-use Prim.Native.Nat.{◌-◌}
-use mathlib.Core.Path.{ap, ◌∙◌}
-use native.Mathlib.Omega.{arith}
+use Rattle.stored.specs.Stored.{newest_at}
+use Rattle.stored.proofs.StoredLaws.{page-read, legal_at, count_low}
 use Rattle.stored.proofs.image.pending.Goals as goal
-
-pub returns-then-at-eq0 : goal.returns-then-at-eq0
-returns-then-at-eq0 c = c.empty.ensures ∙ no_window _ _ c.if-at-eq0.true
 
 pub window_of-requires : goal.window_of-requires
 window_of-requires c =
     let z = length_metas c.args.l c.args.ssd.now in
-    let e = page-read c.args.l _ _ _ c.requires.ssd_len (omega arith) c.meta_page.ensures in record {
+    let p = c.in-Some.p in
+    let h : p < meta_pages c.args.l = c.requires.at_bound p c.in-Some.is in
+    let e = page-read c.args.l _ _ _ c.requires.ssd_len h c.meta_page.ensures in record {
       page_len = e.1;
-      page_bound = rw e.0 (count_low c.args.l (c.args.at - 1) _
-          (legal_at c.args.l (metas_of c.args.l c.args.ssd.now) c.requires.ssd_value (c.args.at - 1) (omega arith)));
+      page_bound = rw e.0 (count_low c.args.l p _ (legal_at c.args.l (metas_of c.args.l c.args.ssd.now) c.requires.ssd_value p (omega arith)));
     }
 
-pub returns : goal.returns
-returns c =
-    rw (c.window_of.ensures, (page-read c.args.l _ _ _ c.requires.ssd_len (omega arith) c.meta_page.ensures).0) (ap window_from (some_window _ _ c.if-at-eq0.false))
+pub returns-in-None : goal.returns-in-None
+returns-in-None c = c.empty.ensures ∙ ap (λ (at : Option _). window_from (newest_at (metas_of c.args.l c.args.ssd.now) at).window) (sym c.in-None.is)
+
+pub returns-in-Some : goal.returns-in-Some
+returns-in-Some c =
+    let p = c.in-Some.p in
+    let h : p < meta_pages c.args.l = c.requires.at_bound p c.in-Some.is in
+    rw (c.window_of.ensures, (page-read c.args.l _ _ _ c.requires.ssd_len h c.meta_page.ensures).0, c.in-Some.is)

@@ -11,7 +11,7 @@ loop-k-preserved c =
     let l = c.loop-k in (
       l.invariant.0,
       omega arith,
-      rw c.slot_at-s.ensures
+      rw c.slot_at.ensures
           (window-one c.args.page.now l.slots l.k (omega (arith, c.requires.page_bound)) l.invariant.2),
     )
 

@@ -1,4 +1,4 @@
-use Prim.Native.Nat.{◌-◌, ◌≤◌}
+use Prim.Native.Nat.{◌≤◌}
 use mathlib.Core.Path.{◌≡◌}
 use Rattle.layout.specs.MetaPage.{count_of, slot_at, firsts}
 use Rattle.layout.specs.Window.{array_of}
@@ -6,6 +6,3 @@ use Rattle.stored.proofs.image.window_of.Given as goal
 
 abbrev pub invariant-loop-k : goal.invariant-loop-k
 invariant-loop-k l = (l.count ≡ count_of l.page) × (l.k ≤ l.count) × (l.slots ≡ array_of (firsts l.k (slot_at l.page)))
-
-abbrev pub decreases-loop-k : goal.decreases-loop-k
-decreases-loop-k l = l.count - l.k

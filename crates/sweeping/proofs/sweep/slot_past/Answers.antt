@@ -9,8 +9,8 @@ returns-then-k-left c =
     let a = c.args in
     (sym (past_in a.l a.s a.k (omega (arith, c.if-k-left.true))), omega (arith, c.if-k-left.true))
 
-pub returns : goal.returns
-returns c =
+pub returns-else-k-left : goal.returns-else-k-left
+returns-else-k-left c =
     let a = c.args in
     let n : a.k - (a.l.slots - a.s.0) ≡ a.s.0 + a.k - a.l.slots = omega (arith, c.requires) in (
       ap (λ (i : ℕ). record { 0 = i }) n ∙ sym (past_over a.l a.s a.k (omega (arith, c.if-k-left.false))),

@@ -1,6 +1,6 @@
 use Prim.Native.Nat.{◌+◌, ◌-◌}
-use mathlib.Core.Path.{◌≡◌, refl, sym, ap, ◌∙◌}
-use mathlib.Core.Bool.{true, false}
+use mathlib.Core.Path.{◌≡◌, sym, ap, ◌∙◌}
+use Rattle.std.specs.Prelude.{None}
 use native.Mathlib.Omega.{arith}
 use Rattle.layout.specs.declared.Slot.{Slot}
 use Rattle.protocol.specs.Sweep.{next_slot}
@@ -11,12 +11,9 @@ use Rattle.sweeping.proofs.sweep.sweep.Goals as goal
 pub loop-k-init : goal.loop-k-init
 loop-k-init c =
     let a = c.args in
-    let n = a.l.slots in (
-      refl,
-      omega arith,
-      ap (λ (s : Slot). lap_from (n - 0) 0 a.l a.table.now s n) (past_none a.l a.hand c.requires.1)
-          ∙ lap_begun n a.l a.table.now a.hand,
-    )
+    let n = a.l.slots in
+    ap (λ (s : Slot). lap_from (n - 0) 0 a.l a.table.now s None) (past_none a.l a.hand c.requires.1)
+    ∙ lap_begun n a.l a.table.now a.hand
 
 pub slot_past-s-requires : goal.slot_past-s-requires
 slot_past-s-requires c = (c.requires.1, c.loop-k-test.true)
@@ -33,7 +30,7 @@ returns-then-is_unused c =
     let p = c.slot_past-s.ensures.0 in
     let e = sym c.is_unused.ensures ∙ c.if-is_unused.true in
     let t = lap_took a.l.slots l.k a.l a.table.now c.slot_past-s.result l.first c.loop-k-test.true e in
-    sym t ∙ ap (λ (s : Slot). lap_from (a.l.slots - l.k) l.k a.l a.table.now s l.first) p ∙ l.invariant.2
+    sym t ∙ ap (λ (s : Slot). lap_from (a.l.slots - l.k) l.k a.l a.table.now s l.first) p ∙ l.invariant
 
 pub loop-k-preserved : goal.loop-k-preserved
 loop-k-preserved c =
@@ -44,12 +41,9 @@ loop-k-preserved c =
     let e = sym c.is_unused.ensures ∙ c.if-is_unused.false in
     let n : slot_past (l.k + 1) a.l a.hand ≡ next_slot a.l c.slot_past-s.result =
     sym (past_next a.l a.hand l.k c.requires.1 t) ∙ ap (next_slot a.l) (sym p) in
-    let o = lap_on a.l.slots l.k a.l a.table.now c.slot_past-s.result l.first t e in (
-      refl,
-      omega (arith, t),
-      rw (n, c.lowest-first.ensures, c.is_closed.ensures)
-          (sym o ∙ ap (λ (s : Slot). lap_from (a.l.slots - l.k) l.k a.l a.table.now s l.first) p ∙ l.invariant.2),
-    )
+    let o = lap_on a.l.slots l.k a.l a.table.now c.slot_past-s.result l.first t e in
+    rw (n, c.first_closed-first.ensures, c.is_closed.ensures)
+    (sym o ∙ ap (λ (s : Slot). lap_from (a.l.slots - l.k) l.k a.l a.table.now s l.first) p ∙ l.invariant)
 
 pub returns : goal.returns
 returns c =
@@ -57,4 +51,4 @@ returns c =
     let a = c.args in
     c.lap_end.ensures
     ∙ sym (lap_done a.l.slots l.k a.l a.table.now (slot_past l.k a.l a.hand) l.first c.loop-k-test.false)
-    ∙ l.invariant.2
+    ∙ l.invariant

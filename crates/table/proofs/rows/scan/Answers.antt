@@ -1,6 +1,5 @@
-use Prim.Native.Nat.{◌-◌}
-use mathlib.Core.Path.{refl}
 use Rattle.table.proofs.ScanLaws.{begin, one_more, broken, whole}
+use Rattle.table.proofs.RowLaws.{busy_byte}
 use Rattle.table.proofs.rows.scan.Goals as goal
 
 pub loop-i-init : goal.loop-i-init
@@ -10,8 +9,7 @@ pub loop-i-preserved : goal.loop-i-preserved
 loop-i-preserved c =
     let l = c.loop-i in
     let a = c.args in
-    let u = c.is_busy-busy.ensures.0 in
-    rw (c.least-at.ensures, c.choose.ensures, c.holds.ensures, u, c.both-legal.ensures, c.row_ok.ensures)
+    rw (c.least-at.ensures, c.choose.ensures, c.holds.ensures, c.from-busy.ensures, busy_byte, c.row_ok-legal.ensures)
     (one_more a.l a.table.now (record { 0 = a.b.0 }) a.l.slots l.legal l.writing l.busy l.at l.i l.invariant
     c.loop-i-test.true)
 
@@ -26,5 +24,5 @@ pub returns : goal.returns
 returns c =
     let l = c.loop-i in
     let a = c.args in
-    whole a.l a.table.now (record { 0 = a.b.0 }) a.l.slots l.legal l.writing l.busy l.at l.i l.invariant refl
-    c.loop-i-test.false c.if-not-legal.false
+    rw c.slot_below.ensures (whole a.l a.table.now (record { 0 = a.b.0 }) a.l.slots l.legal l.writing l.busy l.at l.i l.invariant
+    c.loop-i-test.false c.if-not-legal.false)

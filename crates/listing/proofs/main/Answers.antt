@@ -1,5 +1,0 @@
-use Rattle.fields.proofs.WrittenLaws.{text_fits}
-use Rattle.listing.proofs.main.Goals as goal
-
-pub slice_bounds-write_all-end : goal.slice_bounds-write_all-end
-slice_bounds-write_all-end c = text_fits _ _ c.list-text.ensures

@@ -1,8 +1,0 @@
-use borrow.Author.Tests.{eq-eqb, ne_eqb}
-use Rattle.recovery.proofs.fill.kept.Goals as goal
-
-pub returns-then-flags-ne1 : goal.returns-then-flags-ne1
-returns-then-flags-ne1 c = rw (ne_eqb _ _ c.if-flags-ne1.true)
-
-pub returns : goal.returns
-returns c = rw (eq-eqb _ _ c.if-flags-ne1.false)
