@@ -15,7 +15,7 @@ fn is_phase(phase: u32, steps: u32) -> bool
 }
 
 // Whether words are a record.
-fn is_record(words: &[u32]) -> bool
+pub fn is_record(words: &[u32]) -> bool
     ensures { result ≡ is_record words.now }
 {
     if words.len() != RECORD_WORDS {
@@ -60,8 +60,8 @@ fn callers_in(words: &[u32]) -> [u32; WINDOW]
     callers
 }
 
-// The record of 134 words.
-fn unpacked(words: &[u32]) -> Record
+// The record that 134 words hold, whatever they are.
+pub fn unpack(words: &[u32]) -> Record
     requires { length words.now ≡ record_words }
     ensures { result ≡ unpacked words.now }
 {
@@ -78,11 +78,11 @@ fn unpacked(words: &[u32]) -> Record
 }
 
 // The record that words hold, if they are one.
-pub fn unpack(words: &[u32]) -> Option<Record>
+pub fn record_in(words: &[u32]) -> Option<Record>
     ensures { result ≡ record_in words.now }
 {
     if is_record(words) {
-        Some(unpacked(words))
+        Some(unpack(words))
     } else {
         None
     }

@@ -51,7 +51,7 @@ pub extern "C" fn ferjulm_offer(
 ) -> u32
     ensures { (record { code = result; words = words.new; table = table.new; ssd = ssd.new; hdd = hdd.new } ≡ c_call (offer (record { 0 = block }) caller) ssd.old hdd.old table.old words.old) × (slot.new ≡ c_slot (offer (record { 0 = block }) caller) ssd.old hdd.old table.old words.old slot.old) × (record { image = image.exit.now; offset = offset.new } ≡ c_place (offer (record { 0 = block }) caller) ssd.old hdd.old table.old words.old (record { image = image.entry.now; offset = offset.old })) }
 {
-    let Some(state) = words::unpack(words) else {
+    let Some(state) = words::record_in(words) else {
         return Refusal::BadRecord.number();
     };
     let made = write_path::offer::offer(ssd, hdd, table, state, Block(block), caller);
@@ -72,7 +72,7 @@ pub extern "C" fn ferjulm_land(
 ) -> u32
     ensures { (record { code = result; words = words.new; table = table.new; ssd = ssd.new; hdd = hdd.now } ≡ c_call (land (record { 0 = block }) page.now) ssd.old hdd.now table.old words.old) × (record { image = image.exit.now; offset = offset.new } ≡ c_place (land (record { 0 = block }) page.now) ssd.old hdd.now table.old words.old (record { image = image.entry.now; offset = offset.old })) }
 {
-    let Some(state) = words::unpack(words) else {
+    let Some(state) = words::record_in(words) else {
         return Refusal::BadRecord.number();
     };
     let made = write_path::land::land(ssd, hdd, table, state, Block(block), page);
@@ -94,7 +94,7 @@ pub extern "C" fn ferjulm_fetch(
 ) -> u32
     ensures { (record { code = result; words = words.new; table = table.new; ssd = ssd.new; hdd = hdd.new } ≡ c_call (fetch (record { 0 = block }) caller) ssd.old hdd.old table.old words.old) × (slot.new ≡ c_slot (fetch (record { 0 = block }) caller) ssd.old hdd.old table.old words.old slot.old) × (record { image = image.exit.now; offset = offset.new } ≡ c_place (fetch (record { 0 = block }) caller) ssd.old hdd.old table.old words.old (record { image = image.entry.now; offset = offset.old })) }
 {
-    let Some(state) = words::unpack(words) else {
+    let Some(state) = words::record_in(words) else {
         return Refusal::BadRecord.number();
     };
     let made = fetch_path::fetch::fetch(ssd, hdd, table, state, Block(block), caller);
@@ -114,7 +114,7 @@ pub extern "C" fn ferjulm_land_fetch(
 ) -> u32
     ensures { (record { code = result; words = words.new; table = table.new; ssd = ssd.new; hdd = hdd.now } ≡ c_call (land_fetch (record { 0 = block })) ssd.old hdd.now table.old words.old) × (record { image = image.exit.now; offset = offset.new } ≡ c_place (land_fetch (record { 0 = block })) ssd.old hdd.now table.old words.old (record { image = image.entry.now; offset = offset.old })) }
 {
-    let Some(state) = words::unpack(words) else {
+    let Some(state) = words::record_in(words) else {
         return Refusal::BadRecord.number();
     };
     let made = fetch_path::land_fetch::land_fetch(ssd, hdd, table, state, Block(block));
@@ -133,7 +133,7 @@ pub extern "C" fn ferjulm_look_up(
 ) -> u32
     ensures { (record { code = result; words = words.now; table = table.new; ssd = ssd.now; hdd = hdd.now } ≡ c_call (look_up (record { 0 = block })) ssd.now hdd.now table.old words.now) × (slot.new ≡ c_slot (look_up (record { 0 = block })) ssd.now hdd.now table.old words.now slot.old) }
 {
-    let Some(state) = words::unpack(words) else {
+    let Some(state) = words::record_in(words) else {
         return Refusal::BadRecord.number();
     };
     let made = read_path::look_up::look_up(ssd, hdd, table, state, Block(block));
@@ -153,7 +153,7 @@ pub extern "C" fn ferjulm_write_back(
 ) -> u32
     ensures { (record { code = result; words = words.new; table = table.new; ssd = ssd.now; hdd = hdd.new } ≡ c_call (write_back (record { 0 = block })) ssd.now hdd.old table.old words.old) × (record { image = image.exit.now; offset = offset.new } ≡ c_place (write_back (record { 0 = block })) ssd.now hdd.old table.old words.old (record { image = image.entry.now; offset = offset.old })) }
 {
-    let Some(state) = words::unpack(words) else {
+    let Some(state) = words::record_in(words) else {
         return Refusal::BadRecord.number();
     };
     let made = maintenance::write_back::write_back(ssd, hdd, table, state, Block(block));
@@ -172,7 +172,7 @@ pub extern "C" fn ferjulm_flush(
 ) -> u32
     ensures { (record { code = result; words = words.new; table = table.now; ssd = ssd.new; hdd = hdd.now } ≡ c_call flush ssd.old hdd.now table.now words.old) × (record { image = image.exit.now; offset = offset.new } ≡ c_place flush ssd.old hdd.now table.now words.old (record { image = image.entry.now; offset = offset.old })) }
 {
-    let Some(state) = words::unpack(words) else {
+    let Some(state) = words::record_in(words) else {
         return Refusal::BadRecord.number();
     };
     let made = maintenance::flush::flush(ssd, hdd, table, state);
@@ -191,7 +191,7 @@ pub extern "C" fn ferjulm_step(
 ) -> u32
     ensures { (record { code = result; words = words.new; table = table.now; ssd = ssd.new; hdd = hdd.now } ≡ c_call step ssd.old hdd.now table.now words.old) × (record { image = image.exit.now; offset = offset.new } ≡ c_place step ssd.old hdd.now table.now words.old (record { image = image.entry.now; offset = offset.old })) }
 {
-    let Some(state) = words::unpack(words) else {
+    let Some(state) = words::record_in(words) else {
         return Refusal::BadRecord.number();
     };
     let made = steps::step::step(ssd, hdd, table, state);

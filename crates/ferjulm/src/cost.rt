@@ -27,7 +27,7 @@ pub extern "C" fn ferjulm_cost(
 ) -> u32
     ensures { record { code = result; scratch = scratch.new; numbers = record { copies = copies.exit.now; metadata = metadata.new; landings = landings.new; number = number.new; place = place.new } } ≡ c_cost ssd.now hdd.now table.now words.now blocks.now caller scratch.old (record { copies = copies.entry.now; metadata = metadata.old; landings = landings.old; number = number.old; place = place.old }) }
 {
-    let Some(state) = words::unpack(words) else {
+    let Some(state) = words::record_in(words) else {
         return Refusal::BadRecord.number();
     };
     let answer = cost::cost(ssd, hdd, table, state, blocks, caller, scratch);

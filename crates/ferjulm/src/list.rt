@@ -20,7 +20,7 @@ pub extern "C" fn ferjulm_look_up_list(
 ) -> u32
     ensures { (record { code = result; words = words.now; table = table.new; ssd = ssd.now; hdd = hdd.now } ≡ c_call (look_up_list blocks.now (length located.old)) ssd.now hdd.now table.old words.now) × (located.new ≡ c_located blocks.now ssd.now hdd.now table.old words.now located.old) }
 {
-    let Some(state) = words::unpack(words) else {
+    let Some(state) = words::record_in(words) else {
         return Refusal::BadRecord.number(); // `located` stays
     };
     let made = read_path::look_up_list::look_up_list(ssd, hdd, table, state, blocks, located);
@@ -42,7 +42,7 @@ pub extern "C" fn ferjulm_offer_list(
 ) -> u32
     ensures { (record { code = result; words = words.new; table = table.new; ssd = ssd.new; hdd = hdd.new } ≡ c_call (offer_list blocks.now caller) ssd.old hdd.old table.old words.old) × (dealt.new ≡ c_dealt (offer_list blocks.now caller) ssd.old hdd.old table.old words.old dealt.old) × (record { image = image.exit.now; offset = offset.new } ≡ c_place (offer_list blocks.now caller) ssd.old hdd.old table.old words.old (record { image = image.entry.now; offset = offset.old })) }
 {
-    let Some(state) = words::unpack(words) else {
+    let Some(state) = words::record_in(words) else {
         return Refusal::BadRecord.number();
     };
     let made = list_offer::offer_list(ssd, hdd, table, state, blocks, caller);

@@ -17,7 +17,7 @@ pub extern "C" fn ferjulm_map(
 ) -> u32
     ensures { record { number = result; sheet = sheet.new } ≡ c_map ssd.now hdd.now table.now words.now sheet.old }
 {
-    let Some(state) = words::unpack(words) else {
+    let Some(state) = words::record_in(words) else {
         return Refusal::BadRecord.number();
     };
     match map::map(ssd, hdd, table, state, sheet) {

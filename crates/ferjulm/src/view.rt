@@ -20,7 +20,7 @@ pub extern "C" fn ferjulm_view(
 ) -> u32
     ensures { record { code = result; place = record { image = image.exit.now; offset = offset.new } } ≡ c_view ssd.now hdd.now table.now words.now (record { 0 = block }) (record { image = image.entry.now; offset = offset.old }) }
 {
-    let Some(state) = words::unpack(words) else {
+    let Some(state) = words::record_in(words) else {
         return Refusal::BadRecord.number();
     };
     match judging::judge_block(ssd.len(), hdd.len(), 4096, table, state, Block(block), 0) {

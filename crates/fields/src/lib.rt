@@ -33,7 +33,9 @@ pub fn put_field(page: &mut [u8], at: usize, key: &[u8], n: u32, last: u8) -> us
 }
 
 // A refusal's only line.
-pub fn put_refusal(page: &mut [u8; 4096], number: u32) -> usize
+// Kept: a slice of 4,096 bytes: an array alone would ask more of callers.
+pub fn put_refusal(page: &mut [u8], number: u32) -> usize
+    requires { length page.old ≡ 4096 }
     ensures { Written page.old page.new 0 result 19 (refusal_text number) }
 {
     put_field(page, 0, b"refused=", number, 10)

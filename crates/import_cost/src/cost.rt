@@ -48,7 +48,7 @@ pub fn cost(
     let page = scratch::lent(scratch.len(), table.len());
     let seen = judging::judge_ready(ssd.len(), hdd.len(), page, table, state, Block(0))?;
     scan_rule::judge_call(blocks, caller)?;
-    scratch.copy_from_slice(table);
+    pages::copy(scratch, table);
     let full = turn::crowded(seen.writing, turn::held(state, caller));
     Ok(run_all(state.label, scratch, state.hand, state.newest, full, blocks))
 }

@@ -33,7 +33,9 @@ pub fn put_entry(page: &mut [u8], at: usize, s: Slot, entry: Entry, fate: bool) 
 }
 
 // The lines before the entries'.
-pub fn put_head(page: &mut [u8; 4096], l: Label, stamp: u32, count: u32) -> usize
+// Kept: a slice of 4,096 bytes: an array alone would ask more of callers.
+pub fn put_head(page: &mut [u8], l: Label, stamp: u32, count: u32) -> usize
+    requires { length page.old ≡ 4096 }
     ensures { Written page.old page.new 0 result 78 (head_text l stamp count) }
 {
     text::put_text(page, 0, b"layout=1\n");

@@ -33,7 +33,8 @@ fn begin(
     }
 }
 
-// The same, repeated past a copy-out. The record is changed where it stands: a copy-out changes it, though the call is refused then.
+// The same, repeated past a copy-out: what it answers, or what refuses it. The record is changed where it stands: a copy-out changes it,
+// though the call is refused then.
 pub fn begin_past(
     ssd: &mut [u8],
     hdd: &mut [u8],
@@ -41,13 +42,16 @@ pub fn begin_past(
     state: &mut Record,
     kind: Kind,
     block: Block,
-) -> Result<(), Refusal>
-    ensures { record { box = box_of ssd.new hdd.new table.new state.new; refused = is_err result } ≡ left_of (past (opening kind block) (box_of ssd.old hdd.old table.old state.old)) }
+) -> Result<Outcome, Refusal>
+    ensures whole { ends state.new result ssd.new hdd.new table.new ≡ past (opening kind block) (box_of ssd.old hdd.old table.old state.old) }
+    ensures left { record { box = box_of ssd.new hdd.new table.new state.new; refused = is_err result } ≡ left_of (past (opening kind block) (box_of ssd.old hdd.old table.old state.old)) }
 {
     let first = begin(ssd, hdd, table, *state, kind, block)?;
     *state = first.state;
     if let Answer::CopiedOut = first.answer {
-        *state = begin(ssd, hdd, table, *state, kind, block)?.state;
+        let again = begin(ssd, hdd, table, *state, kind, block)?;
+        *state = again.state;
+        return Ok(again);
     }
-    Ok(())
+    Ok(first)
 }

@@ -21,7 +21,9 @@ pub fn count(so: bool, n: u32) -> u32
 }
 
 // The four lines.
-pub fn put_load(page: &mut [u8; 4096], seed: u32, draws: u32, c: Counts) -> usize
+// Kept: a slice of 4,096 bytes: an array alone would ask more of callers.
+pub fn put_load(page: &mut [u8], seed: u32, draws: u32, c: Counts) -> usize
+    requires { length page.old ≡ 4096 }
     ensures { Written page.old page.new 0 result 70 (load_text seed draws c) }
 {
     let d = fields::put_field(page, 0, b"seed=", seed, 10);

@@ -1,3 +1,4 @@
+pub mod Copied
 pub mod PageLaws
 pub mod WordLaws
 pub mod PadLaws

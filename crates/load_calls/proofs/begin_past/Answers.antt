@@ -21,8 +21,8 @@ once c q e = ap (λ (m : OrRefused Outcome Refusal). ends c.args.state.now m c.b
 
 pub returns-in_err-first : goal.returns-in_err-first
 returns-in_err-first c =
-    rw (refused_on c.from_residual.ensures.1)
-    (ap left_of (not-again _ _ _ (once (goal.at.returns-in_err-first c).After-begin _ c.in_err-first.was) refl))
+    let p = not-again _ _ _ (once (goal.at.returns-in_err-first c).After-begin _ c.in_err-first.was) refl in
+    rw (refused_on c.from_residual.ensures.1) record { whole = p; left = ap left_of p }
 
 -- and the second, after a copy-out
 twice : (c : After-begin-in-CopiedOut) (q : OrRefused Outcome Refusal) → is_copied_out (reply_of c.in_ok-first.first.answer) ≡ true
@@ -34,20 +34,20 @@ twice c q k e =
     (ap (λ (m : OrRefused Outcome Refusal). ends c.in_ok-first.first.state m c.begin-in-CopiedOut.new.ssd c.begin-in-CopiedOut.new.hdd c.begin-in-CopiedOut.new.table) (sym e)
     ∙ c.begin-in-CopiedOut.ensures)
 
-pub returns-in_err-state : goal.returns-in_err-state
-returns-in_err-state c =
-    rw (refused_on c.from_residual-in_err-state.ensures.1)
-    (ap left_of (twice (goal.at.returns-in_err-state c).After-begin-in-CopiedOut _
-    (ap (λ (a : Answer). is_copied_out (reply_of a)) c.in-CopiedOut.is) c.in_err-state.was))
+pub returns-in_err-again : goal.returns-in_err-again
+returns-in_err-again c =
+    let p = twice (goal.at.returns-in_err-again c).After-begin-in-CopiedOut _
+    (ap (λ (a : Answer). is_copied_out (reply_of a)) c.in-CopiedOut.is) c.in_err-again.was in
+    rw (refused_on c.from_residual-in_err-again.ensures.1) record { whole = p; left = ap left_of p }
 
-pub returns-in_ok-state : goal.returns-in_ok-state
-returns-in_ok-state c =
-    rw (no_refusal c.in_ok-state.field-0.answer) at
-    (ap left_of (twice (goal.at.returns-in_ok-state c).After-begin-in-CopiedOut _
-    (ap (λ (a : Answer). is_copied_out (reply_of a)) c.in-CopiedOut.is) c.in_ok-state.was))
+pub returns-in-CopiedOut : goal.returns-in-CopiedOut
+returns-in-CopiedOut c =
+    let p = twice (goal.at.returns-in-CopiedOut c).After-begin-in-CopiedOut _
+    (ap (λ (a : Answer). is_copied_out (reply_of a)) c.in-CopiedOut.is) c.in_ok-again.was in
+    record { whole = p; left = rw (no_refusal c.in_ok-again.again.answer) at (ap left_of p) }
 
-pub returns-in_default : goal.returns-in_default
-returns-in_default c =
-    rw (no_refusal c.in_ok-first.first.answer) at
-    (ap left_of (not-again _ _ _ (once (goal.at.returns-in_default c).After-begin _ c.in_ok-first.was)
-    (other_answer c.in_ok-first.first.answer c.in_default.not-CopiedOut)))
+pub returns : goal.returns
+returns c =
+    let p = not-again _ _ _ (once (goal.at.returns c).After-begin _ c.in_ok-first.was)
+    (other_answer c.in_ok-first.first.answer c.in_default.not-CopiedOut) in
+    record { whole = p; left = rw (no_refusal c.in_ok-first.first.answer) at (ap left_of p) }

@@ -6,4 +6,4 @@ pub returns : goal.returns
 unfolding put_page
 returns c =
     let a = c.args in
-    simp (c.copy_from_slice.ensures.after, add-sub_cancel_left, mul_comm a.index 4096)
+    simp (c.copy.ensures, add-sub_cancel_left, mul_comm a.index 4096)

@@ -1,17 +1,6 @@
-use mathlib.Core.Path.{refl, sym, ◌∙◌}
-use lib.ListN.{length}
-use lib.Dec.{eqb}
-use borrow.Author.Tests.{eqb-true}
-use Rattle.layout.proofs.Booleans.{and_parts}
-use Rattle.c_record.specs.Words.{is_record}
+use Rattle.c_record.specs.Words.{unpacked}
 use Rattle.c_record.proofs.words.unpack.Goals as goal
 
-pub unpacked-requires : goal.unpacked-requires
-unfolding is_record
-unpacked-requires c = eqb-true _ _ (and_parts (eqb (length c.args.words.now) 134) _ (sym c.is_record.ensures ∙ c.if-is_record.true)).0
-
-pub returns-then-is_record : goal.returns-then-is_record
-returns-then-is_record c = rw (sym c.is_record.ensures ∙ c.if-is_record.true, c.unpacked.ensures) refl
-
-pub returns-else-is_record : goal.returns-else-is_record
-returns-else-is_record c = rw (sym c.is_record.ensures ∙ c.if-is_record.false) refl
+pub returns : goal.returns
+unfolding unpacked
+returns c = rw (c.label.ensures, c.phase_in.ensures, c.callers_in.ensures, c.window_in.ensures)

@@ -10,12 +10,12 @@ use Rattle.ferjulm.proofs.calls.ferjulm_fetch.Goals.{In-Some}
 pub returns-in_default : goal.returns-in_default
 returns-in_default c =
     let a = c.args in
-    let b = barred (fetch (record { 0 = a.block }) a.caller) a.ssd.now a.hdd.now a.table.now a.words.now (held_none _ (sym c.in_default.is ∙ c.unpack.ensures)) in
+    let b = barred (fetch (record { 0 = a.block }) a.caller) a.ssd.now a.hdd.now a.table.now a.words.now (held_none _ (sym c.in_default.is ∙ c.record_in.ensures)) in
     rw c.number.ensures (b.left, b.slot a.slot.now, b.place (record { image = a.image.now; offset = a.offset.now }))
 
 -- past the first test the words are a record
 legal : (c : In-Some) → is_record c.args.words.now ≡ true
-legal c = (held _ _ (sym c.in-Some.is ∙ c.unpack.ensures)).0
+legal c = (held _ _ (sym c.in-Some.is ∙ c.record_in.ensures)).0
 
 pub ended_at-requires : goal.ended_at-requires
 ended_at-requires c =
@@ -26,5 +26,5 @@ returns c =
     let o = c.fetch-made in
     let a = c.args in
     let k = past (fetch (record { 0 = a.block }) a.caller) a.ssd.now a.hdd.now a.table.now a.words.now
-    c.in-Some.state o.result (held _ _ (sym c.in-Some.is ∙ c.unpack.ensures)).1 o.ensures (legal (goal.at.returns c).In-Some) in
+    c.in-Some.state o.result (held _ _ (sym c.in-Some.is ∙ c.record_in.ensures)).1 o.ensures (legal (goal.at.returns c).In-Some) in
     (k.left (c.ended_at.ensures.0 c.in-Some.state), k.slot _ c.ended_at.ensures.1, k.place _ c.ended_at.ensures.2)

@@ -11,12 +11,12 @@ use Rattle.ferjulm.proofs.calls.ferjulm_look_up.Goals.{In-Some}
 pub returns-in_default : goal.returns-in_default
 returns-in_default c =
     let a = c.args in
-    let b = barred (look_up (record { 0 = a.block })) a.ssd.now a.hdd.now a.table.now a.words.now (held_none _ (sym c.in_default.is ∙ c.unpack.ensures)) in
+    let b = barred (look_up (record { 0 = a.block })) a.ssd.now a.hdd.now a.table.now a.words.now (held_none _ (sym c.in_default.is ∙ c.record_in.ensures)) in
     rw c.number.ensures (b.left, b.slot a.slot.now)
 
 -- past the first test the words are a record
 legal : (c : In-Some) → is_record c.args.words.now ≡ true
-legal c = (held _ _ (sym c.in-Some.is ∙ c.unpack.ensures)).0
+legal c = (held _ _ (sym c.in-Some.is ∙ c.record_in.ensures)).0
 
 pub returns : goal.returns
 returns c =
@@ -24,5 +24,5 @@ returns c =
     let a = c.args in
     let x = box_of a.ssd.now a.hdd.now a.table.now c.in-Some.state in
     let k = past (look_up (record { 0 = a.block })) a.ssd.now a.hdd.now a.table.now a.words.now
-    c.in-Some.state o.result (held _ _ (sym c.in-Some.is ∙ c.unpack.ensures)).1 o.ensures (legal (goal.at.returns c).In-Some) in
+    c.in-Some.state o.result (held _ _ (sym c.in-Some.is ∙ c.record_in.ensures)).1 o.ensures (legal (goal.at.returns c).In-Some) in
     (k.still (look_up_state (record { 0 = a.block }) x) c.looked.ensures.0, k.slot _ c.looked.ensures.1)

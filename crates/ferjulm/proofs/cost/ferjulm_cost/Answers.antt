@@ -19,15 +19,15 @@ lent s = let a = s.args in record {
 
 -- past the first test the words are a record
 legal : (c : In-Some) → is_record c.args.words.now ≡ true
-legal c = (held _ _ (sym c.in-Some.is ∙ c.unpack.ensures)).0
+legal c = (held _ _ (sym c.in-Some.is ∙ c.record_in.ensures)).0
 
 pub returns-in_default : goal.returns-in_default
 returns-in_default c =
     let a = c.args in
     rw c.number.ensures
-    (no_cost a.ssd.now a.hdd.now a.table.now a.words.now a.blocks.now a.caller a.scratch.now (lent (goal.at.returns-in_default c).Start) (held_none _ (sym c.in_default.is ∙ c.unpack.ensures)))
+    (no_cost a.ssd.now a.hdd.now a.table.now a.words.now a.blocks.now a.caller a.scratch.now (lent (goal.at.returns-in_default c).Start) (held_none _ (sym c.in_default.is ∙ c.record_in.ensures)))
 
 pub returns : goal.returns
 returns c =
     let a = c.args in
-    on_cost a.ssd.now a.hdd.now a.table.now a.words.now a.blocks.now a.caller a.scratch.now (lent (goal.at.returns c).Start) c.in-Some.state c.cost-answer.result _ _ (legal (goal.at.returns c).In-Some) (held _ _ (sym c.in-Some.is ∙ c.unpack.ensures)).1 c.cost-answer.ensures c.hand_out.ensures
+    on_cost a.ssd.now a.hdd.now a.table.now a.words.now a.blocks.now a.caller a.scratch.now (lent (goal.at.returns c).Start) c.in-Some.state c.cost-answer.result _ _ (legal (goal.at.returns c).In-Some) (held _ _ (sym c.in-Some.is ∙ c.record_in.ensures)).1 c.cost-answer.ensures c.hand_out.ensures

@@ -14,11 +14,11 @@ returns-in_default c =
     rw c.number.ensures
     (no_view a.ssd.now a.hdd.now a.table.now a.words.now (record { 0 = a.block })
     (record { image = a.image.now; offset = a.offset.now })
-    (held_none _ (sym c.in_default.is ∙ c.unpack.ensures)))
+    (held_none _ (sym c.in_default.is ∙ c.record_in.ensures)))
 
 -- past the first test the words are a record
 legal : (c : In-Some) → is_record c.args.words.now ≡ true
-legal c = (held _ _ (sym c.in-Some.is ∙ c.unpack.ensures)).0
+legal c = (held _ _ (sym c.in-Some.is ∙ c.record_in.ensures)).0
 
 pub returns-in-Err : goal.returns-in-Err
 returns-in-Err c =
@@ -26,7 +26,7 @@ returns-in-Err c =
     let b : Block = record { 0 = a.block } in
     let p : Place = record { image = a.image.now; offset = a.offset.now } in
     rw c.number-in-Err.ensures
-    (on_view a.ssd.now a.hdd.now a.table.now a.words.now b p c.in-Some.state _ (legal (goal.at.returns-in-Err c).In-Some) (held _ _ (sym c.in-Some.is ∙ c.unpack.ensures)).1
+    (on_view a.ssd.now a.hdd.now a.table.now a.words.now b p c.in-Some.state _ (legal (goal.at.returns-in-Err c).In-Some) (held _ _ (sym c.in-Some.is ∙ c.record_in.ensures)).1
     (view_stops a.ssd.now a.hdd.now a.table.now c.in-Some.state b p _ (sym c.in-Err.is ∙ c.judge_block.ensures)))
 
 pub returns-in-Ok : goal.returns-in-Ok
@@ -34,6 +34,6 @@ returns-in-Ok c =
     let a = c.args in
     let b : Block = record { 0 = a.block } in
     let p : Place = record { image = a.image.now; offset = a.offset.now } in
-    on_view a.ssd.now a.hdd.now a.table.now a.words.now b p c.in-Some.state _ (legal (goal.at.returns-in-Ok c).In-Some) (held _ _ (sym c.in-Some.is ∙ c.unpack.ensures)).1
+    on_view a.ssd.now a.hdd.now a.table.now a.words.now b p c.in-Some.state _ (legal (goal.at.returns-in-Ok c).In-Some) (held _ _ (sym c.in-Some.is ∙ c.record_in.ensures)).1
     (view_passes a.ssd.now a.hdd.now a.table.now c.in-Some.state b p _ c.place_for-place.result (sym c.in-Ok.is ∙ c.judge_block.ensures)
     c.place_for-place.ensures)

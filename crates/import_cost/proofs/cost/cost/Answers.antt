@@ -63,8 +63,8 @@ returns-in_err-judge_call c =
     (cost-refused a.ssd.now a.hdd.now a.table.now a.state a.blocks.now a.caller a.scratch.now _ c.lent-page.ensures (seen s).none
     c.in_err-judge_call.field-0.0 (is_refused _ _ _ (sym c.in_err-judge_call.was ∙ c.judge_call.ensures)))
 
-pub copy_from_slice-requires : goal.copy_from_slice-requires
-copy_from_slice-requires c = as_long (goal.at.copy_from_slice-requires c).In_ok-seen
+pub copy-requires : goal.copy-requires
+copy-requires c = as_long (goal.at.copy-requires c).In_ok-seen
 
 pub held-requires : goal.held-requires
 held-requires c = (box (goal.at.held-requires c).In_ok-seen).box.record_kept
@@ -75,7 +75,7 @@ run_all-requires c =
     let a = (start (first j)).args in
     let S = scans a.blocks.now a.caller (listed j) in
     record {
-      steady = steady_of a.state (ready-fair (box (first j))) (search c.copy_from_slice.ensures.after);
+      steady = steady_of a.state (ready-fair (box (first j))) (search c.copy.ensures);
       blocks_len_bound = S.few;
       blocks_value = S.once;
     }
@@ -93,7 +93,7 @@ returns c =
     ∙ ap (λ (n : ℕ). crowd_by n (held_by a.caller a.state)) ((seen s).writing_is
     ∙ sym (open_count a.ssd.now a.hdd.now _ a.table.now a.state G)) in
     c.run_all.ensures
-    ∙ (λ i. run_from a.state.label (full i) 0 a.blocks.now (begun a.state.hand a.state.newest) (c.copy_from_slice.ensures.after i))
+    ∙ (λ i. run_from a.state.label (full i) 0 a.blocks.now (begun a.state.hand a.state.newest) (c.copy.ensures i))
     ∙ sym (cost_is_run a.ssd.now a.hdd.now a.state G.box.record_kept G.phase_is G.box.sound.ssd-size
     G.box.sound.hdd-size
     a.caller S.known a.table.now (ready-fair G) a.blocks.now)
